@@ -1,0 +1,1 @@
+// The charge of updates and rules. The definitions are in specs/.

@@ -1,0 +1,1 @@
+// Operations on signed 32-bit numbers that clamp. The definitions are in specs/.

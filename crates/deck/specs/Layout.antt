@@ -1,0 +1,105 @@
+-- Document 01, "The deck": from bytes to the deck, or to the first fault in reading order, 1 to 5. Assumes nothing.
+use Prim.Native.Nat.{ℕ, zero, suc}
+use mathlib.Core.Bool.{Bool, not, cond}
+use mathlib.Core.List.{List, [], _∷_}
+use lib.Dec.{eqb}
+use Rattle.lists.specs.Lists.{member}
+use Rattle.refusals.specs.Outcome.{Outcome, refused, accepted}
+use Rattle.refusals.specs.Numbers.{badExpression, repeatedTarget}
+use Rattle.expression.specs.Syntax.{Num, Truth}
+use Rattle.expression.specs.Reading.{Read, got, nothing, Scope, wholeNum, wholeTruth}
+use Rattle.deck.specs.Limits.{limits}
+use Rattle.deck.specs.Deck.{Assignment, Action, Rule, Part, Deck}
+use Rattle.deck.specs.Reader.{Got, Reader, _>>=_, _>>_, give, fault, here, require, byte, end, number, times, rising, value}
+
+-- 3: the bytes break the rules of expressions. The place is the first byte after the length byte
+unfoldable pub judged : {A : Type 0} → ℕ → Read A → Reader A
+judged at (got a n) = give a
+judged at nothing = fault badExpression at
+
+-- "a length byte 1 to 64, then exactly that many bytes"; judged when all its bytes are there
+unfoldable pub expression : {A : Type 0} → (List ℕ → Read A) → Reader A
+expression whole = do
+  n ← number 1 (suc (limits .expression))
+  at ← here
+  bytes ← times n byte
+  judged at (whole bytes)
+
+-- "Far channels stand only in the condition and action of an everywhere task"
+unfoldable pub ownOnly : ℕ → Scope
+ownOnly R = record { owns = R; fars = 0 }
+
+unfoldable pub ownAndFar : ℕ → Scope
+ownAndFar R = record { owns = R; fars = R }
+
+-- n assignments to channels that are not among ts. 4: a target stands twice; the place is the second one
+unfoldable pub assignments : Scope → ℕ → List ℕ → Reader Action
+assignments sc zero ts = give []
+assignments sc (suc n) ts = do
+  at ← here
+  t ← number 0 (sc .owns)
+  require (not (member t ts)) repeatedTarget at
+  e ← expression (wholeNum sc)
+  rest ← assignments sc n (t ∷ ts)
+  give (record { target = t; value = e } ∷ rest)
+
+-- "a count 0 to 4, then for each assignment a target channel and an expression"
+unfoldable pub action : Scope → Reader Action
+action sc = do
+  n ← number 0 (suc (limits .assignments))
+  assignments sc n []
+
+-- "event count 1 to 8, then strictly rising channel numbers; a default action; a kind byte; a condition; an action"
+unfoldable pub rule : ℕ → Reader Rule
+rule R = do
+  n ← number 1 (suc (limits .events))
+  events ← rising n 0 R
+  default ← action (ownOnly R)
+  kind ← number 0 2
+  let everywhere = eqb kind 1
+  let scope = cond everywhere (ownAndFar R) (ownOnly R)
+  condition ← expression (wholeTruth scope)
+  act ← action scope
+  give (record { events = events; default = default; everywhere = everywhere; condition = condition; action = act })
+
+-- "R opening values, a count 0 to M of carried rules, their strictly rising numbers, and a limit"
+unfoldable pub part : ℕ → ℕ → Reader Part
+part R M = do
+  opening ← times R value
+  n ← number 0 (suc M)
+  carried ← rising n 0 M
+  limit ← expression (wholeTruth (ownOnly R))
+  give (record { opening = opening; carried = carried; limit = limit })
+
+-- the deck, and the offsets of its last two sections' counts
+pub record Layout : Type 0 where
+  pub deck : Deck
+  pub rulesAt : ℕ
+  pub partsAt : ℕ
+
+-- "three sections in this order, each after its one-byte count"; a label is a byte 33 to 126
+unfoldable pub sections : Reader Layout
+sections = do
+  R ← number 1 (suc (limits .channels))
+  labels ← times R (number 33 127)
+  rulesAt ← here
+  M ← number 0 (suc (limits .rules))
+  rules ← times M (rule R)
+  partsAt ← here
+  N ← number 1 (suc (limits .parts))
+  parts ← times N (part R M)
+  end
+  give (record { deck = record { labels = labels; rules = rules; parts = parts }; rulesAt = rulesAt; partsAt = partsAt })
+
+unfoldable pub valueOf : {A : Type 0} → Outcome (Got A) → Outcome A
+valueOf (refused n p) = refused n p
+valueOf (accepted g) = accepted (g .value)
+
+-- the deck that the bytes hold
+unfoldable pub read : List ℕ → Outcome Layout
+read bytes = valueOf (sections bytes 0)
+
+-- to open all definitions of this file, on an `unfolding` line
+unfoldable pub layouts : Unit {0}
+unfolding judged expression ownOnly ownAndFar assignments action rule part sections valueOf read
+layouts = tt

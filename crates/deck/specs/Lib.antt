@@ -1,0 +1,6 @@
+-- Document 01, "The deck": its limits, what it is after reading, and how bytes are read as one, with the faults 1 to 5.
+pub mod Limits
+pub mod Deck
+pub mod Reader
+pub mod Layout
+pub mod Cases

@@ -1,0 +1,19 @@
+-- Document 01, "The deck": "These limits belong to the deck and are written down once". Assumes nothing.
+use Prim.Native.Nat.{ℕ}
+use Rattle.deck.specs.declared.Limits.{Limits}
+
+-- R, M and N are at most these; so are a rule's events, an action's assignments and an expression's bytes. A value table has
+-- 16 times 32 numbers, a place 2 and two for each assignment, and the longest deck that can pass 42,883 bytes.
+abbrev pub limits : Limits
+limits =
+    record {
+      channels = 32;
+      rules = 64;
+      parts = 16;
+      events = 8;
+      assignments = 4;
+      expression = 64;
+      values = 512;
+      place = 10;
+      deck = 42883;
+    }

@@ -1,0 +1,82 @@
+// The deck's type. Its associated constants are the largest numbers of document 01, "The deck", and the lengths that follow.
+ghost use mathlib.Core.Path.{_≡_};
+ghost use Rattle.deck.specs.Limits.{limits};
+
+// The counts R, M and N of a deck.
+pub struct Deck {
+    pub channels: usize,
+    pub rules: usize,
+    pub parts: usize,
+}
+
+// The largest numbers, as specs/Limits.antt has them for the definitions.
+pub struct Limits {
+    pub channels: usize,
+    pub rules: usize,
+    pub parts: usize,
+    pub events: usize,
+    pub assignments: usize,
+    pub expression: usize,
+    pub values: usize,
+    pub place: usize,
+    pub deck: usize,
+}
+
+impl Deck {
+    pub const CHANNELS: usize = 32;
+
+    pub const RULES: usize = 64;
+
+    pub const PARTS: usize = 16;
+
+    // The events of a rule.
+    pub const EVENTS: usize = 8;
+
+    // The assignments of an action.
+    pub const ASSIGNMENTS: usize = 4;
+
+    // The bytes of an expression after its length byte.
+    pub const EXPRESSION: usize = 64;
+
+    // The numbers of a value table.
+    pub const VALUES: usize = Deck::PARTS * Deck::CHANNELS;
+
+    // The numbers of a place: part, count, and a pair for each assignment.
+    pub const PLACE: usize = 2 + 2 * Deck::ASSIGNMENTS;
+
+    // The bytes of the longest action, rule, part and deck.
+    pub const ACTION_BYTES: usize = 1 + Deck::ASSIGNMENTS * (2 + Deck::EXPRESSION);
+
+    pub const RULE_BYTES: usize = 1
+        + Deck::EVENTS
+        + Deck::ACTION_BYTES
+        + 1
+        + (1 + Deck::EXPRESSION)
+        + Deck::ACTION_BYTES;
+
+    pub const PART_BYTES: usize = 4 * Deck::CHANNELS + 1 + Deck::RULES + (1 + Deck::EXPRESSION);
+
+    pub const BYTES: usize = 1
+        + Deck::CHANNELS
+        + 1
+        + Deck::RULES * Deck::RULE_BYTES
+        + 1
+        + Deck::PARTS * Deck::PART_BYTES;
+
+    // The constants and the definitions agree.
+    pub fn limits() -> Limits
+        ensures { λ r. ⌜ r ≡ limits ⌝ }
+    {
+        Limits {
+            channels: Deck::CHANNELS,
+            rules: Deck::RULES,
+            parts: Deck::PARTS,
+            events: Deck::EVENTS,
+            assignments: Deck::ASSIGNMENTS,
+            expression: Deck::EXPRESSION,
+            values: Deck::VALUES,
+            place: Deck::PLACE,
+            deck: Deck::BYTES,
+        }
+    }
+}

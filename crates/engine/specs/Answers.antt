@@ -1,0 +1,57 @@
+-- Number, place and values of each case of the code's answers. The promises of the calls use these. Assumes nothing.
+use Prim.Native.Nat.{ℕ}
+use mathlib.Core.List.{List, [], _∷_}
+use Rattle.refusals.specs.Outcome.{Outcome, refused, accepted}
+use Rattle.engine.specs.Calls.{Answer, passed, started, added, applied, discarded, settled, spent}
+use Rattle.engine.specs.declared.CheckAnswer.{CheckAnswer}
+use Rattle.engine.specs.declared.CheckAnswer.the-variants as OfCheck
+use Rattle.engine.specs.declared.StartAnswer.{StartAnswer}
+use Rattle.engine.specs.declared.StartAnswer.the-variants as OfStart
+use Rattle.engine.specs.declared.InputAnswer.{InputAnswer}
+use Rattle.engine.specs.declared.InputAnswer.the-variants as OfInput
+use Rattle.engine.specs.declared.CommitAnswer.{CommitAnswer}
+use Rattle.engine.specs.declared.CommitAnswer.the-variants as OfCommit
+use Rattle.engine.specs.declared.SettleAnswer.{SettleAnswer}
+use Rattle.engine.specs.declared.SettleAnswer.the-variants as OfSettle
+
+abbrev pub checkOutcome : CheckAnswer → Outcome Answer
+checkOutcome (OfCheck.Passed channels rules parts charge) = accepted (passed channels rules parts charge)
+checkOutcome (OfCheck.Refused number place) = refused number place
+
+abbrev pub startOutcome : StartAnswer → Outcome Answer
+startOutcome OfStart.Started = accepted started
+startOutcome (OfStart.Refused number place) = refused number place
+
+abbrev pub inputOutcome : InputAnswer → Outcome Answer
+inputOutcome (OfInput.Added charge) = accepted (added charge)
+inputOutcome (OfInput.Refused number place) = refused number place
+
+abbrev pub commitOutcome : CommitAnswer → Outcome Answer
+commitOutcome (OfCommit.Applied charge) = accepted (applied charge)
+commitOutcome (OfCommit.Discarded charge) = accepted (discarded charge)
+commitOutcome (OfCommit.Refused number place) = refused number place
+
+abbrev pub settleOutcome : SettleAnswer → Outcome Answer
+settleOutcome (OfSettle.Settled commits) = accepted (settled commits)
+settleOutcome (OfSettle.Spent commits) = accepted (spent commits)
+settleOutcome (OfSettle.Refused number place) = refused number place
+
+-- an outcome as numbers: the refusal's number and place, both 0 where the call is accepted, and the answer numbers, all 0 where
+-- it is refused. "applied" and "settled" are 1, "discarded" and "spent" 0
+pub record Numbers : Type 0 where
+  pub number : ℕ
+  pub place : ℕ
+  pub values : List ℕ
+
+abbrev pub valuesOf : Answer → List ℕ
+valuesOf (passed r m n charge) = r ∷ m ∷ n ∷ charge ∷ []
+valuesOf started = 0 ∷ 0 ∷ 0 ∷ 0 ∷ []
+valuesOf (added charge) = charge ∷ 0 ∷ 0 ∷ 0 ∷ []
+valuesOf (applied charge) = 1 ∷ charge ∷ 0 ∷ 0 ∷ []
+valuesOf (discarded charge) = 0 ∷ charge ∷ 0 ∷ 0 ∷ []
+valuesOf (settled commits) = commits ∷ 1 ∷ 0 ∷ 0 ∷ []
+valuesOf (spent commits) = commits ∷ 0 ∷ 0 ∷ 0 ∷ []
+
+abbrev pub numbersOf : Outcome Answer → Numbers
+numbersOf (refused number place) = record { number = number; place = place; values = 0 ∷ 0 ∷ 0 ∷ 0 ∷ [] }
+numbersOf (accepted a) = record { number = 0; place = 0; values = valuesOf a }

@@ -1,0 +1,155 @@
+-- Document 01, "Calls": each call is given exactly what a host gives it, and hands back its answer and what the host then
+-- holds. Assumes nothing.
+use Prim.Native.Nat.{ℕ, zero, suc, _+_, _*_, _-_, _%_}
+use mathlib.Core.Bool.{Bool, _&&_, cond}
+use mathlib.Core.List.{List, [], _∷_, map}
+use lib.Dec.{leb, ltb, eqb}
+use lib.ListN.{length, getD, take, drop}
+use lib.IntN.{ℤ, pos, natAbs}
+use lib.Signed.{leZ, ltZ}
+use Rattle.lists.specs.Lists.{all, distinct, isEmpty}
+use Rattle.refusals.specs.Outcome.{Outcome, refused, accepted, _>>=_, _>>_, require}
+use Rattle.refusals.specs.Numbers.{badPool, badState, unknownPart, badInput, overCapacity, placeNotPending, unknownSection, budgetTooLarge}
+use Rattle.deck.specs.Limits.{limits}
+use Rattle.deck.specs.Deck.{Deck, R, M, N}
+use Rattle.deck.specs.Layout.{Layout}
+use Rattle.charge.specs.Charge.{largestCharge}
+use Rattle.pool.specs.Updates.{charge}
+use Rattle.pool.specs.Places.{zeros, capacity, pairsOf}
+use Rattle.pool.specs.States.{Machine, Memory, load, store, goodLength, good}
+use Rattle.engine.specs.Check.{passing, openingValues}
+use Rattle.engine.specs.Firing.{Commit, setAndFire, committed}
+
+-- what an accepted call answers
+pub data Answer : Type 0 where
+  passed : ℕ → ℕ → ℕ → ℕ → Answer  -- R, M, N and the largest charge of any carried rule
+  started : Answer
+  added : ℕ → Answer  -- the charge added
+  applied discarded : ℕ → Answer  -- the charge now pending
+  settled spent : ℕ → Answer  -- the number of commits made
+
+-- what a call hands back: the answer, and what the host then holds
+pub record Reply : Type 0 where
+  pub answer : Outcome Answer
+  pub memory : Memory
+
+-- an accepted call's answer, with the values and pending updates that it leaves
+pub record Done : Type 0 where
+  pub answer : Answer
+  pub machine : Machine
+
+-- "A refusal … changes no lent memory or state"
+unfoldable pub reply : Memory → Outcome Done → Reply
+reply m (refused n p) = record { answer = refused n p; memory = m }
+reply m (accepted a) = record { answer = accepted (a .answer); memory = store (length (m .pool)) (a .machine) }
+
+-- "Every call tests afresh what it is given": deck, pool's length, state
+unfoldable pub tested : List ℕ → Memory → Outcome Deck
+tested bytes m = do
+  l ← passing bytes
+  require (goodLength (length (m .pool))) badPool 0
+  require (good (l .deck) m) badState 0
+  accepted (l .deck)
+
+-- "Check: R, M, N and the largest charge of any carried rule (0 if none)"
+unfoldable pub check : List ℕ → Outcome Answer
+check bytes = do
+  l ← passing bytes
+  accepted (passed (R (l .deck)) (M (l .deck)) (N (l .deck)) (largestCharge (l .deck)))
+
+-- "Start: the opening values, nothing pending, pool all 0"
+unfoldable pub opened : Deck → Machine
+opened d = record { values = openingValues d; pending = [] }
+
+-- a refused start hands back a state of zeros
+unfoldable pub start : List ℕ → List ℤ → Reply
+start bytes pool = reply (record { state = record { values = zeros (limits .values); pending = 0 }; pool = pool }) do
+  l ← passing bytes
+  require (goodLength (length pool)) badPool 0
+  accepted (record { answer = started; machine = opened (l .deck) })
+
+-- the numbers at channels' places of a list "channel, value, channel, value"
+unfoldable pub channelsOf : List ℤ → List ℤ
+channelsOf [] = []
+channelsOf (c ∷ []) = c ∷ []
+channelsOf (c ∷ v ∷ l) = c ∷ channelsOf l
+
+-- "1 to 32 pairs of known, different channels"
+unfoldable pub goodInput : Deck → List ℤ → Bool
+goodInput d l =
+    leb 2 (length l)
+    && leb (length l) (2 * limits .channels)
+    && eqb (length l % 2) 0
+    && all (λ c. leZ (pos 0) c && ltZ c (pos (R d))) (channelsOf l)
+    && distinct (map natAbs (channelsOf l))
+
+-- Input: the values are set and the firing follows; the limit is not tested. The answer is "charge after less charge before"
+unfoldable pub input : List ℕ → Memory → ℕ → List ℤ → Reply
+input bytes m p l = reply m do
+  d ← tested bytes m
+  require (ltb p (N d)) unknownPart 0
+  require (goodInput d l) badInput 0
+  let before = load m
+  let after = setAndFire d p (pairsOf l) before
+  require (leb (charge d (after .pending)) (capacity (length (m .pool)))) overCapacity 0
+  accepted (record { answer = added (charge d (after .pending) - charge d (before .pending)); machine = after })
+
+-- Commit: "The answer: applied or discarded, and the charge now pending"
+unfoldable pub commit : List ℕ → Memory → ℕ → Reply
+commit bytes m k = reply m do
+  d ← tested bytes m
+  require (ltb k (m .state .pending)) placeNotPending 0
+  let c = committed d k (load m)
+  let now = charge d (c .machine .pending)
+  accepted (record { answer = cond (c .applied) (applied now) (discarded now); machine = c .machine })
+
+-- a settle so far: the number of commits made, and what they left
+pub record Settling : Type 0 where
+  pub made : ℕ
+  pub machine : Machine
+
+unfoldable pub oneMore : Settling → Settling
+oneMore s = record { made = suc (s .made); machine = s .machine }
+
+-- "It commits place 0 until none is pending or the budget is used". The `let` keeps the rest from being computed at the end
+unfoldable pub settling : Deck → ℕ → Machine → Settling
+settling d zero x = record { made = 0; machine = x }
+settling d (suc budget) x =
+    let later = oneMore (settling d budget (committed d 0 x .machine)) in
+    cond (isEmpty (x .pending)) (record { made = 0; machine = x }) later
+
+-- "With nothing pending it is settled, otherwise spent"
+unfoldable pub settle : List ℕ → Memory → ℕ → Reply
+settle bytes m budget = reply m do
+  d ← tested bytes m
+  require (leb budget 65535) budgetTooLarge 0
+  let s = settling d budget (load m)
+  accepted (record { answer = cond (isEmpty (s .machine .pending)) (settled (s .made)) (spent (s .made)); machine = s .machine })
+
+-- what section hands back: a stretch of the deck, and the two lent numbers
+pub record Section : Type 0 where
+  pub stretch : List ℕ
+  pub number : ℕ
+  pub place : ℕ
+
+-- "Refused, it hands back the empty stretch. Its number and place go into two lent numbers, both 0 when it succeeds"
+unfoldable pub sectionReply : Outcome (List ℕ) → Section
+sectionReply (refused n p) = record { stretch = []; number = n; place = p }
+sectionReply (accepted s) = record { stretch = s; number = 0; place = 0 }
+
+-- the offset of section k's count; from 3 on, the deck's end
+unfoldable pub sectionAt : Layout → List ℕ → ℕ → ℕ
+sectionAt l bytes k = getD (0 ∷ l .rulesAt ∷ l .partsAt ∷ []) k (length bytes)
+
+-- "the stretch of the caller's deck from that section's count to its end"
+unfoldable pub section : List ℕ → ℕ → Section
+section bytes k = sectionReply do
+  l ← passing bytes
+  require (leb k 2) unknownSection 0
+  let begin = sectionAt l bytes k
+  accepted (take (sectionAt l bytes (suc k) - begin) (drop begin bytes))
+
+-- to open all definitions of this file, on an `unfolding` line
+unfoldable pub calls : Unit {0}
+unfolding reply tested check opened start channelsOf goodInput input commit oneMore settling settle sectionReply sectionAt section
+calls = tt

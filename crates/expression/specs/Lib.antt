@@ -1,0 +1,5 @@
+-- Document 01, "Expressions": what they are, what they come to, and how bytes are read as one.
+pub mod Syntax
+pub mod Values
+pub mod Reading
+pub mod Cases

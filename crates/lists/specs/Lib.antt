@@ -1,0 +1,2 @@
+-- Helpers on lists and numbers that several layers use.
+pub mod Lists

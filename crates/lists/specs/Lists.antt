@@ -1,0 +1,76 @@
+-- Helpers on lists and numbers that the definitions use. Every test is a Bool, so that it computes. Assumes nothing.
+use Prim.Native.Nat.{ℕ, zero, suc, _+_, max}
+use mathlib.Core.Bool.{Bool, true, false, not, _&&_, _||_}
+use mathlib.Core.List.{List, [], _∷_, _++_}
+use lib.Dec.{eqb}
+use lib.IntN.{ℤ, pos, negsuc}
+
+-- the test holds for every element; for some element
+unfoldable pub all : {A : Type 0} → (A → Bool) → List A → Bool
+all f [] = true
+all f (x ∷ xs) = f x && all f xs
+
+unfoldable pub any : {A : Type 0} → (A → Bool) → List A → Bool
+any f [] = false
+any f (x ∷ xs) = f x || any f xs
+
+-- the elements that pass the test, in their order. One recursive call, since both arms of a test are computed
+unfoldable pub keep : {A : Type 0} → Bool → A → List A → List A
+keep true x xs = x ∷ xs
+keep false x xs = xs
+
+unfoldable pub filter : {A : Type 0} → (A → Bool) → List A → List A
+filter f [] = []
+filter f (x ∷ xs) = keep (f x) x (filter f xs)
+
+-- the lists that f gives, one behind the other
+unfoldable pub flatMap : {A B : Type 0} → (A → List B) → List A → List B
+flatMap f [] = []
+flatMap f (x ∷ xs) = f x ++ flatMap f xs
+
+-- the sum, and the largest, of f over a list; 0 for the empty one
+unfoldable pub sum : {A : Type 0} → (A → ℕ) → List A → ℕ
+sum f [] = 0
+sum f (x ∷ xs) = f x + sum f xs
+
+unfoldable pub largest : {A : Type 0} → (A → ℕ) → List A → ℕ
+largest f [] = 0
+largest f (x ∷ xs) = max (f x) (largest f xs)
+
+unfoldable pub isEmpty : {A : Type 0} → List A → Bool
+isEmpty [] = true
+isEmpty (x ∷ xs) = false
+
+-- n numbers, rising by one from a on; the numbers below n
+unfoldable pub from : ℕ → ℕ → List ℕ
+from a zero = []
+from a (suc n) = a ∷ from (suc a) n
+
+unfoldable pub below : ℕ → List ℕ
+below n = from 0 n
+
+unfoldable pub member : ℕ → List ℕ → Bool
+member x xs = any (eqb x) xs
+
+-- no number stands twice
+unfoldable pub distinct : List ℕ → Bool
+distinct [] = true
+distinct (x ∷ xs) = not (member x xs) && distinct xs
+
+-- two whole numbers are equal; two lists are, by a test of their elements
+unfoldable pub eqZ : ℤ → ℤ → Bool
+eqZ (pos a) (pos b) = eqb a b
+eqZ (pos a) (negsuc b) = false
+eqZ (negsuc a) (pos b) = false
+eqZ (negsuc a) (negsuc b) = eqb a b
+
+unfoldable pub eqList : {A : Type 0} → (A → A → Bool) → List A → List A → Bool
+eqList f [] [] = true
+eqList f [] (y ∷ ys) = false
+eqList f (x ∷ xs) [] = false
+eqList f (x ∷ xs) (y ∷ ys) = f x y && eqList f xs ys
+
+-- to open all definitions of this file, on an `unfolding` line
+unfoldable pub lists : Unit {0}
+unfolding all any keep filter flatMap sum largest isEmpty from below member distinct eqZ eqList
+lists = tt

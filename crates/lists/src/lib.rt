@@ -1,0 +1,1 @@
+// Helpers on lists and numbers that several layers use. The definitions are in specs/.

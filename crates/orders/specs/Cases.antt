@@ -1,0 +1,137 @@
+-- Document 01, "Deck D and its cases": P1 to P11 as one list with one theorem over it, proved by computing. Assumes nothing.
+use Prim.Native.Nat.{ℕ, _+_, _*_, _-_}
+use Prim.Native.String.{String}
+use mathlib.Core.Bool.{cond}
+use mathlib.Core.Path.{_≡_, refl}
+use mathlib.Core.List.{List, [], _∷_, _++_}
+use lib.Dec.{ltb}
+use lib.ListN.{take, drop, set, replicate}
+use lib.IntN.{ℤ, pos}
+use Rattle.lists.specs.Lists.{flatMap, lists}
+use Rattle.refusals.specs.Outcome.{Outcome, refused, accepted, outcomes}
+use Rattle.expression.specs.Values.{evaluation}
+use Rattle.expression.specs.Reading.{readingExpressions}
+use Rattle.deck.specs.Deck.{Deck, decks}
+use Rattle.deck.specs.Reader.{readers}
+use Rattle.deck.specs.Layout.{Layout, layouts}
+use Rattle.graph.specs.Graph.{graphs}
+use Rattle.charge.specs.Charge.{charges}
+use Rattle.pool.specs.Updates.{valueAt, updates}
+use Rattle.pool.specs.Places.{zeros, pools}
+use Rattle.pool.specs.States.{Machine, Memory, store, states}
+use Rattle.engine.specs.Check.{passing, checks}
+use Rattle.engine.specs.Firing.{firing}
+use Rattle.engine.specs.Calls.{Answer, passed, added, applied, discarded, check, calls}
+use Rattle.engine.specs.Line.{ascii, line, lines}
+use Rattle.orders.specs.Calling.{Call, input, commit, Run, run, running}
+use Rattle.orders.specs.Listed.{Listed, listed, listing}
+
+-- bytes in hexadecimal, each followed by a space or a bar
+unfoldable pub nibble : ℕ → ℕ
+nibble c = cond (ltb c 65) (c - 48) (c - 55)
+
+unfoldable pub unhex : List ℕ → List ℕ
+unhex [] = []
+unhex (a ∷ []) = []
+unhex (a ∷ b ∷ []) = []
+unhex (a ∷ b ∷ space ∷ s) = (16 * nibble a + nibble b) ∷ unhex s
+
+-- deck D: channels, rules and parts
+unfoldable pub D : List ℕ
+D =
+    unhex (ascii "03 61 62 63|02|01 00 00 01 01 11 01 01 02 01 00|01 01 00 00 01 11 01 02 08 03 01 01 00 01 00 00 00|")
+    ++ unhex (ascii "02|00 00 00 00 00 00 00 00 00 00 00 00 02 00 01 01 11|")
+    ++ unhex (ascii "00 00 00 00 00 00 00 00 00 00 00 00 02 00 01 08 15 01 02 00 0A 00 00 00|")
+
+-- P5's deck: rule 1's target made 0; P6's: rule 0's target made 0; P7's: P6's with both parts carrying rule 1 alone
+unfoldable pub D5 : List ℕ
+D5 = set D 23 0
+
+unfoldable pub D6 : List ℕ
+D6 = set D 12 0
+
+unfoldable pub D7 : List ℕ
+D7 = take 46 D6 ++ 1 ∷ 1 ∷ take 14 (drop 49 D6) ++ 1 ∷ 1 ∷ drop 66 D6
+
+-- what a case shows: the answers; the line that the program prints; the values of channels b and c of part 1, and the pool's
+-- first place
+pub record Seen : Type 0 where
+  pub answers : List (Outcome Answer)
+  pub printed : List ℕ
+  pub values : List ℤ
+
+-- what the calls come to, what the definition of a list comes to, and what both should
+pub record Case : Type 0 where
+  pub called : Seen
+  pub listed : Seen
+  pub wanted : Seen
+
+unfoldable pub checked : Outcome Answer → List ℕ → Seen
+checked o text = record { answers = o ∷ []; printed = text; values = [] }
+
+-- a deck is checked
+unfoldable pub checking : List ℕ → Outcome Answer → String → Case
+checking bytes o text =
+    let found = checked (check bytes) (line (check bytes)) in
+    record { called = found; listed = found; wanted = checked o (ascii text) }
+
+unfoldable pub seen : List (Outcome Answer) → Memory → Seen
+seen answers m =
+    let t = m .state .values in
+    record { answers = answers; printed = []; values = valueAt t 1 1 ∷ valueAt t 1 2 ∷ take 10 (m .pool) }
+
+-- the definition of a list, for bytes that pass and a pool of n numbers
+unfoldable pub listedFor : Outcome Layout → ℕ → List Call → Seen
+listedFor (refused number place) n cs = record { answers = refused number place ∷ []; printed = []; values = [] }
+listedFor (accepted l) n cs =
+    let r = listed (l .deck) n cs in
+    seen (r .answers) (store n (r .machine))
+
+-- calls on D from a fresh start with C places: the answers, then the values
+unfoldable pub calling : ℕ → List Call → List (Outcome Answer) → List ℤ → Case
+calling C cs answers values =
+    let r = run D (replicate (10 * C) (pos 7)) cs in
+    record {
+      called = seen (r .answers) (r .memory);
+      listed = listedFor (passing D) (10 * C) cs;
+      wanted = record { answers = answers; printed = []; values = values };
+    }
+
+-- channel a of part 0 is set
+unfoldable pub setA : ℕ → Call
+setA v = input 0 (pos 0 ∷ pos v ∷ [])
+
+-- b and c, and an empty first place
+unfoldable pub settledAt : ℕ → ℕ → List ℤ
+settledAt b c = pos b ∷ pos c ∷ zeros 10
+
+unfoldable pub cases : List Case
+cases =
+    checking D (accepted (passed 3 2 2 2)) "passed 3 2 2 2\n"  -- P1
+    ∷ checking [] (refused 1 0) "refused 1 0\n"  -- P2
+    ∷ checking (take 74 D) (refused 1 74) "refused 1 74\n"  -- P3
+    ∷ checking (D ++ 0 ∷ []) (refused 5 75) "refused 5 75\n"  -- P4
+    ∷ checking D5 (refused 7 0) "refused 7 0\n"  -- P5
+    ∷ checking D6 (refused 7 0) "refused 7 0\n"  -- P6
+    ∷ checking D7 (accepted (passed 3 2 2 1)) "passed 3 2 2 1\n"  -- P7
+    ∷ calling 2 (setA 4 ∷ commit 0 ∷ commit 0 ∷ [])  -- P8
+    (accepted (added 2) ∷ accepted (applied 1) ∷ accepted (applied 0) ∷ [])
+    (settledAt 4 5)
+    ∷ calling 1 (setA 4 ∷ []) (refused 13 0 ∷ []) (settledAt 0 0)  -- P8 with C = 1
+    ∷ calling 2 (setA 9 ∷ commit 0 ∷ commit 0 ∷ [])  -- P9
+    (accepted (added 2) ∷ accepted (applied 1) ∷ accepted (discarded 0) ∷ [])
+    (settledAt 9 0)
+    ∷ calling 2 (setA 4 ∷ commit 0 ∷ commit 0 ∷ setA 4 ∷ [])  -- P10
+    (accepted (added 2) ∷ accepted (applied 1) ∷ accepted (applied 0) ∷ accepted (added 0) ∷ [])
+    (settledAt 4 5)
+    ∷ calling 2 (setA 2147483647 ∷ commit 0 ∷ [])  -- P11: the sum clamps, so that c = 2147483647 is pending
+    (accepted (added 2) ∷ accepted (applied 1) ∷ [])
+    (pos 2147483647 ∷ pos 0 ∷ pos 1 ∷ pos 1 ∷ pos 2 ∷ pos 2147483647 ∷ zeros 6)
+    ∷ calling 2 (setA 2147483647 ∷ commit 0 ∷ commit 0 ∷ [])  -- P11: and is discarded
+    (accepted (added 2) ∷ accepted (applied 1) ∷ accepted (discarded 0) ∷ [])
+    (settledAt 2147483647 0)
+    ∷ []
+
+pub cases-hold : flatMap (λ c. c .called ∷ c .listed ∷ []) cases ≡ flatMap (λ c. c .wanted ∷ c .wanted ∷ []) cases
+unfolding nibble unhex D D5 D6 D7 checked checking seen listedFor calling setA settledAt cases lists outcomes evaluation readingExpressions decks readers layouts graphs charges updates pools states checks firing calls lines running listing
+cases-hold = refl

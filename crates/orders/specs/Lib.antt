@@ -1,0 +1,4 @@
+-- Document 01, "Lists of calls" and "Deck D and its cases".
+pub mod Calling
+pub mod Listed
+pub mod Cases

@@ -1,0 +1,3 @@
+-- Refusals: their numbers, and what a reader or a call comes to.
+pub mod Numbers
+pub mod Outcome

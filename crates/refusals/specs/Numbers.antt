@@ -1,0 +1,66 @@
+-- Document 01, "When a call declines": the numbers, by name. No other file writes one down. Assumes nothing.
+use Prim.Native.Nat.{ℕ}
+
+-- 1. The deck ends inside a field or expression
+abbrev pub deckEnds : ℕ
+deckEnds = 1
+
+-- 2. A count, label, kind, length, or channel or rule number outside an expression is outside its range, or a list doesn't rise
+abbrev pub outOfRange : ℕ
+outOfRange = 2
+
+-- 3. An expression breaks its rules, unknown channels included
+abbrev pub badExpression : ℕ
+badExpression = 3
+
+-- 4. A target stands twice in an action
+abbrev pub repeatedTarget : ℕ
+repeatedTarget = 4
+
+-- 5. Bytes follow the last section
+abbrev pub bytesFollow : ℕ
+bytesFollow = 5
+
+-- 6. A part opens outside its limit
+abbrev pub opensOutside : ℕ
+opensOutside = 6
+
+-- 7. The graph has a cycle
+abbrev pub cyclicGraph : ℕ
+cyclicGraph = 7
+
+-- 8. A carried rule's charge is above 65,535
+abbrev pub overcharged : ℕ
+overcharged = 8
+
+-- 9. The pool's length isn't a multiple of 10 from 10 to 655,350
+abbrev pub badPool : ℕ
+badPool = 9
+
+-- 10. The state isn't a good one
+abbrev pub badState : ℕ
+badState = 10
+
+-- 11. The part is N or above
+abbrev pub unknownPart : ℕ
+unknownPart = 11
+
+-- 12. The input list isn't 1 to 32 pairs of known, different channels
+abbrev pub badInput : ℕ
+badInput = 12
+
+-- 13. The charge after the input would exceed C
+abbrev pub overCapacity : ℕ
+overCapacity = 13
+
+-- 14. The place is the pending number or above
+abbrev pub placeNotPending : ℕ
+placeNotPending = 14
+
+-- 15. The section number is above 2
+abbrev pub unknownSection : ℕ
+unknownSection = 15
+
+-- 16. The settle budget is above 65,535
+abbrev pub budgetTooLarge : ℕ
+budgetTooLarge = 16
