@@ -32,6 +32,10 @@ ownOnly R = record { owns = R; fars = 0 }
 unfoldable pub ownAndFar : ℕ → Scope
 ownAndFar R = record { owns = R; fars = R }
 
+-- the scope of a rule's condition and action, by its kind
+unfoldable pub taskScope : ℕ → Bool → Scope
+taskScope R everywhere = cond everywhere (ownAndFar R) (ownOnly R)
+
 -- n assignments to channels that are not among ts. 4: a target stands twice; the place is the second one
 unfoldable pub assignments : Scope → ℕ → List ℕ → Reader Action
 assignments sc zero ts = give []
@@ -57,7 +61,7 @@ rule R = do
   default ← action (ownOnly R)
   kind ← number 0 2
   let everywhere = eqb kind 1
-  let scope = cond everywhere (ownAndFar R) (ownOnly R)
+  let scope = taskScope R everywhere
   condition ← expression (wholeTruth scope)
   act ← action scope
   give (record { events = events; default = default; everywhere = everywhere; condition = condition; action = act })
@@ -101,5 +105,5 @@ read bytes = valueOf (sections bytes 0)
 
 -- to open all definitions of this file, on an `unfolding` line
 unfoldable pub layouts : Unit {0}
-unfolding judged expression ownOnly ownAndFar assignments action rule part sections valueOf read
+unfolding judged expression ownOnly ownAndFar taskScope assignments action rule part sections valueOf read
 layouts = tt

@@ -3,4 +3,5 @@ pub mod Limits
 pub mod Deck
 pub mod Reader
 pub mod Layout
+pub mod Encoding
 pub mod Cases

@@ -2,4 +2,5 @@
 pub mod Syntax
 pub mod Values
 pub mod Reading
+pub mod Encoding
 pub mod Cases

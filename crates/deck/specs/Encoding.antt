@@ -1,0 +1,106 @@
+-- Document 01, "The deck": a deck's bytes, and which decks have them. Assumes nothing.
+use Prim.Native.Nat.{ℕ, suc}
+use mathlib.Core.Bool.{Bool, true, false, _&&_}
+use mathlib.Core.List.{List, [], _∷_, _++_}
+use lib.Dec.{leb, ltb, eqb}
+use lib.ListN.{length}
+use Rattle.lists.specs.Lists.{all, flatMap, distinct}
+use Rattle.expression.specs.Syntax.{Num, Truth}
+use Rattle.expression.specs.Reading.{Scope}
+use Rattle.expression.specs.Encoding.{encodeValue, encodeNum, encodeTruth, fits, goodNum, goodTruth}
+use Rattle.deck.specs.Limits.{limits}
+use Rattle.deck.specs.Deck.{Assignment, Action, Rule, Part, Deck, R, M, N, targets}
+use Rattle.deck.specs.Layout.{ownOnly, taskScope}
+
+-- ---- the bytes
+
+-- "a length byte, then exactly that many bytes"
+unfoldable pub encodeExpression : List ℕ → List ℕ
+encodeExpression bytes = length bytes ∷ bytes
+
+unfoldable pub encodeAssignment : Assignment → List ℕ
+encodeAssignment s = s .target ∷ encodeExpression (encodeNum (s .value))
+
+unfoldable pub encodeAction : Action → List ℕ
+encodeAction a = length a ∷ flatMap encodeAssignment a
+
+abbrev pub kindByte : Bool → ℕ
+kindByte false = 0
+kindByte true = 1
+
+unfoldable pub encodeRule : Rule → List ℕ
+encodeRule r =
+    (length (r .events) ∷ r .events)
+    ++ encodeAction (r .default)
+    ++ (kindByte (r .everywhere) ∷ encodeExpression (encodeTruth (r .condition)))
+    ++ encodeAction (r .action)
+
+unfoldable pub encodePart : Part → List ℕ
+encodePart p =
+    flatMap encodeValue (p .opening) ++ (length (p .carried) ∷ p .carried) ++ encodeExpression (encodeTruth (p .limit))
+
+-- the three sections, each after its count
+unfoldable pub encodeChannels : Deck → List ℕ
+encodeChannels d = R d ∷ d .labels
+
+unfoldable pub encodeRules : Deck → List ℕ
+encodeRules d = M d ∷ flatMap encodeRule (d .rules)
+
+unfoldable pub encodeParts : Deck → List ℕ
+encodeParts d = N d ∷ flatMap encodePart (d .parts)
+
+unfoldable pub encode : Deck → List ℕ
+encode d = encodeChannels d ++ encodeRules d ++ encodeParts d
+
+-- ---- well-formed decks
+
+unfoldable pub inRange : ℕ → ℕ → ℕ → Bool
+inRange lo hi n = leb lo n && leb n hi
+
+-- strictly rising, from lo to below hi
+unfoldable pub isRising : ℕ → ℕ → List ℕ → Bool
+isRising lo hi [] = true
+isRising lo hi (c ∷ cs) = leb lo c && ltb c hi && isRising (suc c) hi cs
+
+-- an expression has 1 to 64 bytes
+unfoldable pub goodLength : List ℕ → Bool
+goodLength bytes = inRange 1 (limits .expression) (length bytes)
+
+unfoldable pub goodAssignment : Scope → Assignment → Bool
+goodAssignment sc s = ltb (s .target) (sc .owns) && goodNum sc (s .value) && goodLength (encodeNum (s .value))
+
+unfoldable pub goodAction : Scope → Action → Bool
+goodAction sc a = leb (length a) (limits .assignments) && all (goodAssignment sc) a && distinct (targets a)
+
+unfoldable pub goodCondition : Scope → Truth → Bool
+goodCondition sc t = goodTruth sc t && goodLength (encodeTruth t)
+
+unfoldable pub goodRule : ℕ → Rule → Bool
+goodRule R r =
+    inRange 1 (limits .events) (length (r .events))
+    && isRising 0 R (r .events)
+    && goodAction (ownOnly R) (r .default)
+    && goodCondition (taskScope R (r .everywhere)) (r .condition)
+    && goodAction (taskScope R (r .everywhere)) (r .action)
+
+unfoldable pub goodPart : ℕ → ℕ → Part → Bool
+goodPart R M p =
+    eqb (length (p .opening)) R
+    && all fits (p .opening)
+    && leb (length (p .carried)) M
+    && isRising 0 M (p .carried)
+    && goodCondition (ownOnly R) (p .limit)
+
+unfoldable pub wellFormed : Deck → Bool
+wellFormed d =
+    inRange 1 (limits .channels) (R d)
+    && all (inRange 33 126) (d .labels)
+    && leb (M d) (limits .rules)
+    && all (goodRule (R d)) (d .rules)
+    && inRange 1 (limits .parts) (N d)
+    && all (goodPart (R d) (M d)) (d .parts)
+
+-- to open all definitions of this file, on an `unfolding` line
+unfoldable pub encodings : Unit {0}
+unfolding encodeExpression encodeAssignment encodeAction encodeRule encodePart encodeChannels encodeRules encodeParts encode inRange isRising goodLength goodAssignment goodAction goodCondition goodRule goodPart wellFormed
+encodings = tt
