@@ -1,0 +1,248 @@
+//! Small cases with what the reference answers, for comparison by slower means.
+
+use crate::engine::{check_line, section, start, Answer, Call};
+use crate::generate::calls::{any, bad_length, damage, hand_written, Known};
+use crate::generate::{self, deck, Kind};
+use crate::random::Random;
+use crate::refusal::{self, Refusal};
+use crate::script::Host;
+use crate::state::{State, PLACE};
+use std::ops::Range;
+
+/// The largest numbers of a case.
+#[derive(Clone, Copy, Debug)]
+pub struct Size {
+    pub deck: generate::Size,
+    /// C, the places of a pool.
+    pub places: usize,
+    pub calls: usize,
+}
+
+impl Size {
+    /// Only a deck that is refused by 8 may be larger: with so few rules and parts
+    /// no charge would be above 65,535.
+    pub const SMALL: Size = Size {
+        deck: generate::Size { channels: 6, rules: 6, parts: 4, expression: 16 },
+        places: 12,
+        calls: 12,
+    };
+}
+
+/// A case: what is lent and asked, and what the answer and the memory are afterwards.
+// States are large; cases are few.
+#[allow(clippy::large_enum_variant)]
+#[derive(Clone, Debug)]
+pub enum Case {
+    /// The line that the program for checking prints.
+    Check { deck: Vec<u8>, line: String },
+    /// The stretch that section hands back, or its refusal.
+    Section { deck: Vec<u8>, number: u32, answer: Result<Range<usize>, Refusal> },
+    /// A start on a pool that holds other numbers before.
+    Start {
+        deck: Vec<u8>,
+        pool_before: Vec<i32>,
+        answer: Result<(), Refusal>,
+        state: State,
+        pool_after: Vec<i32>,
+    },
+    /// A start and calls after it, each on what the last one left, and what is left at the
+    /// end. Every number of the pool is 7 before the start. Where the start is refused,
+    /// the calls follow on a state of zeros and that pool.
+    Run {
+        deck: Vec<u8>,
+        pool_length: usize,
+        start: Result<(), Refusal>,
+        calls: Vec<Call>,
+        answers: Vec<Answer>,
+        state: State,
+        pool: Vec<i32>,
+    },
+    /// One call on memory of any content.
+    Memory {
+        deck: Vec<u8>,
+        state_before: State,
+        pool_before: Vec<i32>,
+        call: Call,
+        answer: Answer,
+        state_after: State,
+        pool_after: Vec<i32>,
+    },
+}
+
+impl Case {
+    fn check(deck: Vec<u8>) -> Case {
+        Case::Check { line: check_line(&deck), deck }
+    }
+
+    fn section(deck: Vec<u8>, number: u32) -> Case {
+        Case::Section { answer: section(&deck, number), number, deck }
+    }
+
+    fn start(deck: Vec<u8>, pool_before: Vec<i32>) -> Case {
+        let mut pool_after = pool_before.clone();
+        let (answer, state) = start(&deck, &mut pool_after);
+        Case::Start { deck, pool_before, answer, state, pool_after }
+    }
+
+    /// Every refusal among its answers.
+    pub fn refusals(&self) -> Vec<Refusal> {
+        let refused = |answer: &Answer| match answer {
+            Answer::Refused(refusal) => Some(*refusal),
+            _ => None,
+        };
+        match self {
+            Case::Check { deck, .. } => crate::check(deck).err().into_iter().collect(),
+            Case::Section { answer, .. } => answer.clone().err().into_iter().collect(),
+            Case::Start { answer, .. } => answer.err().into_iter().collect(),
+            Case::Run { start, answers, .. } => {
+                start.err().into_iter().chain(answers.iter().filter_map(refused)).collect()
+            }
+            Case::Memory { answer, .. } => refused(answer).into_iter().collect(),
+        }
+    }
+}
+
+/// So many cases. In each forty every refusal is aimed at once.
+pub fn generate(seed: u64, count: usize, size: &Size) -> Vec<Case> {
+    let mut maker = Maker { random: Random::new(seed), size: *size };
+    (0..count).map(|number| maker.case(number % 40)).collect()
+}
+
+struct Maker {
+    random: Random,
+    size: Size,
+}
+
+impl Maker {
+    fn case(&mut self, turn: usize) -> Case {
+        match turn {
+            0..=15 => self.aimed(turn as u32 + 1),
+            16..=29 => {
+                let kind = self.random.pick(&[Kind::Rich, Kind::Rich, Kind::Valid]);
+                self.run(kind)
+            }
+            30..=35 => self.memory(Kind::Rich),
+            36 => self.section(Kind::Valid),
+            37 => self.start(Kind::Valid),
+            _ => {
+                let kind = self.random.pick(&[Kind::Valid, Kind::Rich, Kind::Cyclic, Kind::Damaged]);
+                self.check(kind)
+            }
+        }
+    }
+
+    /// A case with this refusal: tried until it occurs.
+    fn aimed(&mut self, number: u32) -> Case {
+        loop {
+            let case = self.attempt(number);
+            if case.refusals().iter().any(|refusal| refusal.number == number) {
+                return case;
+            }
+        }
+    }
+
+    fn attempt(&mut self, number: u32) -> Case {
+        match number {
+            refusal::DECK_ENDS..=refusal::BYTES_FOLLOW => self.any_call(Kind::Damaged),
+            refusal::OPENS_OUTSIDE_LIMIT => self.any_call(Kind::Limit),
+            refusal::CYCLE => self.any_call(Kind::Cyclic),
+            refusal::RULE_CHARGE => self.check(Kind::Heavy),
+            refusal::SECTION => self.section(Kind::Rich),
+            refusal::POOL_LENGTH => self.any_call(Kind::Rich),
+            refusal::BAD_STATE => self.memory(Kind::Rich),
+            _ => self.run(Kind::Rich),
+        }
+    }
+
+    fn any_call(&mut self, kind: Kind) -> Case {
+        match self.random.below(10) {
+            0..=5 => self.check(kind),
+            6 => self.section(kind),
+            7 => self.start(kind),
+            8 => self.memory(kind),
+            _ => self.run(kind),
+        }
+    }
+
+    fn deck(&mut self, kind: Kind) -> Vec<u8> {
+        deck(kind, &mut self.random, self.size.deck)
+    }
+
+    fn pool_length(&mut self) -> usize {
+        if self.random.chance(90) {
+            return PLACE * self.random.between(1, self.size.places);
+        }
+        // A slow comparison is spared the longest lengths.
+        (bad_length(&mut self.random) as usize).min(PLACE * self.size.places + 1)
+    }
+
+    fn check(&mut self, kind: Kind) -> Case {
+        Case::check(self.deck(kind))
+    }
+
+    fn section(&mut self, kind: Kind) -> Case {
+        let number = self.random.pick(&[0, 1, 2, 3, u32::MAX]);
+        Case::section(self.deck(kind), number)
+    }
+
+    fn start(&mut self, kind: Kind) -> Case {
+        let length = self.pool_length();
+        let pool = (0..length).map(|_| self.random.within(-3..=12)).collect();
+        Case::start(self.deck(kind), pool)
+    }
+
+    fn run(&mut self, kind: Kind) -> Case {
+        let deck = self.deck(kind);
+        let known = Known::of(&deck);
+        let pool_length = self.pool_length();
+        let mut host = Host::new(&deck);
+        let start = host.start(pool_length);
+        let (mut calls, mut answers) = (Vec::new(), Vec::new());
+        for _ in 0..self.random.between(1, self.size.calls) {
+            let call = any(&mut self.random, &known, &host);
+            answers.push(host.call(&call));
+            calls.push(call);
+        }
+        let Host { state, pool, .. } = host;
+        Case::Run { deck, pool_length, start, calls, answers, state, pool }
+    }
+
+    fn memory(&mut self, kind: Kind) -> Case {
+        let deck = self.deck(kind);
+        let known = Known::of(&deck);
+        let mut host = Host::new(&deck);
+        // A refused start is as good a beginning as an accepted one.
+        let _ = host.start(self.pool_length());
+        for _ in 0..self.random.below(4) {
+            let call = any(&mut self.random, &known, &host);
+            host.call(&call);
+        }
+        self.disturb(&known, &mut host);
+        let call = any(&mut self.random, &known, &host);
+        let (state_before, pool_before) = (host.state.clone(), host.pool.clone());
+        let answer = host.call(&call);
+        let Host { state: state_after, pool: pool_after, .. } = host;
+        Case::Memory { deck, state_before, pool_before, call, answer, state_after, pool_after }
+    }
+
+    /// Writes updates by hand (often a good state), damages a number, or fills all at random.
+    fn disturb(&mut self, known: &Known, host: &mut Host) {
+        match self.random.below(10) {
+            0..=4 => {
+                for _ in 0..self.random.between(1, 3) {
+                    let lines = hand_written(&mut self.random, known, host);
+                    lines.iter().for_each(|line| drop(host.perform(line)));
+                }
+            }
+            5..=8 => {
+                let line = damage(&mut self.random, known, host);
+                host.perform(&line);
+            }
+            _ => {
+                host.state.values.iter_mut().for_each(|value| *value = self.random.within(-1..=1));
+                host.pool.iter_mut().for_each(|number| *number = self.random.within(0..=2));
+                host.state.pending = self.random.below(4) as u32;
+            }
+        }
+    }
+}

@@ -1,0 +1,82 @@
+//! Generated decks, calls and scripts, the same for the same seed.
+
+pub mod calls;
+pub mod decks;
+pub mod expressions;
+pub mod faults;
+pub mod heavy;
+pub mod scripts;
+
+use crate::deck::Deck;
+use crate::random::Random;
+
+/// The largest counts of a generated deck.
+#[derive(Clone, Copy, Debug)]
+pub struct Size {
+    pub channels: usize,
+    pub rules: usize,
+    pub parts: usize,
+    /// Bytes of an expression, at least 6.
+    pub expression: usize,
+}
+
+impl Size {
+    pub const FULL: Size = Size {
+        channels: Deck::CHANNELS,
+        rules: Deck::RULES,
+        parts: Deck::PARTS,
+        expression: Deck::EXPRESSION,
+    };
+}
+
+/// What a generated deck is like.
+#[derive(Clone, Copy, Debug, PartialEq, Eq, Hash)]
+pub enum Kind {
+    /// Passes; any expressions.
+    Valid,
+    /// Passes; chained rules whose conditions are often true.
+    Rich,
+    /// A deck that passes, with bytes changed, removed, inserted, cut off or appended.
+    Damaged,
+    /// Loops, and what looks like one.
+    Cyclic,
+    /// Charges around 65,535 and far beyond.
+    Heavy,
+    /// Parts that open outside their limit.
+    Limit,
+    /// The longest deck that passes, and what is just beyond it.
+    Longest,
+    /// Random bytes.
+    Noise,
+}
+
+impl Kind {
+    pub const ALL: [(&'static str, Kind); 8] = [
+        ("valid", Kind::Valid),
+        ("rich", Kind::Rich),
+        ("damaged", Kind::Damaged),
+        ("cyclic", Kind::Cyclic),
+        ("heavy", Kind::Heavy),
+        ("limit", Kind::Limit),
+        ("longest", Kind::Longest),
+        ("noise", Kind::Noise),
+    ];
+
+    pub fn named(name: &str) -> Option<Kind> {
+        Kind::ALL.iter().find(|(known, _)| *known == name).map(|&(_, kind)| kind)
+    }
+}
+
+/// A deck of this kind.
+pub fn deck(kind: Kind, random: &mut Random, size: Size) -> Vec<u8> {
+    match kind {
+        Kind::Valid => decks::valid(random, size).encode().bytes,
+        Kind::Rich => decks::rich(random, size).encode().bytes,
+        Kind::Damaged => faults::damaged(random, size),
+        Kind::Cyclic => faults::cyclic(random, size).encode().bytes,
+        Kind::Heavy => heavy::heavy(random, size).encode().bytes,
+        Kind::Limit => faults::limit(random, size),
+        Kind::Longest => faults::around_longest(random),
+        Kind::Noise => faults::noise(random),
+    }
+}

@@ -1,0 +1,138 @@
+//! Scripts of calls for `replay`.
+
+use super::calls::{any, bad_length, damage, hand_written, restored, Known};
+use crate::engine::{check, Answer, Call};
+use crate::random::Random;
+use crate::script::{Host, Line};
+
+/// Lines that are none of those that `replay` knows.
+const UNREADABLE: [&str; 12] = [
+    "commit",
+    "commit -1",
+    "commit 4294967296",
+    "commit 0 0",
+    "settle x",
+    "input",
+    "input 0 1 2147483648",
+    "value 512 1",
+    "start 700001",
+    "start",
+    "jump 3",
+    "pending 1 ",
+];
+
+/// Writes lines and goes through them, so that later ones fit what is in memory.
+struct Writer<'a> {
+    random: &'a mut Random,
+    known: Known,
+    /// The largest charge of a rule, or 0 for a deck that doesn't pass.
+    charge: usize,
+    host: Host<'a>,
+    text: String,
+}
+
+/// A text of about so many calls for a deck.
+pub fn script(random: &mut Random, deck: &[u8], calls: usize) -> String {
+    let charge = check(deck).map_or(0, |passed| passed.charge as usize);
+    let (known, host) = (Known::of(deck), Host::new(deck));
+    let mut writer = Writer { random, known, charge, host, text: String::new() };
+    if writer.random.chance(10) {
+        writer.call();
+    }
+    writer.start();
+    for _ in 0..calls {
+        writer.step();
+    }
+    writer.text
+}
+
+impl Writer<'_> {
+    fn line(&mut self, line: Line) {
+        self.host.perform(&line);
+        self.text.push_str(&line.to_string());
+        self.text.push('\n');
+    }
+
+    fn step(&mut self) {
+        match self.random.below(100) {
+            0..=3 => self.start(),
+            4..=7 => self.damage(),
+            8..=11 => self.hand_write(),
+            12..=14 => {
+                let number = self.random.pick(&[0, 1, 2, 3, 4, u32::MAX]);
+                self.line(Line::Section { number });
+            }
+            15 => {
+                let text = self.random.pick(&UNREADABLE);
+                self.text.push_str(text);
+                self.text.push('\n');
+            }
+            16 => self.text.push('\n'),
+            _ => self.call(),
+        }
+    }
+
+    /// A pool that is tight, roomy, as large as can be, or of a bad length.
+    fn start(&mut self) {
+        let small = self.random.between(1, 4);
+        let roomy = self.random.between(10, (8 * self.charge).clamp(20, 65_535));
+        let places = match self.random.below(40) {
+            0 if self.charge > 0 => 65_535,
+            1..=4 => return self.bad_start(),
+            5..=7 => small,
+            8..=13 => self.charge.clamp(1, 65_535),
+            14..=16 => self.random.between(1, self.charge.max(2)),
+            _ => roomy,
+        };
+        self.line(Line::Start { length: 10 * places as u32 });
+    }
+
+    /// A start that is refused; mostly another follows.
+    fn bad_start(&mut self) {
+        let length = bad_length(self.random);
+        self.line(Line::Start { length });
+        if self.random.chance(80) {
+            self.start();
+        } else {
+            self.call();
+        }
+    }
+
+    fn call(&mut self) {
+        let call = any(self.random, &self.known, &self.host);
+        self.line(Line::Call(call));
+    }
+
+    /// Damages memory, calls, and mostly repairs it.
+    fn damage(&mut self) {
+        let line = damage(self.random, &self.known, &self.host);
+        let Some(repair) = restored(&line, &self.host) else { return };
+        self.line(line);
+        self.call();
+        if self.random.chance(80) {
+            self.line(repair);
+        } else {
+            self.call();
+            self.start();
+        }
+    }
+
+    /// Writes updates by hand, calls, and starts again where that made the state a bad one.
+    fn hand_write(&mut self) {
+        for _ in 0..self.random.between(1, 3) {
+            for line in hand_written(self.random, &self.known, &self.host) {
+                self.line(line);
+            }
+        }
+        self.call();
+        if self.random.chance(60) && self.refuses() {
+            self.start();
+        }
+    }
+
+    /// Whether memory is now such that a settle of nothing is refused.
+    fn refuses(&self) -> bool {
+        let answer = self.host.clone().call(&Call::Settle { budget: 0 });
+        matches!(answer, Answer::Refused(_))
+    }
+}

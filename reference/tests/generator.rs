@@ -1,0 +1,180 @@
+//! The generators reach what they are for, and no input makes a call panic.
+
+use reference::cases::{self, Case};
+use reference::deck::{Deck, Field};
+use reference::engine::{check_line, Answer};
+use reference::generate::decks::rich;
+use reference::generate::faults::damage;
+use reference::generate::scripts::script;
+use reference::generate::{deck, Kind, Size};
+use reference::random::Random;
+use reference::script::replay;
+use reference::{commit, input, section, settle, start, State};
+use std::collections::{BTreeMap, BTreeSet, HashSet};
+
+/// Counts lines by their first word, and refusals by their number.
+fn count(counts: &mut BTreeMap<String, usize>, text: &str) {
+    for line in text.lines() {
+        let mut words = line.split(' ');
+        let first = words.next().unwrap_or("");
+        let key = if first == "refused" {
+            format!("refused {}", words.next().unwrap_or(""))
+        } else {
+            first.to_string()
+        };
+        *counts.entry(key).or_default() += 1;
+    }
+}
+
+fn missing(
+    counts: &BTreeMap<String, usize>,
+    words: &[&str],
+    refusals: std::ops::RangeInclusive<u32>,
+) -> Vec<String> {
+    let refusals = refusals.map(|number| format!("refused {number}"));
+    let wanted = words.iter().map(|word| word.to_string()).chain(refusals);
+    wanted.filter(|key| !counts.contains_key(key)).collect()
+}
+
+#[test]
+fn decks_reach_every_refusal() {
+    let mut counts = BTreeMap::new();
+    for (name, kind) in Kind::ALL {
+        let random = &mut Random::new(20);
+        let rounds = if kind == Kind::Longest { 20 } else { 500 };
+        for round in 0..rounds {
+            let line = check_line(&deck(kind, random, Size::FULL));
+            if matches!(kind, Kind::Valid | Kind::Rich) {
+                assert!(line.starts_with("passed"), "{name} {round}: {line}");
+            }
+            count(&mut counts, &line);
+        }
+    }
+    assert_eq!(missing(&counts, &["passed"], 1..=8), Vec::<String>::new(), "{counts:?}");
+}
+
+#[test]
+fn damage_reaches_every_kind_of_field() {
+    let random = &mut Random::new(21);
+    let mut faults = HashSet::new();
+    for _ in 0..8000 {
+        let whole = rich(random, Size { channels: 6, rules: 6, parts: 4, expression: 12 }).encode();
+        let mut damaged = whole.clone();
+        damage(random, &mut damaged);
+        let Err(refusal) = Deck::read(&damaged.bytes) else { continue };
+        let at = refusal.place as usize;
+        // Up to the fault the bytes are those of the whole deck, and so are the fields.
+        if whole.bytes.get(..at) == damaged.bytes.get(..at) {
+            let field = whole.fields.iter().find(|&&(start, _)| start == at);
+            faults.insert((refusal.number, field.map(|&(_, field)| field)));
+        }
+    }
+    use Field::{
+        ActionCount, CarriedCount, CarriedRule, ChannelCount, Event, EventCount, Expression, ExpressionLength,
+    };
+    use Field::{Label, OpeningValue, PartCount, RuleCount, Target};
+    let listed = [ChannelCount, Label, RuleCount, EventCount, Event, ActionCount, Target, ExpressionLength];
+    let others = [Field::Kind, PartCount, CarriedCount, CarriedRule];
+    for field in listed.into_iter().chain(others) {
+        assert!(faults.contains(&(2, Some(field))), "no fault 2 at {field:?}");
+        assert!(faults.contains(&(1, Some(field))), "no fault 1 at {field:?}");
+    }
+    for fault in
+        [(1, Some(Expression)), (1, Some(OpeningValue)), (3, Some(Expression)), (4, Some(Target)), (5, None)]
+    {
+        assert!(faults.contains(&fault), "no fault {fault:?}");
+    }
+}
+
+#[test]
+fn scripts_reach_every_answer() {
+    let mut counts = BTreeMap::new();
+    for (_, kind) in Kind::ALL.into_iter().filter(|&(_, kind)| kind != Kind::Longest) {
+        let random = &mut Random::new(22);
+        for _ in 0..60 {
+            let deck = deck(kind, random, Size::FULL);
+            let text = script(random, &deck, 30);
+            count(&mut counts, &replay(&deck, text.as_bytes()));
+        }
+    }
+    let words = ["added", "applied", "discarded", "settled", "spent", "section", "started", "unreadable"];
+    assert_eq!(missing(&counts, &words, 1..=16), Vec::<String>::new(), "{counts:?}");
+}
+
+#[test]
+fn the_same_seed_gives_the_same() {
+    for (_, kind) in Kind::ALL {
+        let make = || {
+            let random = &mut Random::new(23);
+            let deck = deck(kind, random, Size::FULL);
+            let text = script(random, &deck, 10);
+            (deck, text)
+        };
+        assert_eq!(make(), make());
+    }
+}
+
+#[test]
+fn cases_reach_every_refusal() {
+    for seed in [0, 1, 2] {
+        let cases = cases::generate(seed, 300, &cases::Size::SMALL);
+        let numbers: BTreeSet<u32> =
+            cases.iter().flat_map(Case::refusals).map(|refusal| refusal.number).collect();
+        assert_eq!(numbers, (1..=16).collect());
+        let mut applied = 0;
+        for case in &cases {
+            assert_case(case);
+            if let Case::Run { answers, .. } = case {
+                applied += answers.iter().filter(|answer| matches!(answer, Answer::Committed(_))).count();
+            }
+        }
+        assert!(applied > 50, "{applied}");
+    }
+}
+
+/// A case keeps its size, and a refusal changes nothing.
+fn assert_case(case: &Case) {
+    match case {
+        Case::Start { pool_before, answer, state, pool_after, .. } => match answer {
+            Ok(()) => assert!(pool_after.iter().all(|&number| number == 0)),
+            Err(_) => assert_eq!((pool_before, state), (pool_after, &State::ZERO)),
+        },
+        Case::Run { pool_length, calls, answers, pool, .. } => {
+            assert!(calls.len() == answers.len() && calls.len() <= 12);
+            assert!(pool.len() == *pool_length && *pool_length <= 121);
+        }
+        Case::Memory { state_before, pool_before, answer, state_after, pool_after, .. } => {
+            if matches!(answer, Answer::Refused(_)) {
+                assert_eq!((state_before, pool_before), (state_after, pool_after));
+            }
+        }
+        Case::Check { deck, line } => assert_eq!(check_line(deck), *line),
+        Case::Section { deck, number, answer } => assert_eq!(section(deck, *number), *answer),
+    }
+}
+
+#[test]
+fn no_content_makes_a_call_panic() {
+    let random = &mut Random::new(24);
+    let edge = |random: &mut Random| {
+        let any = random.bits() as i32;
+        random.pick(&[0, 0, 1, 2, -1, 255, 256, 65_536, i32::MIN, i32::MAX, any])
+    };
+    for _ in 0..3000 {
+        let kind = random.pick(&[Kind::Rich, Kind::Valid, Kind::Damaged, Kind::Noise]);
+        let deck = deck(kind, random, Size { channels: 32, rules: 6, parts: 16, expression: 12 });
+        let mut state = State::ZERO;
+        state.values.iter_mut().for_each(|value| *value = edge(random));
+        state.pending = edge(random) as u32;
+        let length = random.pick(&[0, 1, 10, 25, 100]);
+        let mut pool: Vec<i32> = (0..length).map(|_| edge(random)).collect();
+        let pairs: Vec<i32> = (0..random.below(9)).map(|_| edge(random)).collect();
+        let number = edge(random) as u32;
+        let before = (state.clone(), pool.clone());
+        let refused = input(&deck, &mut pool, &mut state, number, &pairs).is_err()
+            && commit(&deck, &mut pool, &mut state, number).is_err()
+            && settle(&deck, &mut pool, &mut state, number).is_err();
+        assert!(!refused || before == (state, pool.clone()));
+        let _ = (start(&deck, &mut pool), section(&deck, number));
+    }
+}
