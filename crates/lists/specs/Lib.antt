@@ -1,2 +1,3 @@
 -- Helpers on lists and numbers that several layers use.
 pub mod Lists
+pub mod Laws

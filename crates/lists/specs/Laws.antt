@@ -1,0 +1,8 @@
+-- Laws of the helpers on lists, by subject.
+pub mod Booleans
+pub mod Members
+pub mod Filters
+pub mod Lengths
+pub mod Below
+pub mod Sums
+pub mod FlatMaps

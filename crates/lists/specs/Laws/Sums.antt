@@ -1,0 +1,79 @@
+-- Laws of `sum` and `largest`. Assumes nothing.
+use Prim.Native.Nat.{ℕ, _+_, _≤_, max, zero-le}
+use mathlib.Core.Path.{_≡_, refl, sym, ap, ap₂, _∙_}
+use mathlib.Core.Logic.{_↔_, ⊎-elim}
+use mathlib.Core.Bool.{Bool, true, false}
+use mathlib.Core.List.{List, [], _∷_, _++_, map}
+use native.Mathlib.Nat.{add-le-add, zero-add, add-assoc}
+use native.Mathlib.Omega.{arith}
+use Rattle.lists.specs.Lists.{lists, keep, filter, flatMap, sum, largest, member}
+use Rattle.lists.specs.Laws.Booleans.{contradiction}
+use Rattle.lists.specs.Laws.Members.{member-empty, member-head, member-tail, member-cases}
+use Rattle.lists.specs.Laws.Lengths.{Implies, implies-tail}
+
+pub sum-append : {A : Type 0} (f : A → ℕ) (l m : List A) → sum f (l ++ m) ≡ sum f l + sum f m
+unfolding sum
+sum-append f [] m = sym (zero-add (sum f m))
+sum-append f (x ∷ l) m = ap (λ n. f x + n) (sum-append f l m) ∙ sym (add-assoc (f x) (sum f l) (sum f m))
+
+pub sum-cong : (f g : ℕ → ℕ) (l : List ℕ) → ((x : ℕ) → member x l ≡ true → f x ≡ g x) → sum f l ≡ sum g l
+unfolding sum
+sum-cong f g [] h = refl
+sum-cong f g (x ∷ l) h = ap₂ _+_ (h x (member-head x l)) (sum-cong f g l (λ y m. h y (member-tail y x l m)))
+
+pub sum-mono : (f g : ℕ → ℕ) (l : List ℕ) → ((x : ℕ) → member x l ≡ true → f x ≤ g x) → sum f l ≤ sum g l
+unfolding sum
+sum-mono f g [] h = zero-le
+sum-mono f g (x ∷ l) h = add-le-add (h x (member-head x l)) (sum-mono f g l (λ y m. h y (member-tail y x l m)))
+
+-- one element is at most the whole
+pub sum-member : (f : ℕ → ℕ) (l : List ℕ) (x : ℕ) → member x l ≡ true → f x ≤ sum f l
+unfolding sum
+sum-member f [] x m = member-empty x m
+sum-member f (y ∷ l) x m =
+    ⊎-elim (λ e. omega (arith, ap f e)) (λ q. omega (arith, sum-member f l x q)) (member-cases x y l m)
+
+-- the more pass, the larger the sum
+pub sum-filter : (f g : ℕ → Bool) (h : ℕ → ℕ) (l : List ℕ) → Implies l f g → sum h (filter f l) ≤ sum h (filter g l)
+unfolding lists
+sum-filter f g h [] i = zero-le
+sum-filter f g h (x ∷ l) i = go (f x) (g x) (i x (member-head x l)) (sum-filter f g h l (implies-tail x l f g i))
+  where
+    go : (b c : Bool) → (b ≡ true → c ≡ true) → sum h (filter f l) ≤ sum h (filter g l)
+        → sum h (keep b x (filter f l)) ≤ sum h (keep c x (filter g l))
+    go true true j le = omega arith
+    go true false j le = contradiction (j refl) refl
+    go false true j le = omega arith
+    go false false j le = le
+
+-- the largest is at most b exactly if every element is
+below-bound : (f : ℕ → ℕ) (l : List ℕ) (b : ℕ) → ((x : ℕ) → member x l ≡ true → f x ≤ b) → largest f l ≤ b
+unfolding largest
+below-bound f [] b h = zero-le
+below-bound f (x ∷ l) b h = omega (arith, h x (member-head x l), below-bound f l b (λ y m. h y (member-tail y x l m)))
+
+pub largest-member : (f : ℕ → ℕ) (l : List ℕ) (x : ℕ) → member x l ≡ true → f x ≤ largest f l
+unfolding largest
+largest-member f [] x m = member-empty x m
+largest-member f (y ∷ l) x m =
+    ⊎-elim (λ e. omega (arith, ap f e)) (λ q. omega (arith, largest-member f l x q)) (member-cases x y l m)
+
+pub largest-bound : (f : ℕ → ℕ) (l : List ℕ) (b : ℕ) → (largest f l ≤ b) ↔ ((x : ℕ) → member x l ≡ true → f x ≤ b)
+largest-bound f l b = (λ h x m. omega (arith, largest-member f l x m), below-bound f l b)
+
+-- over a map, and over lists one behind the other
+pub largest-map : {A B : Type 0} (f : B → ℕ) (g : A → B) (l : List A) → largest f (map g l) ≡ largest (λ x. f (g x)) l
+unfolding largest
+largest-map f g [] = refl
+largest-map f g (x ∷ l) = ap (max (f (g x))) (largest-map f g l)
+
+pub largest-append : {A : Type 0} (f : A → ℕ) (l m : List A) → largest f (l ++ m) ≡ max (largest f l) (largest f m)
+unfolding largest
+largest-append f [] m = omega arith
+largest-append f (x ∷ l) m = omega (arith, largest-append f l m)
+
+pub largest-flatMap : {A B : Type 0} (f : B → ℕ) (g : A → List B) (l : List A)
+    → largest f (flatMap g l) ≡ largest (λ x. largest f (g x)) l
+unfolding lists
+largest-flatMap f g [] = refl
+largest-flatMap f g (x ∷ l) = largest-append f (g x) (flatMap g l) ∙ ap (max (largest f (g x))) (largest-flatMap f g l)
