@@ -1,3 +1,4 @@
 -- Document 01, "Dependency graph and charge": the graph, and the channels that can reach themselves (7).
 pub mod Graph
 pub mod Cases
+pub mod Laws

@@ -1,0 +1,4 @@
+-- Laws of the dependency graph: what is computed is what the edges lead to.
+pub mod Reach
+pub mod Edges
+pub mod Cycles
