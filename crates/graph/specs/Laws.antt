@@ -1,4 +1,5 @@
 -- Laws of the dependency graph: what is computed is what the edges lead to.
+pub mod Rounds
 pub mod Reach
 pub mod Edges
 pub mod Cycles

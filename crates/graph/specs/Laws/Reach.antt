@@ -1,70 +1,36 @@
 -- The rounds of `reached` give every channel that a path leads to, and only those; n rounds are enough. Assumes nothing.
 use Prim.Native.Nat.{ℕ, zero, suc, _≤_, _<_, zero-le}
-use mathlib.Core.Path.{_≡_, refl, sym, ap, _∙_}
+use mathlib.Core.Path.{_≡_, refl, ap}
 use mathlib.Core.Logic.{_↔_, _⊎_, inl, inr, ⊎-elim}
-use mathlib.Core.Bool.{Bool, true, false, false≢true}
+use mathlib.Core.Bool.{Bool, true, false}
 use mathlib.Core.List.{_∷_}
 use native.Mathlib.Omega.{arith}
 use native.Mathlib.Decide.{decLt}
 use lib.ListN.{length}
-use Rattle.lists.specs.Lists.{any, filter, below, member}
+use Rattle.lists.specs.Lists.{below, member}
 use Rattle.lists.specs.Laws.Booleans.{not-true→false, contradiction}
-use Rattle.lists.specs.Laws.Members.{within-cons, member-head, member-tail, member-cases, any-found, any-intro, any-within}
-use Rattle.lists.specs.Laws.Filters.{filter-member, filter-none}
+use Rattle.lists.specs.Laws.Members.{within-cons, member-head, member-tail, any-intro, any-within}
 use Rattle.lists.specs.Laws.Lengths.{filter-length, filter-strict, filter-same, filter-short}
 use Rattle.lists.specs.Laws.Below.{below-length, below-member}
 use Rattle.graph.specs.Graph.{Reaches, one, more, reached, reachesItself}
+use Rattle.graph.specs.Laws.Rounds.{passes, reached-is, in-round, last-edge, passes-again}
 
 pub reaches-trans : {e : ℕ → ℕ → Bool} {a b c : ℕ} → Reaches e a b → Reaches e b c → Reaches e a c
 reaches-trans p (one h) = more p h
 reaches-trans p (more q h) = more (reaches-trans p q) h
 
 module _ (n : ℕ) (e : ℕ → ℕ → Bool) where
-  -- the test that round k keeps a channel by
-  passes : ℕ → ℕ → ℕ → Bool
-  passes zero a c = false
-  passes (suc k) a c = any (λ b. e b c) (a ∷ reached n e k a)
-
-  reached-is : (k a : ℕ) → reached n e k a ≡ filter (passes k a) (below n)
-  unfolding reached passes
-  reached-is zero a = sym (filter-none (λ _. false) (below n) .1 (λ _ _. refl))
-  reached-is (suc k) a = refl
-
-  in-round : (k a b : ℕ) → (member b (reached n e k a) ≡ true) ↔ ((member b (below n) ≡ true) × (passes k a b ≡ true))
-  in-round k a b = rw (reached-is k a) (filter-member (passes k a) (below n) b)
-
-  -- the last edge of a path that a round found
-  last-edge : (k a c : ℕ) → passes (suc k) a c ≡ true
-      → (e a c ≡ true) ⊎ ((b : ℕ) × (member b (reached n e k a) ≡ true) × (e b c ≡ true))
-  unfolding passes
-  last-edge k a c t =
-      let found = any-found (λ b. e b c) (a ∷ reached n e k a) t in
-      ⊎-elim
-      (λ h. inl (ap (λ b. e b c) (sym h) ∙ found .2))
-      (λ h. inr (found .0, h, found .2))
-      (member-cases (found .0) a (reached n e k a) (found .1))
-
   pub reached-sound : (k a b : ℕ) → member b (reached n e k a) ≡ true → Reaches e a b
   unfolding passes
-  reached-sound zero a b m = contradiction (in-round zero a b .0 m .1) refl
+  reached-sound zero a b m = contradiction (in-round n e zero a b .0 m .1) refl
   reached-sound (suc k) a b m =
       ⊎-elim
       (λ h. one h)
       (λ h. more (reached-sound k a (h .0) (h .1)) (h .2))
-      (last-edge k a b (in-round (suc k) a b .0 m .1))
-
-  -- a round keeps what the one before it found
-  passes-again : (k a c : ℕ) → passes k a c ≡ true → passes (suc k) a c ≡ true
-  unfolding passes
-  passes-again zero a c t = absurd (false≢true t)
-  passes-again (suc k) a c t =
-      any-within (λ b. e b c) (a ∷ reached n e k a) (a ∷ reached n e (suc k) a)
-      (within-cons a (reached n e k a) (reached n e (suc k) a)
-      (λ b m. let h = in-round k a b .0 m in in-round (suc k) a b .1 (h .0, passes-again k a b (h .1))))
-      t
+      (last-edge n e k a b (in-round n e (suc k) a b .0 m .1))
 
   reached-most : (k a : ℕ) → length (reached n e k a) ≤ n
-  reached-most k a = omega (arith, ap length (reached-is k a), filter-length (passes k a) (below n), below-length n)
+  reached-most k a = omega (arith, ap length (reached-is n e k a), filter-length (passes n e k a) (below n), below-length n)
 
   -- how many channels a path leads to from a
   unfoldable pub height : ℕ → ℕ
@@ -76,35 +42,35 @@ module _ (n : ℕ) (e : ℕ → ℕ → Bool) where
 
   -- round k + 1 finds nothing new
   Closed : ℕ → ℕ → Type 0
-  Closed k a = (b : ℕ) → passes (suc k) a b ≡ true → member b (reached n e k a) ≡ true
+  Closed k a = (b : ℕ) → passes n e (suc k) a b ≡ true → member b (reached n e k a) ≡ true
 
   -- edges lead to channels below n
   module _ (inside : (a b : ℕ) → e a b ≡ true → b < n) where
-    passes-below : (k a b : ℕ) → passes (suc k) a b ≡ true → member b (below n) ≡ true
+    passes-below : (k a b : ℕ) → passes n e (suc k) a b ≡ true → member b (below n) ≡ true
     passes-below k a b t =
         ⊎-elim
         (λ h. below-member n b .0 (inside a b h))
         (λ h. below-member n b .0 (inside (h .0) b (h .2)))
-        (last-edge k a b t)
+        (last-edge n e k a b t)
 
     -- no longer, so nothing new
     not-longer : (k a : ℕ) → length (reached n e (suc k) a) ≤ length (reached n e k a) → Closed k a
     unfolding Closed
     not-longer k a h b t =
         let m = passes-below k a b t in
-        in-round k a b .1 (
+        in-round n e k a b .1 (
           m,
-          filter-same (passes k a) (passes (suc k) a) (below n) (λ c _. passes-again k a c)
-              (omega (arith, ap length (reached-is k a), ap length (reached-is (suc k) a))) b m t,
+          filter-same (passes n e k a) (passes n e (suc k) a) (below n) (λ c _. passes-again n e k a c)
+              (omega (arith, ap length (reached-is n e k a), ap length (reached-is n e (suc k) a))) b m t,
         )
 
     closed-stays : (k a : ℕ) → Closed k a → Closed (suc k) a
     unfolding Closed passes
     closed-stays k a h b t =
-        in-round (suc k) a b .1 (
+        in-round n e (suc k) a b .1 (
           passes-below (suc k) a b t,
           any-within (λ c. e c b) (a ∷ reached n e (suc k) a) (a ∷ reached n e k a)
-              (within-cons a (reached n e (suc k) a) (reached n e k a) (λ c m. h c (in-round (suc k) a c .0 m .1)))
+              (within-cons a (reached n e (suc k) a) (reached n e k a) (λ c m. h c (in-round n e (suc k) a c .0 m .1)))
               t,
         )
 
@@ -138,18 +104,18 @@ module _ (n : ℕ) (e : ℕ → ℕ → Bool) where
     reaches-itself a = (reached-sound n a a, λ p. reached-complete p)
 
     module _ (acyclic : (a : ℕ) → Reaches e a a → ⊥) where
-      not-itself : (a : ℕ) → a < n → passes n a a ≡ false
+      not-itself : (a : ℕ) → a < n → passes n e n a a ≡ false
       not-itself a l =
-          not-true→false (passes n a a)
-          (λ t. acyclic a (reached-sound n a a (in-round n a a .1 (below-member n a .0 l, t))))
+          not-true→false (passes n e n a a)
+          (λ t. acyclic a (reached-sound n a a (in-round n e n a a .1 (below-member n a .0 l, t))))
 
       pub height-less : (a : ℕ) → a < n → height a < n
       unfolding height
       height-less a l =
           omega (
             arith,
-            ap length (reached-is n a),
-            filter-short (passes n a) (below n) a (below-member n a .0 l) (not-itself a l),
+            ap length (reached-is n e n a),
+            filter-short (passes n e n a) (below n) a (below-member n a .0 l) (not-itself a l),
             below-length n,
           )
 
@@ -159,15 +125,15 @@ module _ (n : ℕ) (e : ℕ → ℕ → Bool) where
       height-falls {a} {b} h =
           omega (
             arith,
-            ap length (reached-is n a),
-            ap length (reached-is n b),
-            filter-strict (passes n b) (passes n a) (below n) b further
+            ap length (reached-is n e n a),
+            ap length (reached-is n e n b),
+            filter-strict (passes n e n b) (passes n e n a) (below n) b further
                 (below-member n b .0 (inside a b h))
                 (not-itself b (inside a b h))
-                (in-round n a b .0 (reached-complete (one h)) .1),
+                (in-round n e n a b .0 (reached-complete (one h)) .1),
           )
         where
-          further : (c : ℕ) → member c (below n) ≡ true → passes n b c ≡ true → passes n a c ≡ true
+          further : (c : ℕ) → member c (below n) ≡ true → passes n e n b c ≡ true → passes n e n a c ≡ true
           further c m t =
-              let p = reached-sound n b c (in-round n b c .1 (m, t)) in
-              in-round n a c .0 (reached-complete (reaches-trans (one h) p)) .1
+              let p = reached-sound n b c (in-round n e n b c .1 (m, t)) in
+              in-round n e n a c .0 (reached-complete (reaches-trans (one h) p)) .1

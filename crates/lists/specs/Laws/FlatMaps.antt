@@ -3,7 +3,7 @@ use Prim.Native.Nat.{ℕ, zero, suc, _+_, _≤_, _<_}
 use mathlib.Core.Path.{_≡_, refl, sym, ap, ap₂, _∙_}
 use mathlib.Core.Logic.{_↔_, ⊎-elim}
 use mathlib.Core.Bool.{Bool, true, false}
-use mathlib.Core.List.{List, [], _∷_, _++_, map, nil≢cons, cons≢nil, head-eq-of-cons-eq}
+use mathlib.Core.List.{List, [], _∷_, _++_, map, nil≢cons, head-eq-of-cons-eq, map-append, append-eq-nil-iff}
 use native.Mathlib.Nat.{eq-or-lt-of-le}
 use native.Mathlib.Omega.{arith}
 use Rattle.lists.specs.Lists.{lists, keep, filter, flatMap, from, below, member}
@@ -19,10 +19,6 @@ filter-append {A} f (x ∷ l) m = go (f x) (filter-append f l m)
     go true e = ap (λ n. x ∷ n) e
     go false e = e
 
-map-append : {A B : Type 0} (f : A → B) (l m : List A) → map f (l ++ m) ≡ map f l ++ map f m
-map-append f [] m = refl
-map-append f (x ∷ l) m = ap (λ n. f x ∷ n) (map-append f l m)
-
 pub filter-flatMap : {A B : Type 0} (f : B → Bool) (g : A → List B) (l : List A)
     → filter f (flatMap g l) ≡ flatMap (λ x. filter f (g x)) l
 unfolding lists
@@ -35,16 +31,12 @@ unfolding lists
 map-flatMap f g [] = refl
 map-flatMap f g (x ∷ l) = map-append f (g x) (flatMap g l) ∙ ap (λ n. map f (g x) ++ n) (map-flatMap f g l)
 
-append-empty : {A : Type 0} (l m : List A) → l ++ m ≡ [] → (l ≡ []) × (m ≡ [])
-append-empty [] m e = (refl, e)
-append-empty (x ∷ l) m e = absurd (cons≢nil e)
-
 module _ {A : Type 0} (f : ℕ → List A) where
   all-empty : (l : List ℕ) → flatMap f l ≡ [] → (x : ℕ) → member x l ≡ true → f x ≡ []
   unfolding flatMap
   all-empty [] e x m = member-empty x m
   all-empty (y ∷ l) e x m =
-      let both = append-empty (f y) (flatMap f l) e in
+      let both = append-eq-nil-iff .0 e in
       ⊎-elim (λ h. ap f h ∙ both .0) (λ h. all-empty l (both .1) x h) (member-cases x y l m)
 
   empty-all : (l : List ℕ) → ((x : ℕ) → member x l ≡ true → f x ≡ []) → flatMap f l ≡ []

@@ -1,13 +1,13 @@
--- Laws of `member` and `any`: a test holds for some element exactly if there is a member that passes it. Assumes nothing.
+-- Laws of `member`, `any` and `all`: a test of a list as a statement on its members. Assumes nothing.
 use Prim.Native.Nat.{ℕ}
 use mathlib.Core.Path.{_≡_, refl, sym, ap, _∙_}
-use mathlib.Core.Logic.{_⊎_, inl, inr, ⊎-elim}
-use mathlib.Core.Bool.{Bool, true, false, false≢true}
+use mathlib.Core.Logic.{_↔_, _⊎_, inl, inr, ⊎-elim}
+use mathlib.Core.Bool.{Bool, true, false≢true}
 use mathlib.Core.List.{List, [], _∷_}
 use lib.Dec.{eqb}
 use borrow.Author.Tests.{eqb-true, eq-eqb}
-use Rattle.lists.specs.Lists.{lists, any, member}
-use Rattle.lists.specs.Laws.Booleans.{or-left, or-right, or-cases, contradiction, not-true→false}
+use Rattle.lists.specs.Lists.{lists, all, any, member}
+use Rattle.lists.specs.Laws.Booleans.{or-left, or-right, or-cases, and-both, and-left, and-right}
 
 pub member-empty : {A : Type 0} (x : ℕ) → member x [] ≡ true → A
 unfolding lists
@@ -48,8 +48,23 @@ any-intro f [] x m t = member-empty x m
 any-intro f (y ∷ l) x m t =
     ⊎-elim (λ e. or-left (any f l) (ap f (sym e) ∙ t)) (λ q. or-right (f y) (any-intro f l x q t)) (member-cases x y l m)
 
-pub any-none : (f : ℕ → Bool) (l : List ℕ) → ((x : ℕ) → member x l ≡ true → f x ≡ false) → any f l ≡ false
-any-none f l h = not-true→false (any f l) λ t. let found = any-found f l t in contradiction (found .2) (h (found .0) (found .1))
-
 pub any-within : (f : ℕ → Bool) (l m : List ℕ) → Within l m → any f l ≡ true → any f m ≡ true
 any-within f l m h t = let found = any-found f l t in any-intro f m (found .0) (h (found .0) (found .1)) (found .2)
+
+-- a test holds for every element exactly if every member passes it
+every : (f : ℕ → Bool) (l : List ℕ) → all f l ≡ true → (x : ℕ) → member x l ≡ true → f x ≡ true
+unfolding all
+every f [] h x m = member-empty x m
+every f (y ∷ l) h x m =
+    ⊎-elim
+    (λ e. ap f e ∙ and-left (f y) (all f l) h)
+    (λ q. every f l (and-right (f y) (all f l) h) x q)
+    (member-cases x y l m)
+
+all-intro : (f : ℕ → Bool) (l : List ℕ) → ((x : ℕ) → member x l ≡ true → f x ≡ true) → all f l ≡ true
+unfolding all
+all-intro f [] h = refl
+all-intro f (y ∷ l) h = and-both (h y (member-head y l)) (all-intro f l (λ x m. h x (member-tail x y l m)))
+
+pub all-member : (f : ℕ → Bool) (l : List ℕ) → (all f l ≡ true) ↔ ((x : ℕ) → member x l ≡ true → f x ≡ true)
+all-member f l = (every f l, all-intro f l)

@@ -26,13 +26,6 @@ unfolding sum
 sum-mono f g [] h = zero-le
 sum-mono f g (x ∷ l) h = add-le-add (h x (member-head x l)) (sum-mono f g l (λ y m. h y (member-tail y x l m)))
 
--- one element is at most the whole
-pub sum-member : (f : ℕ → ℕ) (l : List ℕ) (x : ℕ) → member x l ≡ true → f x ≤ sum f l
-unfolding sum
-sum-member f [] x m = member-empty x m
-sum-member f (y ∷ l) x m =
-    ⊎-elim (λ e. omega (arith, ap f e)) (λ q. omega (arith, sum-member f l x q)) (member-cases x y l m)
-
 -- the more pass, the larger the sum
 pub sum-filter : (f g : ℕ → Bool) (h : ℕ → ℕ) (l : List ℕ) → Implies l f g → sum h (filter f l) ≤ sum h (filter g l)
 unfolding lists

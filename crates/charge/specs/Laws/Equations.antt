@@ -1,0 +1,128 @@
+-- "On an acyclic deck the charge of an update and the charge of a rule are defined from each other": the depth is enough,
+-- and the document's two equations hold. Assumes nothing.
+use Prim.Native.Nat.{ℕ, zero, suc, _+_, _*_, _≤_, _<_}
+use mathlib.Core.Path.{_≡_, refl, sym, ap, ap₂, _∙_}
+use mathlib.Core.Logic.{⊎-elim}
+use mathlib.Core.Bool.{Bool, true, false, not, cond}
+use mathlib.Core.List.{List, [], _∷_}
+use native.Mathlib.Omega.{arith}
+use lib.Dec.{eqb}
+use Rattle.lists.specs.Lists.{sum, below, member}
+use Rattle.lists.specs.Laws.Booleans.{or-left, or-right}
+use Rattle.lists.specs.Laws.Members.{member-empty, member-cases}
+use Rattle.lists.specs.Laws.Filters.{filter-member}
+use Rattle.lists.specs.Laws.Below.{below-member}
+use Rattle.lists.specs.Laws.Sums.{sum-cong}
+use Rattle.deck.specs.Deck.{Deck, R, N, ruleAt, targets, active}
+use Rattle.graph.specs.Graph.{assigns, edge}
+use Rattle.graph.specs.Laws.Reach.{height, height-most, height-less, height-falls}
+use Rattle.graph.specs.Laws.Edges.{carried-intro, edge-intro}
+use Rattle.graph.specs.Laws.Cycles.{KnownTargets, Acyclic, edge-inside}
+use Rattle.charge.specs.Charge.{others, receivers, unlessEmpty, updateBy, ruleBy, depth, updateCharge, ruleCharge}
+use Rattle.charge.specs.Laws.Active.{active-member}
+
+module _ (d : Deck) where
+  -- a rule's two updates
+  abbrev defaults : ℕ → List ℕ
+  defaults r = targets (ruleAt d r .default)
+
+  abbrev actions : ℕ → List ℕ
+  actions r = targets (ruleAt d r .action)
+
+  -- one step of each definition
+  update-step : (k p : ℕ) (u : List ℕ) → updateBy (suc k) d p u ≡ 1 + sum (ruleBy k d p) (active d p u)
+  unfolding updateBy
+  update-step k p u = refl
+
+  rule-step : (k p r : ℕ) → ruleBy (suc k) d p r
+      ≡ unlessEmpty (defaults r) (updateBy k d p (defaults r))
+      + sum (λ q. unlessEmpty (actions r) (updateBy k d q (actions r))) (receivers d p r)
+  unfolding updateBy
+  rule-step k p r = refl
+
+  deep : depth d ≡ suc (2 * R d + 2)
+  unfolding depth
+  deep = omega arith
+
+  pub update-at-least-one : (p : ℕ) (u : List ℕ) → 1 ≤ updateCharge d p u
+  unfolding updateCharge
+  update-at-least-one p u = rw (deep, update-step (2 * R d + 2) p u) (omega arith)
+
+  -- a rule's action goes to parts of the deck
+  receivers-inside : (p q r : ℕ) → p < N d → member q (receivers d p r) ≡ true → q < N d
+  unfolding receivers others
+  receivers-inside p q r l m = go (ruleAt d r .everywhere) m
+    where
+      go : (b : Bool) → member q (cond b (others d p) (p ∷ [])) ≡ true → q < N d
+      go true m = below-member (N d) q .1 (filter-member (λ q. not (eqb q p)) (below (N d)) q .0 m .0)
+      go false m = ⊎-elim (λ e. omega arith) (λ h. member-empty q h) (member-cases q p [] m)
+
+module _ {d : Deck} (known : KnownTargets d) (acyclic : Acyclic d) where
+  -- every channel of u leads to less than m channels; every channel that rule r assigns does
+  Low : ℕ → List ℕ → Type 0
+  Low m u = (c : ℕ) → member c u ≡ true → height (R d) (edge d) c < m
+
+  LowRule : ℕ → ℕ → Type 0
+  LowRule m r = (c : ℕ) → assigns d r c ≡ true → height (R d) (edge d) c < m
+
+  low-defaults : (m r : ℕ) → LowRule m r → Low m (defaults d r)
+  unfolding Low LowRule assigns
+  low-defaults m r h c t = h c (or-left (member c (actions d r)) t)
+
+  low-actions : (m r : ℕ) → LowRule m r → Low m (actions d r)
+  unfolding Low LowRule assigns
+  low-actions m r h c t = h c (or-right (member c (defaults d r)) t)
+
+  -- an active rule assigns lower channels than some channel of the update
+  low-active : (m p r : ℕ) (u : List ℕ) → p < N d → Low m u → member r (active d p u) ≡ true
+      → (k : ℕ) × (k < m) × LowRule k r
+  unfolding Low LowRule
+  low-active m p r u l h a =
+      let found = active-member d p u r .0 a in
+      let c = found .2 .0 in
+      let carried = carried-intro d p r l (found .1) in (
+        height (R d) (edge d) c,
+        h c (found .2 .1),
+        λ b t.
+            height-falls (R d) (edge d) (edge-inside known) acyclic
+            (edge-intro d r c b (found .0) carried (found .2 .2) t),
+      )
+
+  mutual
+    update-stable : (k m p : ℕ) (u : List ℕ) → p < N d → Low m u → 2 * m < k → updateBy k d p u ≡ updateBy (suc k) d p u
+    update-stable zero m p u l h e = absurd (omega arith)
+    update-stable (suc k) m p u l h e =
+        update-step d k p u
+        ∙ ap (λ x. 1 + x)
+        (sum-cong (ruleBy k d p) (ruleBy (suc k) d p) (active d p u)
+        (λ r a. let low = low-active m p r u l h a in rule-stable k (low .0) p r l (low .2) (omega (arith, low .1))))
+        ∙ sym (update-step d (suc k) p u)
+
+    rule-stable : (k m p r : ℕ) → p < N d → LowRule m r → 2 * m + 1 < k → ruleBy k d p r ≡ ruleBy (suc k) d p r
+    rule-stable zero m p r l h e = absurd (omega arith)
+    rule-stable (suc k) m p r l h e =
+        rule-step d k p r
+        ∙ ap₂ _+_
+        (ap (unlessEmpty (defaults d r)) (update-stable k m p (defaults d r) l (low-defaults m r h) (omega arith)))
+        (sum-cong _ _ (receivers d p r)
+        (λ q z.
+        ap (unlessEmpty (actions d r))
+        (update-stable k m q (actions d r) (receivers-inside d p q r l z) (low-actions m r h) (omega arith))))
+        ∙ sym (rule-step d (suc k) p r)
+
+  pub charge-of-update : (p : ℕ) (u : List ℕ) → p < N d
+      → updateCharge d p u ≡ 1 + sum (ruleCharge d p) (active d p u)
+  unfolding updateCharge ruleCharge Low depth
+  charge-of-update p u l =
+      update-stable (depth d) (suc (R d)) p u l (λ c _. omega (arith, height-most (R d) (edge d) c)) (omega arith)
+      ∙ update-step d (depth d) p u
+
+  pub charge-of-rule : (p r : ℕ) → p < N d → ruleCharge d p r
+      ≡ unlessEmpty (targets (ruleAt d r .default)) (updateCharge d p (targets (ruleAt d r .default)))
+      + sum (λ q. unlessEmpty (targets (ruleAt d r .action)) (updateCharge d q (targets (ruleAt d r .action))))
+      (receivers d p r)
+  unfolding updateCharge ruleCharge LowRule depth
+  charge-of-rule p r l =
+      rule-stable (depth d) (R d) p r l
+      (λ c t. height-less (R d) (edge d) (edge-inside known) acyclic c (known .known r c t)) (omega arith)
+      ∙ rule-step d (depth d) p r
