@@ -4,4 +4,5 @@ pub mod Deck
 pub mod Reader
 pub mod Layout
 pub mod Encoding
+pub mod Laws
 pub mod Cases

@@ -4,4 +4,5 @@ pub mod Firing
 pub mod Calls
 pub mod Answers
 pub mod Line
+pub mod Laws
 pub mod Cases

@@ -3,3 +3,4 @@ pub mod Rounds
 pub mod Reach
 pub mod Edges
 pub mod Cycles
+pub mod Targets

@@ -6,3 +6,5 @@ pub mod Lengths
 pub mod Below
 pub mod Sums
 pub mod FlatMaps
+pub mod Alls
+pub mod Equalities

@@ -2,4 +2,5 @@
 pub mod Updates
 pub mod Places
 pub mod States
+pub mod Laws
 pub mod Cases

@@ -1,0 +1,2 @@
+-- Laws of decks.
+pub mod Formed

@@ -1,0 +1,4 @@
+-- Laws of the firing, the commits and the calls.
+pub mod Opening
+pub mod Firing
+pub mod Enqueue

@@ -1,0 +1,132 @@
+-- New updates written behind the pending ones: what is kept, and what is added at most. Assumes nothing.
+use Prim.Native.Nat.{ℕ, _+_, _≤_}
+use mathlib.Core.Path.{_≡_, refl, sym, _∙_, ap, ap₂, subst}
+use mathlib.Core.Bool.{Bool, true, false, not, _&&_, _||_, cond, false≢true}
+use mathlib.Core.List.{List, [], _∷_, _++_}
+use native.Mathlib.Omega.{arith}
+use lib.Dec.{eqb}
+use borrow.Author.Tests.{eqb-true, eq-eqb, not-true}
+use Rattle.lists.specs.Lists.{lists, all, any, sum, eqList}
+use Rattle.lists.specs.Laws.Booleans.{and-both, and-left, and-right, or-left, or-right, contradiction, not-true→false}
+use Rattle.lists.specs.Laws.Alls.{all-cons, all-append, all-none, all-head, all-tail}
+use Rattle.lists.specs.Laws.Equalities.{eqZ-true, eqZ-refl, eqList-true, eqList-refl}
+use Rattle.lists.specs.Laws.Sums.{sum-append}
+use Rattle.deck.specs.Deck.{Deck}
+use Rattle.charge.specs.Charge.{updateCharge}
+use Rattle.pool.specs.Updates.{Pair, Update, channels, eqPair, eqUpdate, isAmong, allDifferent, charge}
+use Rattle.engine.specs.Firing.{enqueue}
+
+-- ---- equal updates
+
+pair-true : (a b : Pair) → eqPair a b ≡ true → a ≡ b
+unfolding eqPair
+pair-true a b h =
+    let same = eqb (a .channel) (b .channel) in
+    ap₂ (λ c v. record { channel = c; value = v }) (eqb-true (a .channel) (b .channel) (and-left same _ h)) (eqZ-true (a .value) (b .value) (and-right same _ h))
+
+pair-refl : (a : Pair) → eqPair a a ≡ true
+unfolding eqPair
+pair-refl a = and-both (eq-eqb (a .channel) (a .channel) refl) (eqZ-refl (a .value))
+
+pub update-true : (u w : Update) → eqUpdate u w ≡ true → u ≡ w
+unfolding eqUpdate
+update-true u w h =
+    let same = eqb (u .part) (w .part) in
+    ap₂ (λ p l. record { part = p; pairs = l })
+    (eqb-true (u .part) (w .part) (and-left same (eqList eqPair (u .pairs) (w .pairs)) h))
+    (eqList-true eqPair pair-true (u .pairs) (w .pairs) (and-right same (eqList eqPair (u .pairs) (w .pairs)) h))
+
+pub update-refl : (u : Update) → eqUpdate u u ≡ true
+unfolding eqUpdate
+update-refl u = and-both (eq-eqb (u .part) (u .part) refl) (eqList-refl eqPair pair-refl (u .pairs))
+
+-- ---- one update more
+
+-- behind the others, unless it is among them
+abbrev pub behind : List Update → Update → List Update
+behind us u = cond (isAmong u us) us (us ++ u ∷ [])
+
+pub enqueue-more : (us new : List Update) (u : Update) → enqueue us (u ∷ new) ≡ enqueue (behind us u) new
+unfolding enqueue
+enqueue-more us new u = refl
+
+pub enqueue-none : (us : List Update) → enqueue us [] ≡ us
+unfolding enqueue
+enqueue-none us = refl
+
+among-behind : (w u : Update) (us : List Update) → isAmong w us ≡ false → eqUpdate w u ≡ false → isAmong w (us ++ u ∷ []) ≡ false
+unfolding isAmong lists
+among-behind w u [] h e = ap (λ b. b || false) e
+among-behind w u (x ∷ us) h e = go (eqUpdate w x) h (λ g. among-behind w u us g e)
+  where
+    go : (b : Bool) → (b || any (eqUpdate w) us) ≡ false → (any (eqUpdate w) us ≡ false → any (eqUpdate w) (us ++ u ∷ []) ≡ false)
+        → (b || any (eqUpdate w) (us ++ u ∷ [])) ≡ false
+    go true h more = h
+    go false h more = more h
+
+-- no first, and none later
+among-head : (u w : Update) (us : List Update) → isAmong u (w ∷ us) ≡ false → eqUpdate u w ≡ false
+unfolding isAmong lists
+among-head u w us h = not-true→false (eqUpdate u w) (λ y. contradiction (or-left (any (eqUpdate u) us) y) h)
+
+among-tail : (u w : Update) (us : List Update) → isAmong u (w ∷ us) ≡ false → isAmong u us ≡ false
+unfolding isAmong lists
+among-tail u w us h = not-true→false (any (eqUpdate u) us) (λ y. contradiction (or-right (eqUpdate u w) y) h)
+
+update-sym : (u w : Update) → eqUpdate u w ≡ false → eqUpdate w u ≡ false
+update-sym u w h =
+    not-true→false (eqUpdate w u) (λ y. contradiction (ap (λ x. eqUpdate u x) (update-true w u y) ∙ update-refl u) h)
+
+different-behind : (u : Update) (us : List Update) → allDifferent us ≡ true → isAmong u us ≡ false → allDifferent (us ++ u ∷ []) ≡ true
+unfolding allDifferent isAmong lists
+different-behind u [] h e = refl
+different-behind u (w ∷ us) h e =
+    let new = not-true (isAmong w us) (and-left (not (isAmong w us)) (allDifferent us) h) in
+    and-both (ap not (among-behind w u us new (update-sym u w (among-head u w us e))))
+    (different-behind u us (and-right (not (isAmong w us)) (allDifferent us) h) (among-tail u w us e))
+
+-- ---- all of them
+
+module _ (test : Update → Bool) where
+  pub enqueue-all : (us new : List Update) → all test us ≡ true → all test new ≡ true → all test (enqueue us new) ≡ true
+  unfolding enqueue
+  enqueue-all us [] h g = h
+  enqueue-all us (u ∷ new) h g =
+      enqueue-all (behind us u) new (more (isAmong u us)) (all-tail test u new g)
+    where
+      more : (b : Bool) → all test (cond b us (us ++ u ∷ [])) ≡ true
+      more true = h
+      more false = all-append test us (u ∷ []) h (all-cons test u [] (all-head test u new g) (all-none test))
+
+pub enqueue-different : (us new : List Update) → allDifferent us ≡ true → allDifferent (enqueue us new) ≡ true
+unfolding enqueue
+enqueue-different us [] h = h
+enqueue-different us (u ∷ new) h = enqueue-different (behind us u) new (more (isAmong u us) refl)
+  where
+    more : (b : Bool) → isAmong u us ≡ b → allDifferent (cond b us (us ++ u ∷ [])) ≡ true
+    more true e = h
+    more false e = different-behind u us h e
+
+module _ (d : Deck) where
+  -- the charge of one update
+  abbrev pub one : Update → ℕ
+  one u = updateCharge d (u .part) (channels u)
+
+  pub charge-append : (l m : List Update) → charge d (l ++ m) ≡ charge d l + charge d m
+  unfolding charge
+  charge-append l m = sum-append one l m
+
+  behind-charge : (us : List Update) (u : Update) (b : Bool) → (charge d us ≤ charge d (cond b us (us ++ u ∷ []))) × (charge d (cond b us (us ++ u ∷ [])) ≤ charge d us + one u)
+  unfolding charge lists
+  behind-charge us u true = (omega arith, omega arith)
+  behind-charge us u false = let e = sum-append one us (u ∷ []) in (omega arith, omega arith)
+
+  pub enqueue-grows : (us new : List Update) → charge d us ≤ charge d (enqueue us new)
+  unfolding enqueue
+  enqueue-grows us [] = omega arith
+  enqueue-grows us (u ∷ new) = omega (arith, behind-charge us u (isAmong u us) .0, enqueue-grows (behind us u) new)
+
+  pub enqueue-most : (us new : List Update) → charge d (enqueue us new) ≤ charge d us + charge d new
+  unfolding enqueue charge lists
+  enqueue-most us [] = omega arith
+  enqueue-most us (u ∷ new) = omega (arith, behind-charge us u (isAmong u us) .1, enqueue-most (behind us u) new)
