@@ -4,3 +4,4 @@ pub mod Values
 pub mod Reading
 pub mod Encoding
 pub mod Cases
+pub mod Laws
