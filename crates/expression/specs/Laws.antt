@@ -5,3 +5,5 @@ pub mod Spans
 pub mod Operators
 pub mod Holds
 pub mod NumSound
+pub mod NumComplete
+pub mod Truths
