@@ -7,3 +7,4 @@ pub mod Holds
 pub mod NumSound
 pub mod NumComplete
 pub mod Truths
+pub mod Whole

@@ -62,8 +62,8 @@ module _ (s : List ℕ) where
         let p : drop (at + 1) s ≡ encodeNum a ++ (encodeNum b ++ t) = starts-then s at (numByte (OfNum.Two k) ∷ []) _ d ∙ append-assoc (encodeNum a) (encodeNum b) t in
         num-step (OfNum.Two k) fuel (fuel - 1) at _ (omega arith) d
         ∙ two-read (λ i. num sc (fuel - 1) s i) (two k) a b at (encodeNum a) (encodeNum b)
-            (num-complete a (fuel - 1) (at + 1) _ (and-left (goodNum sc a) (goodNum sc b) g) p (omega arith))
-            (num-complete b (fuel - 1) _ t (and-right (goodNum sc a) (goodNum sc b) g) (starts-then s (at + 1) (encodeNum a) _ p) (omega arith))
+        (num-complete a (fuel - 1) (at + 1) _ (and-left (goodNum sc a) (goodNum sc b) g) p (omega arith))
+        (num-complete b (fuel - 1) _ t (and-right (goodNum sc a) (goodNum sc b) g) (starts-then s (at + 1) (encodeNum a) _ p) (omega arith))
     num-complete (negation a) fuel at t g d l =
         num-step OfNum.Negation fuel (fuel - 1) at _ (omega arith) d
         ∙ rw (num-complete a (fuel - 1) (at + 1) t g (starts-then s at (6 ∷ []) _ d) (omega arith)) (ap (got (negation a)) (omega arith))

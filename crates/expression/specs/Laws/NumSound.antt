@@ -27,25 +27,27 @@ module _ (sc : Scope) (s : List ℕ) (bytes : Bytes s) where
   literal-sound : (at : ℕ) → Holds (λ z n. (fits z ≡ true) × Spans s at n (encodeValue z)) (literalAt s at)
   literal-sound at =
       onlyIf-holds λ e.
-        let l : 4 ≤ length s - at = leb-true 4 (length s - at) e in
-        let i : at < length s = omega arith in
-        let j : at + 1 < length s = omega arith in
-        let k : at + 2 < length s = omega arith in
-        let m : at + 3 < length s = omega arith in
-        let a = byte-below at s i bytes in
-        let b = byte-below (at + 1) s j bytes in
-        let c = byte-below (at + 2) s k bytes in
-        let d = byte-below (at + 3) s m bytes in
-        held (word-fits _ _ _ _ a b c d,
+      let l : 4 ≤ length s - at = leb-true 4 (length s - at) e in
+      let i : at < length s = omega arith in
+      let j : at + 1 < length s = omega arith in
+      let k : at + 2 < length s = omega arith in
+      let m : at + 3 < length s = omega arith in
+      let a = byte-below at s i bytes in
+      let b = byte-below (at + 1) s j bytes in
+      let c = byte-below (at + 2) s k bytes in
+      let d = byte-below (at + 3) s m bytes in
+      held (
+        word-fits _ _ _ _ a b c d,
         rw (encode-word _ _ _ _ a b c d)
-        (span-append s (span-one s at (at + 1) _ refl i refl)
-        (span-append s (span-one s (at + 1) (at + 2) _ (omega arith) j refl)
-        (span-append s (span-one s (at + 2) (at + 3) _ (omega arith) k refl) (span-one s (at + 3) (at + 4) _ (omega arith) m refl)))))
+            (span-append s (span-one s at (at + 1) _ refl i refl)
+            (span-append s (span-one s (at + 1) (at + 2) _ (omega arith) j refl)
+            (span-append s (span-one s (at + 2) (at + 3) _ (omega arith) k refl) (span-one s (at + 3) (at + 4) _ (omega arith) m refl)))),
+      )
 
   channel-sound : (known at : ℕ) → Holds (λ c n. (ltb c known ≡ true) × Spans s at n (c ∷ [])) (channelAt known s at)
   channel-sound known at =
       onlyIf-holds λ e. onlyIf-holds λ f.
-        held (f, span-one s at (at + 1) (getD s at 0) refl (ltb-true at (length s) e) refl)
+      held (f, span-one s at (at + 1) (getD s at 0) refl (ltb-true at (length s) e) refl)
 
   num-operands-sound : (op : NumOp) (at : ℕ) (go : ℕ → Read Num) → (KnownNum op → Spans s at (at + 1) (numByte op ∷ [])) → ((n : ℕ) → Holds (NumAt n) (go n)) → Holds (NumAt at) (numOperands sc op s (at + 1) go)
   unfolding encodingExpressions
@@ -54,7 +56,7 @@ module _ (sc : Scope) (s : List ℕ) (bytes : Bytes s) where
   num-operands-sound OfNum.Far at go o h = then-holds _ (channel-sound (sc .fars) (at + 1)) λ c n p. held (p .0, span-append s (o tt) (p .1))
   num-operands-sound (OfNum.Two k) at go o h =
       then-holds _ (h (at + 1)) λ a n p. then-holds _ (h n) λ b m q.
-        held (and-both _ _ (p .0) (q .0), span-append s (span-append s (o tt) (p .1)) (q .1))
+      held (and-both _ _ (p .0) (q .0), span-append s (span-append s (o tt) (p .1)) (q .1))
   num-operands-sound OfNum.Negation at go o h = then-holds _ (h (at + 1)) λ a n p. held (p .0, span-append s (o tt) (p .1))
   num-operands-sound OfNum.Unknown at go o h = none
 
@@ -63,6 +65,6 @@ module _ (sc : Scope) (s : List ℕ) (bytes : Bytes s) where
   num-sound zero at = none
   num-sound (suc fuel) at =
       onlyIf-holds λ e.
-        num-operands-sound (numOp (getD s at 0)) at (λ n. num sc fuel s n)
-        (λ k. span-one s at (at + 1) _ refl (ltb-true at (length s) e) (num-byte (getD s at 0) _ refl k))
-        (λ n. num-sound fuel n)
+      num-operands-sound (numOp (getD s at 0)) at (λ n. num sc fuel s n)
+      (λ k. span-one s at (at + 1) _ refl (ltb-true at (length s) e) (num-byte (getD s at 0) _ refl k))
+      (λ n. num-sound fuel n)

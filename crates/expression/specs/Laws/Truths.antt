@@ -30,10 +30,10 @@ module _ (sc : Scope) (s : List ℕ) (bytes : Bytes s) where
   truth-operands-sound OfTruth.Not at go goNum o h i = then-holds _ (h (at + 1)) λ t n p. held (p .0, span-append s (o tt) (p .1))
   truth-operands-sound (OfTruth.Both k) at go goNum o h i =
       then-holds _ (h (at + 1)) λ a n p. then-holds _ (h n) λ b m q. held
-        (and-both _ _ (p .0) (q .0), span-append s (span-append s (o tt) (p .1)) (q .1))
+      (and-both _ _ (p .0) (q .0), span-append s (span-append s (o tt) (p .1)) (q .1))
   truth-operands-sound (OfTruth.Two k) at go goNum o h i =
       then-holds _ (i (at + 1)) λ a n p. then-holds _ (i n) λ b m q. held
-        (and-both _ _ (p .0) (q .0), span-append s (span-append s (o tt) (p .1)) (q .1))
+      (and-both _ _ (p .0) (q .0), span-append s (span-append s (o tt) (p .1)) (q .1))
   truth-operands-sound OfTruth.Unknown at go goNum o h i = none
 
   pub truth-sound : (fuel at : ℕ) → Holds (TruthAt at) (truth sc fuel s at)
@@ -41,10 +41,10 @@ module _ (sc : Scope) (s : List ℕ) (bytes : Bytes s) where
   truth-sound zero at = none
   truth-sound (suc fuel) at =
       onlyIf-holds λ e.
-        truth-operands-sound (truthOp (getD s at 0)) at (λ n. truth sc fuel s n) (λ n. num sc fuel s n)
-        (λ k. span-one s at (at + 1) _ refl (ltb-true at (length s) e) (truth-byte (getD s at 0) _ refl k))
-        (λ n. truth-sound fuel n)
-        (λ n. num-sound sc s bytes fuel n)
+      truth-operands-sound (truthOp (getD s at 0)) at (λ n. truth sc fuel s n) (λ n. num sc fuel s n)
+      (λ k. span-one s at (at + 1) _ refl (ltb-true at (length s) e) (truth-byte (getD s at 0) _ refl k))
+      (λ n. truth-sound fuel n)
+      (λ n. num-sound sc s bytes fuel n)
 
 module _ (s : List ℕ) (sc : Scope) where
   truth-step : (op : TruthOp) (fuel less at : ℕ) (t : List ℕ) → fuel ≡ suc less → drop at s ≡ truthByte op ∷ t → truth sc fuel s at ≡ truthOperands op (at + 1) (λ n. truth sc less s n) (λ n. num sc less s n)
@@ -63,12 +63,12 @@ module _ (s : List ℕ) (sc : Scope) where
       let p : drop (at + 1) s ≡ encodeTruth a ++ (encodeTruth b ++ t) = starts-then s at (truthByte (OfTruth.Both k) ∷ []) _ d ∙ append-assoc (encodeTruth a) (encodeTruth b) t in
       truth-step (OfTruth.Both k) fuel (fuel - 1) at _ (omega arith) d
       ∙ two-read (λ i. truth sc (fuel - 1) s i) (both k) a b at (encodeTruth a) (encodeTruth b)
-          (truth-complete a (fuel - 1) (at + 1) _ (and-left (goodTruth sc a) (goodTruth sc b) g) p (omega arith))
-          (truth-complete b (fuel - 1) _ t (and-right (goodTruth sc a) (goodTruth sc b) g) (starts-then s (at + 1) (encodeTruth a) _ p) (omega arith))
+      (truth-complete a (fuel - 1) (at + 1) _ (and-left (goodTruth sc a) (goodTruth sc b) g) p (omega arith))
+      (truth-complete b (fuel - 1) _ t (and-right (goodTruth sc a) (goodTruth sc b) g) (starts-then s (at + 1) (encodeTruth a) _ p) (omega arith))
   truth-complete (compared k a b) fuel at t g d l =
       let n : length (encodeNum a ++ encodeNum b) ≡ length (encodeNum a) + length (encodeNum b) = length-append (encodeNum a) (encodeNum b) in
       let p : drop (at + 1) s ≡ encodeNum a ++ (encodeNum b ++ t) = starts-then s at (truthByte (OfTruth.Two k) ∷ []) _ d ∙ append-assoc (encodeNum a) (encodeNum b) t in
       truth-step (OfTruth.Two k) fuel (fuel - 1) at _ (omega arith) d
       ∙ two-read (λ i. num sc (fuel - 1) s i) (compared k) a b at (encodeNum a) (encodeNum b)
-          (num-complete s sc a (fuel - 1) (at + 1) _ (and-left (goodNum sc a) (goodNum sc b) g) p (omega arith))
-          (num-complete s sc b (fuel - 1) _ t (and-right (goodNum sc a) (goodNum sc b) g) (starts-then s (at + 1) (encodeNum a) _ p) (omega arith))
+      (num-complete s sc a (fuel - 1) (at + 1) _ (and-left (goodNum sc a) (goodNum sc b) g) p (omega arith))
+      (num-complete s sc b (fuel - 1) _ t (and-right (goodNum sc a) (goodNum sc b) g) (starts-then s (at + 1) (encodeNum a) _ p) (omega arith))
