@@ -5,3 +5,4 @@ pub mod Reader
 pub mod Layout
 pub mod Encoding
 pub mod Cases
+pub mod Laws

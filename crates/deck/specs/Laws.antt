@@ -1,0 +1,2 @@
+-- Laws of the deck: reading and encoding are inverse to each other, and how many bytes reading looks at.
+pub mod Exact
