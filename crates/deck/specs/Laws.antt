@@ -1,2 +1,3 @@
 -- Laws of the deck: reading and encoding are inverse to each other, and how many bytes reading looks at.
 pub mod Exact
+pub mod Readers

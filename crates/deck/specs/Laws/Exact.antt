@@ -10,7 +10,7 @@ use native.Mathlib.Numerals.{add-one}
 use lib.Dec.{ltb}
 use lib.ListN.{length, length-append}
 use Rattle.refusals.specs.Outcome.{Outcome, refused, accepted}
-use Rattle.expression.specs.Laws.Bytes.{Bytes, all-right}
+use Rattle.expression.specs.Laws.Bytes.{Bytes, all-left, all-right}
 use Rattle.deck.specs.Reader.{Got, Reader, andThen, _>>=_, _>>_, give, here, require, byte, end, readers}
 
 -- what a reader accepted, if it did, has a property
@@ -66,11 +66,11 @@ abbrev pub Then : {A B : Type 0} → (A → List ℕ) → (A → Type 0) → (A 
 Then {A} enc Ok Q at b w = (a : A) × (v : List ℕ) × (w ≡ enc a ++ v) × Ok a × Q a (at + length (enc a)) b v
 
 module _ {A : Type 0} {E : List ℕ → Type 0} where
-  -- the same relation in other words
-  pub exact-by : {r : Reader A} {P Q : Relation A} → Exact E r P → ((at : ℕ) (a : A) (w : List ℕ) → P at a w → Q at a w) → ((at : ℕ) (a : A) (w : List ℕ) → Q at a w → P at a w) → Exact E r Q
+  -- the same relation in other words, for words of bytes
+  pub exact-by : {r : Reader A} {P Q : Relation A} → Exact E r P → ((at : ℕ) (a : A) (w : List ℕ) → Bytes w → P at a w → Q at a w) → ((at : ℕ) (a : A) (w : List ℕ) → Q at a w → P at a w) → Exact E r Q
   exact-by {Q} x f g =
       record {
-        sound = λ s at b. accepts-map (λ a p. record { word = p .word; relates = f at (a .value) (p .word) (p .relates); bytes = p .bytes; moved = p .moved; ends = p .ends }) (x .sound s at b);
+        sound = λ s at b. accepts-map (λ a p. record { word = p .word; relates = f at (a .value) (p .word) (all-left _ (p .word) (a .rest) (rw (p .bytes) at b)) (p .relates); bytes = p .bytes; moved = p .moved; ends = p .ends }) (x .sound s at b);
         complete = λ at a w s q e. x .complete at a w s (g at a w q) e;
       }
 

@@ -26,6 +26,11 @@ and-both a b p q = rw (p, q) refl
 
 -- what holds of all of two lists, of all of their parts, of an element
 module _ {A : Type 0} (f : A → Bool) where
+  pub all-left : (u v : List A) → all f (u ++ v) ≡ true → all f u ≡ true
+  unfolding lists
+  all-left [] v h = refl
+  all-left (x ∷ u) v h = and-both (f x) _ (and-left (f x) _ h) (all-left u v (and-right (f x) _ h))
+
   pub all-right : (u v : List A) → all f (u ++ v) ≡ true → all f v ≡ true
   unfolding lists
   all-right [] v h = h
