@@ -1,3 +1,5 @@
 -- Laws of the deck: reading and encoding are inverse to each other, and how many bytes reading looks at.
 pub mod Exact
 pub mod Readers
+pub mod Expressions
+pub mod Actions

@@ -11,7 +11,7 @@ use lib.Dec.{ltb}
 use lib.ListN.{length, length-append}
 use Rattle.refusals.specs.Outcome.{Outcome, refused, accepted}
 use Rattle.expression.specs.Laws.Bytes.{Bytes, all-left, all-right}
-use Rattle.deck.specs.Reader.{Got, Reader, andThen, _>>=_, _>>_, give, here, require, byte, end, readers}
+use Rattle.deck.specs.Reader.{Got, Reader, andThen, _>>=_, _>>_, give, fault, here, require, byte, end, readers}
 
 -- what a reader accepted, if it did, has a property
 pub data Accepts {A : Type 0} (P : A → Type 0) : Outcome A → Type 0 where
@@ -82,6 +82,10 @@ module _ {A : Type 0} {E : List ℕ → Type 0} where
         complete = λ at a w s q e. x at .complete at a w s q e;
       }
 
+  pub fault-exact : (n p : ℕ) {P : Relation A} → ((at : ℕ) (a : A) (w : List ℕ) → P at a w → ⊥) → Exact E (fault n p) P
+  unfolding readers
+  fault-exact n p never = record { sound = λ s at b. refusing; complete = λ at a w s q e. absurd (never at a w q) }
+
   pub require-exact : (t : Bool) (n p : ℕ) {r : Reader A} {P : Relation A} → Exact E r P → Exact E (require t n p >> r) (λ at a w. (t ≡ true) × P at a w)
   unfolding readers
   require-exact true n p x =
@@ -89,7 +93,7 @@ module _ {A : Type 0} {E : List ℕ → Type 0} where
         sound = λ s at b. accepts-map (λ g q. record { word = q .word; relates = (refl, q .relates); bytes = q .bytes; moved = q .moved; ends = q .ends }) (x .sound s at b);
         complete = λ at a w s q e. x .complete at a w s (q .1) e;
       }
-  require-exact false n p x = record { sound = λ s at b. refusing; complete = λ at a w s q e. absurd (false≢true (q .0)) }
+  require-exact false n p x = fault-exact n p (λ at a w q. false≢true (q .0))
 
 pub give-exact : {A : Type 0} (a : A) → Exact Any (give a) (λ at b w. (b ≡ a) × (w ≡ []))
 unfolding readers
