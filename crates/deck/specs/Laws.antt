@@ -3,3 +3,5 @@ pub mod Exact
 pub mod Readers
 pub mod Expressions
 pub mod Actions
+pub mod Tests
+pub mod Rules
