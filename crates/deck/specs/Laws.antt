@@ -5,3 +5,4 @@ pub mod Expressions
 pub mod Actions
 pub mod Tests
 pub mod Rules
+pub mod Sections

@@ -66,10 +66,13 @@ module _ {A : Type 0} {r : Reader A} {enc : A → List ℕ} {ok : A → Bool} (x
       (then-exact x λ y. then-exact (times-exact n) λ ys. give-exact (y ∷ ys))
 
 -- a list of bytes is its own encoding
-pub flatMap-one : (s : List ℕ) → flatMap (λ b. b ∷ []) s ≡ s
+flatMap-one : (s : List ℕ) → flatMap (λ b. b ∷ []) s ≡ s
 unfolding lists
 flatMap-one [] = refl
 flatMap-one (b ∷ s) = ap (λ t. b ∷ t) (flatMap-one s)
+
+pub bytes-coded : {r : Reader (List ℕ)} {Ok : List ℕ → Type 0} → Exact Any r (Coded (flatMap (λ b. b ∷ [])) Ok) → Exact Any r (Coded (λ s. s) Ok)
+bytes-coded x = exact-by x (λ at s w _ p. (p .0, p .1 ∙ flatMap-one s)) (λ at s w q. (q .0, q .1 ∙ sym (flatMap-one s)))
 
 all-true : (s : List ℕ) → all (λ _. true) s ≡ true
 unfolding lists
@@ -78,9 +81,9 @@ all-true (b ∷ s) = all-true s
 
 pub bytes-exact : (n : ℕ) → Exact Any (times n byte) (Coded (λ s. s) (λ s. length s ≡ n))
 bytes-exact n =
-    exact-by (times-exact {ok = λ _. true} (exact-by byte-exact (λ at b w _ p. (refl, p .1)) (λ at b w q. (tt, q .1))) n)
-    (λ at s w _ p. (p .0 .0, p .1 ∙ flatMap-one s))
-    (λ at s w q. ((q .0, all-true s), q .1 ∙ sym (flatMap-one s)))
+    exact-by (bytes-coded (times-exact {ok = λ _. true} (exact-by byte-exact (λ at b w _ p. (refl, p .1)) (λ at b w q. (tt, q .1))) n))
+    (λ at s w _ p. (p .0 .0, p .1))
+    (λ at s w q. ((q .0, all-true s), q .1))
 
 rising-from : (n lo hi : ℕ) → Exact Any (rising n lo hi) (Coded (flatMap (λ c. c ∷ [])) (λ cs. (length cs ≡ n) × (isRising lo hi cs ≡ true)))
 unfolding readers encodings
@@ -93,7 +96,7 @@ rising-from (suc n) lo hi =
     (then-exact (number-exact lo hi) λ c. then-exact (rising-from n (suc c) hi) λ cs. give-exact (c ∷ cs))
 
 pub rising-exact : (n lo hi : ℕ) → Exact Any (rising n lo hi) (Coded (λ cs. cs) (λ cs. (length cs ≡ n) × (isRising lo hi cs ≡ true)))
-rising-exact n lo hi = exact-by (rising-from n lo hi) (λ at cs w _ p. (p .0, p .1 ∙ flatMap-one cs)) (λ at cs w q. (q .0, q .1 ∙ sym (flatMap-one cs)))
+rising-exact n lo hi = bytes-coded (rising-from n lo hi)
 
 -- ---- four bytes
 
