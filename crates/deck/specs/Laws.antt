@@ -6,3 +6,4 @@ pub mod Actions
 pub mod Tests
 pub mod Rules
 pub mod Sections
+pub mod Reading
