@@ -7,3 +7,4 @@ pub mod Tests
 pub mod Rules
 pub mod Sections
 pub mod Reading
+pub mod Within
