@@ -8,3 +8,4 @@ pub mod Rules
 pub mod Sections
 pub mod Reading
 pub mod Within
+pub mod Prefix

@@ -50,11 +50,14 @@ module _ (bytes : List ℕ) (b : Bytes bytes) (l : Layout) (e : read bytes ≡ a
 abbrev pub layoutOf : Deck → Layout
 layoutOf d = record { deck = d; rulesAt = length (encodeChannels d); partsAt = length (encodeChannels d) + length (encodeRules d) }
 
+pub sections-encode : (d : Deck) → wellFormed d ≡ true → sections (encode d) 0 ≡ accepted (record { value = layoutOf d; rest = []; at = 0 + length (encode d) })
+sections-encode d h =
+    let p : LayoutWord 0 (layoutOf d) (encode d) = record { formed = h; bytes = refl; rules = sym (zero-add _); parts = ap (λ n. n + length (encodeRules d)) (sym (zero-add _)) } in
+    ap (λ s. sections s 0) (sym (append-nil (encode d))) ∙ sections-exact .complete 0 (layoutOf d) (encode d) [] p refl
+
 pub read-encode : (d : Deck) → wellFormed d ≡ true → read (encode d) ≡ accepted (layoutOf d)
 unfolding read valueOf
-read-encode d h =
-    ap (λ s. valueOf (sections s 0)) (sym (append-nil (encode d)))
-    ∙ ap valueOf (sections-exact .complete 0 (layoutOf d) (encode d) [] (record { formed = h; bytes = refl; rules = sym (zero-add _); parts = ap (λ n. n + length (encodeRules d)) (sym (zero-add _)) }) refl)
+read-encode d h = ap valueOf (sections-encode d h)
 
 -- ---- both
 

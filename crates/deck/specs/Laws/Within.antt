@@ -36,6 +36,16 @@ module _ {A : Type 0} {P : A → Type 0} where
   pub widen : {looks takes looks' takes' : ℕ} {r : Reader A} → looks ≤ looks' → takes ≤ takes' → Within P looks takes r → Within P looks' takes' r
   widen l m w = record { continues = λ s t at h. more m (w .continues s t at (le-trans l h)) }
 
+  pub at-most : (n : ℕ) {m : ℕ} {r : Reader A} → m ≤ n → Within P m m r → Within P n n r
+  at-most n h w = widen h h w
+
+  pub forget : {looks takes : ℕ} {r : Reader A} → Within P looks takes r → Within Anything looks takes r
+  forget w = record { continues = λ s t at h. go (w .continues s t at h) }
+    where
+      go : {n : ℕ} {s t : List ℕ} {o o' : Outcome (Got A)} → Continues P n s t o o' → Continues Anything n s t o o'
+      go both-refuse = both-refuse
+      go (both-accept r p h) = both-accept r tt h
+
   pub give-within : (a : A) → P a → Within P 0 0 (give a)
   unfolding readers
   give-within a p = record { continues = λ s t at h. both-accept s p (omega arith) }
