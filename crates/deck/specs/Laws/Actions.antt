@@ -71,10 +71,15 @@ module _ (sc : Scope) where
   unfolding lists decks
   assigns-parts n ts s a q =
       let free = not (member (s .target) (targets a)) in
-      let new = not (member (s .target) ts) in
-      ((and-left (goodAssignment sc s) _ (q .1), and-left new _ (q .3)),
-      (suc-inj (q .0), and-right (goodAssignment sc s) _ (q .1), and-right free _ (q .2),
-      apart (s .target) ts a ∙ and-both free _ (and-left free _ (q .2)) (and-right new _ (q .3))))
+      let new = not (member (s .target) ts) in (
+        (and-left (goodAssignment sc s) _ (q .1), and-left new _ (q .3)),
+        (
+          suc-inj (q .0),
+          and-right (goodAssignment sc s) _ (q .1),
+          and-right free _ (q .2),
+          apart (s .target) ts a ∙ and-both free _ (and-left free _ (q .2)) (and-right new _ (q .3)),
+        ),
+      )
 
   assignments-exact : (n : ℕ) (ts : List ℕ) → Exact Any (assignments sc n ts) (Coded (flatMap encodeAssignment) (Assigns n ts))
   unfolding layouts readers lists decks encodings
@@ -87,26 +92,34 @@ module _ (sc : Scope) where
       (exact-by
       (here-exact λ p. then-exact (number-exact 0 (sc .owns)) λ t. require-exact (not (member t ts)) repeatedTarget p (then-exact (expression-exact (whole-num sc)) λ e. then-exact (assignments-exact n (t ∷ ts)) λ a. give-exact (record { target = t; value = e } ∷ a)))
       (λ at a w _ p.
-        let t : ℕ = p .0 in
-        let e : Num = p .4 .1 .0 in
-        let good = and-both (ltb t (sc .owns)) _ (sym (below-range (sc .owns) t) ∙ p .3) (p .4 .1 .3 .0) in
-        (record { target = t; value = e }, p .4 .1 .1, p .2 ∙ ap (λ v. t ∷ v) (p .4 .1 .2), (and-both _ (goodLength (encodeNum e)) good (p .4 .1 .3 .1), p .4 .0), p .4 .1 .4))
+      let t : ℕ = p .0 in
+      let e : Num = p .4 .1 .0 in
+      let good = and-both (ltb t (sc .owns)) _ (sym (below-range (sc .owns) t) ∙ p .3) (p .4 .1 .3 .0) in
+      (record { target = t; value = e }, p .4 .1 .1, p .2 ∙ ap (λ v. t ∷ v) (p .4 .1 .2), (and-both _ (goodLength (encodeNum e)) good (p .4 .1 .3 .1), p .4 .0), p .4 .1 .4))
       (λ at a w q.
-        let s : Assignment = q .0 in
-        let known : Bool = ltb (s .target) (sc .owns) in
-        let good = and-left (known && goodNum sc (s .value)) _ (q .3 .0) in
-        (s .target, encodeExpression (encodeNum (s .value)) ++ q .1, q .2, below-range (sc .owns) (s .target) ∙ and-left known _ good,
-        (q .3 .1, (s .value, q .1, refl, (and-right known _ good, and-right (known && goodNum sc (s .value)) _ (q .3 .0)), q .4)))))
+      let s : Assignment = q .0 in
+      let known : Bool = ltb (s .target) (sc .owns) in
+      let good = and-left (known && goodNum sc (s .value)) _ (q .3 .0) in (
+        s .target,
+        encodeExpression (encodeNum (s .value)) ++ q .1,
+        q .2,
+        below-range (sc .owns) (s .target) ∙ and-left known _ good,
+        (q .3 .1, (s .value, q .1, refl, (and-right known _ good, and-right (known && goodNum sc (s .value)) _ (q .3 .0)), q .4)),
+      )))
 
   pub action-exact : Exact Any (action sc) (Coded encodeAction (λ a. goodAction sc a ≡ true))
   unfolding layouts readers lists decks encodings
   action-exact =
       exact-by (then-exact (number-exact 0 (suc (limits .assignments))) λ n. assignments-exact n [])
       (λ at a w _ p.
-        let few : leb (length a) (limits .assignments) ≡ true = rw (p .4 .0 .0) (sym (zero-range (limits .assignments) (p .0)) ∙ p .3) in
-        (and-both _ (distinct (targets a)) (and-both _ _ few (p .4 .0 .1)) (p .4 .0 .2), p .2 ∙ rw (p .4 .1, p .4 .0 .0)))
+      let few : leb (length a) (limits .assignments) ≡ true = rw (p .4 .0 .0) (sym (zero-range (limits .assignments) (p .0)) ∙ p .3) in
+      (and-both _ (distinct (targets a)) (and-both _ _ few (p .4 .0 .1)) (p .4 .0 .2), p .2 ∙ rw (p .4 .1, p .4 .0 .0)))
       (λ at a w q.
-        let few : Bool = leb (length a) (limits .assignments) in
-        let good = and-left (few && all (goodAssignment sc) a) _ (q .0) in
-        (length a, flatMap encodeAssignment a, q .1, zero-range (limits .assignments) (length a) ∙ and-left few _ good,
-        ((refl, and-right few _ good, and-right (few && all (goodAssignment sc) a) _ (q .0), apart-none a), refl)))
+      let few : Bool = leb (length a) (limits .assignments) in
+      let good = and-left (few && all (goodAssignment sc) a) _ (q .0) in (
+        length a,
+        flatMap encodeAssignment a,
+        q .1,
+        zero-range (limits .assignments) (length a) ∙ and-left few _ good,
+        ((refl, and-right few _ good, and-right (few && all (goodAssignment sc) a) _ (q .0), apart-none a), refl),
+      ))

@@ -125,11 +125,11 @@ module _ {A B : Type 0} {E : List ℕ → Type 0} {enc : A → List ℕ} {Ok : A
   then-exact x y =
       record {
         sound = λ s at b. then-accepts f (x .sound s at b) λ g p.
-          let u : List ℕ = enc (g .value) in
-          let start : s ≡ u ++ g .rest = p .bytes ∙ ap (λ t. t ++ g .rest) (p .relates .1) in
-          let place : g .at ≡ at + length u = p .moved ∙ ap (λ t. at + length t) (p .relates .1) in
-          accepts-map
-          (λ h q.
+            let u : List ℕ = enc (g .value) in
+            let start : s ≡ u ++ g .rest = p .bytes ∙ ap (λ t. t ++ g .rest) (p .relates .1) in
+            let place : g .at ≡ at + length u = p .moved ∙ ap (λ t. at + length t) (p .relates .1) in
+            accepts-map
+            (λ h q.
             let total : length (u ++ q .word) ≡ length u + length (q .word) = length-append u (q .word) in
             record {
               word = u ++ q .word;
@@ -138,15 +138,15 @@ module _ {A B : Type 0} {E : List ℕ → Type 0} {enc : A → List ℕ} {Ok : A
               moved = q .moved ∙ ap (λ n. n + length (q .word)) place ∙ rw total (omega arith);
               ends = q .ends;
             })
-          (y (g .value) .sound (g .rest) (g .at) (all-right _ u (g .rest) (rw start at b)));
+            (y (g .value) .sound (g .rest) (g .at) (all-right _ u (g .rest) (rw start at b)));
         complete = λ at b w s q e.
-          let u : List ℕ = enc (q .0) in
-          let v : List ℕ = q .1 in
-          let total : length (u ++ v) ≡ length u + length v = length-append u v in
-          let place : at + length u + length v ≡ at + length (u ++ v) = rw total (omega arith) in
-          rw (q .2)
-          (ap (λ t. (r >>= f) t at) (append-assoc u v s)
-          ∙ ap (λ o. andThen o f) (x .complete at (q .0) u (v ++ s) (q .3, refl) tt)
-          ∙ y (q .0) .complete (at + length u) b v s (q .4) e
-          ∙ ap (λ n. accepted (record { value = b; rest = s; at = n })) place);
+            let u : List ℕ = enc (q .0) in
+            let v : List ℕ = q .1 in
+            let total : length (u ++ v) ≡ length u + length v = length-append u v in
+            let place : at + length u + length v ≡ at + length (u ++ v) = rw total (omega arith) in
+            rw (q .2)
+            (ap (λ t. (r >>= f) t at) (append-assoc u v s)
+            ∙ ap (λ o. andThen o f) (x .complete at (q .0) u (v ++ s) (q .3, refl) tt)
+            ∙ y (q .0) .complete (at + length u) b v s (q .4) e
+            ∙ ap (λ n. accepted (record { value = b; rest = s; at = n })) place);
       }

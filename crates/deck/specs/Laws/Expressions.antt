@@ -41,14 +41,19 @@ module _ {A : Type 0} {whole : List ℕ → Read A} {enc : A → List ℕ} {ok :
   expression-exact x =
       exact-by (then-exact (number-exact 1 (suc (limits .expression))) λ n. here-exact λ p. then-exact (bytes-exact n) λ s. judged-exact p (whole s))
       (λ at e w b p.
-        let n : ℕ = p .0 in
-        let s : List ℕ = p .4 .0 in
-        let there : w ≡ n ∷ (s ++ []) = rw (p .2, p .4 .2, p .4 .4 .2) in
-        let read = holds (x .sound s (all-left _ s [] (all-right _ (n ∷ []) (s ++ []) (rw there at b)))) (p .4 .4 .1) in
-        let size : length (enc e) ≡ n = ap length (sym (read .1)) ∙ p .4 .3 in
-        ((read .0, rw size (sym (range 1 (limits .expression) n) ∙ p .3)),
-        there ∙ rw (append-nil s, read .1) (ap (λ k. k ∷ enc e) (sym size))))
+      let n : ℕ = p .0 in
+      let s : List ℕ = p .4 .0 in
+      let there : w ≡ n ∷ (s ++ []) = rw (p .2, p .4 .2, p .4 .4 .2) in
+      let read = holds (x .sound s (all-left _ s [] (all-right _ (n ∷ []) (s ++ []) (rw there at b)))) (p .4 .4 .1) in
+      let size : length (enc e) ≡ n = ap length (sym (read .1)) ∙ p .4 .3 in (
+        (read .0, rw size (sym (range 1 (limits .expression) n) ∙ p .3)),
+        there ∙ rw (append-nil s, read .1) (ap (λ k. k ∷ enc e) (sym size)),
+      ))
       (λ at e w q.
-        let s : List ℕ = enc e in
-        (length s, s, q .1, range 1 (limits .expression) (length s) ∙ q .0 .1,
-        (s, [], sym (append-nil s), refl, (length s, x .complete e (q .0 .0), refl))))
+      let s : List ℕ = enc e in (
+        length s,
+        s,
+        q .1,
+        range 1 (limits .expression) (length s) ∙ q .0 .1,
+        (s, [], sym (append-nil s), refl, (length s, x .complete e (q .0 .0), refl)),
+      ))

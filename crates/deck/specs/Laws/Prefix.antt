@@ -33,14 +33,14 @@ expression-within : {A : Type 0} (whole : List ℕ → Read A) → Within Anythi
 unfolding layouts readers
 expression-within whole =
     then-within (number-within 1 (suc (limits .expression))) λ n h. here-within λ p.
-      then-within (at-most 64 (omega arith) (times-within byte-within n)) λ s _. judged-within p (whole s)
+    then-within (at-most 64 (omega arith) (times-within byte-within n)) λ s _. judged-within p (whole s)
 
 assignments-within : (sc : Scope) (n : ℕ) (ts : List ℕ) → Within Anything (n * 66) (n * 66) (assignments sc n ts)
 unfolding layouts readers
 assignments-within sc zero ts = give-within [] tt
 assignments-within sc (suc n) ts =
     here-within λ p. widen (omega arith) (omega arith)
-      (then-within (number-within 0 (sc .owns)) λ t _. require-within (not (member t ts)) repeatedTarget p λ _. then-within (expression-within (wholeNum sc)) λ e _. then-within (assignments-within sc n (t ∷ ts)) λ a _. give-within (record { target = t; value = e } ∷ a) tt)
+    (then-within (number-within 0 (sc .owns)) λ t _. require-within (not (member t ts)) repeatedTarget p λ _. then-within (expression-within (wholeNum sc)) λ e _. then-within (assignments-within sc n (t ∷ ts)) λ a _. give-within (record { target = t; value = e } ∷ a) tt)
 
 action-within : (sc : Scope) → Within Anything 265 265 (action sc)
 unfolding layouts readers

@@ -46,8 +46,8 @@ module _ {A : Type 0} (enc : A → List ℕ) where
   cons-exact Ok Others All never join part x =
       exact-by x
       (λ at xs w _ p.
-        rw (p .4 .4 .0, p .2, p .4 .2, p .4 .4 .1)
-        (join (p .0) (p .4 .0) (p .3) (p .4 .3), ap (λ t. enc (p .0) ++ t) (append-nil (flatMap enc (p .4 .0)))))
+      rw (p .4 .4 .0, p .2, p .4 .2, p .4 .4 .1)
+      (join (p .0) (p .4 .0) (p .3) (p .4 .3), ap (λ t. enc (p .0) ++ t) (append-nil (flatMap enc (p .4 .0)))))
       (λ at xs w q. back at xs w (q .0) (q .1))
     where
       back : (at : ℕ) (xs : List A) (w : List ℕ) → All xs → w ≡ flatMap enc xs → Then enc Ok (λ y. Then (flatMap enc) (Others y) (λ ys at xs w. (xs ≡ y ∷ ys) × (w ≡ []))) at xs w
@@ -105,15 +105,19 @@ unfolding readers
 value-exact =
     exact-by (then-exact byte-exact λ a. then-exact byte-exact λ b. then-exact byte-exact λ c. then-exact byte-exact λ d. give-exact (signed (word a b c d)))
     (λ at z w b p.
-      let four : List ℕ = p .0 ∷ p .4 .0 ∷ p .4 .4 .0 ∷ p .4 .4 .4 .0 ∷ [] in
-      let e : w ≡ four = rw (p .2, p .4 .2, p .4 .4 .2, p .4 .4 .4 .2, p .4 .4 .4 .4 .1) in
-      let below : (k : ℕ) → k < 4 → getD four k 0 < 256 = λ k l. byte-below k four l (rw e at b) in
-      let i = below 0 (lit< tt) in
-      let j = below 1 (lit< tt) in
-      let k = below 2 (lit< tt) in
-      let l = below 3 (lit< tt) in
-      rw (p .4 .4 .4 .4 .0) (word-fits _ _ _ _ i j k l, e ∙ sym (encode-word _ _ _ _ i j k l)))
+    let four : List ℕ = p .0 ∷ p .4 .0 ∷ p .4 .4 .0 ∷ p .4 .4 .4 .0 ∷ [] in
+    let e : w ≡ four = rw (p .2, p .4 .2, p .4 .4 .2, p .4 .4 .4 .2, p .4 .4 .4 .4 .1) in
+    let below : (k : ℕ) → k < 4 → getD four k 0 < 256 = λ k l. byte-below k four l (rw e at b) in
+    let i = below 0 (lit< tt) in
+    let j = below 1 (lit< tt) in
+    let k = below 2 (lit< tt) in
+    let l = below 3 (lit< tt) in
+    rw (p .4 .4 .4 .4 .0) (word-fits _ _ _ _ i j k l, e ∙ sym (encode-word _ _ _ _ i j k l)))
     (λ at z w q.
-      let f : FourBytes z = four-bytes z (q .0) in
-      (f .first, f .second ∷ f .third ∷ f .fourth ∷ [], q .1 ∙ f .bytes, tt,
-      (f .second, f .third ∷ f .fourth ∷ [], refl, tt, (f .third, f .fourth ∷ [], refl, tt, (f .fourth, [], refl, tt, (sym (f .value), refl))))))
+    let f : FourBytes z = four-bytes z (q .0) in (
+      f .first,
+      f .second ∷ f .third ∷ f .fourth ∷ [],
+      q .1 ∙ f .bytes,
+      tt,
+      (f .second, f .third ∷ f .fourth ∷ [], refl, tt, (f .third, f .fourth ∷ [], refl, tt, (f .fourth, [], refl, tt, (sym (f .value), refl)))),
+    ))

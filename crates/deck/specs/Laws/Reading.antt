@@ -28,8 +28,8 @@ read-layout bytes b =
     value-accepts
     (accepts-map
     (λ g p.
-      let whole : bytes ≡ p .word = p .bytes ∙ ap (λ r. p .word ++ r) (p .ends) ∙ append-nil (p .word) in
-      subst (λ w. LayoutWord 0 (g .value) w) (sym whole) (p .relates))
+    let whole : bytes ≡ p .word = p .bytes ∙ ap (λ r. p .word ++ r) (p .ends) ∙ append-nil (p .word) in
+    subst (λ w. LayoutWord 0 (g .value) w) (sym whole) (p .relates))
     (sections-exact .sound bytes 0 b))
 
 module _ (bytes : List ℕ) (b : Bytes bytes) (l : Layout) (e : read bytes ≡ accepted l) where

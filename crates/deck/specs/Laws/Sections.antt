@@ -45,40 +45,64 @@ sections-exact =
     exact-by
     (then-exact (number-exact 1 (suc (limits .channels))) λ R. then-exact (labels-exact R) λ labels. here-exact λ rulesAt. then-exact (number-exact 0 (suc (limits .rules))) λ M. then-exact (times-exact (rule-exact R) M) λ rules. here-exact λ partsAt. then-exact (number-exact 1 (suc (limits .parts))) λ N. then-exact (times-exact (part-exact R M) N) λ parts. end-exact (record { deck = record { labels = labels; rules = rules; parts = parts }; rulesAt = rulesAt; partsAt = partsAt }))
     (λ at l w _ p.
-      let labels = p .4 in
-      let m = labels .4 in
-      let rules = m .4 in
-      let n = rules .4 in
-      let parts = n .4 in
-      let d : Deck = record { labels = labels .0; rules = rules .0; parts = parts .0 } in
-      let front : inRange 1 (limits .channels) (p .0) ≡ true = sym (range 1 (limits .channels) (p .0)) ∙ p .3 in
-      rw (parts .4 .0)
-      (record {
-        formed =
+    let labels = p .4 in
+    let m = labels .4 in
+    let rules = m .4 in
+    let n = rules .4 in
+    let parts = n .4 in
+    let d : Deck = record { labels = labels .0; rules = rules .0; parts = parts .0 } in
+    let front : inRange 1 (limits .channels) (p .0) ≡ true = sym (range 1 (limits .channels) (p .0)) ∙ p .3 in
+    rw (parts .4 .0)
+    (record {
+      formed =
           rw (labels .3 .0, rules .3 .0, parts .3 .0)
           (from-five (inRange 1 (limits .channels) (p .0) && all (inRange 33 126) (labels .0)) (leb (m .0) (limits .rules)) (all (goodRule (p .0)) (rules .0)) (inRange 1 (limits .parts) (n .0)) (all (goodPart (p .0) (m .0)) (parts .0))
           (and-both _ _ front (labels .3 .1), sym (zero-range (limits .rules) (m .0)) ∙ m .3, rules .3 .1, sym (range 1 (limits .parts) (n .0)) ∙ n .3, parts .3 .1));
-        bytes =
+      bytes =
           rw (encode-deck d, labels .3 .0, rules .3 .0, parts .3 .0)
           (rw (p .2, labels .2, m .2, rules .2, n .2, parts .2, parts .4 .1, append-nil (flatMap encodePart (parts .0))));
-        rules = omega arith;
-        parts = omega arith;
-      }))
+      rules = omega arith;
+      parts = omega arith;
+    }))
     (λ at l w q.
-      let d : Deck = l .deck in
-      let R : ℕ = length (d .labels) in
-      let M : ℕ = length (d .rules) in
-      let N : ℕ = length (d .parts) in
-      let front : Bool = inRange 1 (limits .channels) R in
-      let good = five (front && all (inRange 33 126) (d .labels)) (leb M (limits .rules)) (all (goodRule R) (d .rules)) (inRange 1 (limits .parts) N) (all (goodPart R M) (d .parts)) (q .formed) in
-      let parts : List ℕ = flatMap encodePart (d .parts) in
-      let rules : List ℕ = flatMap encodeRule (d .rules) in
-      let e : l .rulesAt ≡ at + 1 + R = q .rules ∙ omega arith in
-      let f : l .partsAt ≡ at + 1 + R + 1 + length rules = q .parts ∙ omega arith in
-      let same : _≡_ {A = Layout} l (record { deck = d; rulesAt = at + 1 + R; partsAt = at + 1 + R + 1 + length rules }) = λ i. record { deck = d; rulesAt = e i; partsAt = f i } in
-      (R, d .labels ++ (M ∷ (rules ++ (N ∷ parts))), q .bytes ∙ encode-deck d, range 1 (limits .channels) R ∙ and-left front _ (good .0),
-      (d .labels, M ∷ (rules ++ (N ∷ parts)), refl, (refl, and-right front _ (good .0)),
-      (M, rules ++ (N ∷ parts), refl, zero-range (limits .rules) M ∙ good .1,
-      (d .rules, N ∷ parts, refl, (refl, good .2),
-      (N, parts, refl, range 1 (limits .parts) N ∙ good .3,
-      (d .parts, [], sym (append-nil parts), (refl, good .4), (same, refl))))))))
+    let d : Deck = l .deck in
+    let R : ℕ = length (d .labels) in
+    let M : ℕ = length (d .rules) in
+    let N : ℕ = length (d .parts) in
+    let front : Bool = inRange 1 (limits .channels) R in
+    let good = five (front && all (inRange 33 126) (d .labels)) (leb M (limits .rules)) (all (goodRule R) (d .rules)) (inRange 1 (limits .parts) N) (all (goodPart R M) (d .parts)) (q .formed) in
+    let parts : List ℕ = flatMap encodePart (d .parts) in
+    let rules : List ℕ = flatMap encodeRule (d .rules) in
+    let e : l .rulesAt ≡ at + 1 + R = q .rules ∙ omega arith in
+    let f : l .partsAt ≡ at + 1 + R + 1 + length rules = q .parts ∙ omega arith in
+    let same : _≡_ {A = Layout} l (record { deck = d; rulesAt = at + 1 + R; partsAt = at + 1 + R + 1 + length rules }) = λ i. record { deck = d; rulesAt = e i; partsAt = f i } in (
+      R,
+      d .labels ++ (M ∷ (rules ++ (N ∷ parts))),
+      q .bytes ∙ encode-deck d,
+      range 1 (limits .channels) R ∙ and-left front _ (good .0),
+      (
+        d .labels,
+        M ∷ (rules ++ (N ∷ parts)),
+        refl,
+        (refl, and-right front _ (good .0)),
+        (
+          M,
+          rules ++ (N ∷ parts),
+          refl,
+          zero-range (limits .rules) M ∙ good .1,
+          (
+            d .rules,
+            N ∷ parts,
+            refl,
+            (refl, good .2),
+            (
+              N,
+              parts,
+              refl,
+              range 1 (limits .parts) N ∙ good .3,
+              (d .parts, [], sym (append-nil parts), (refl, good .4), (same, refl)),
+            ),
+          ),
+        ),
+      ),
+    ))

@@ -79,6 +79,7 @@ then-within {A} {B} {P} {Q} {m} {looks} {takes} {r} {f} w x = record { continues
     further : (s t : List ℕ) (rest : List ℕ) {o o' : Outcome (Got B)} → length s ≤ length rest + m → Continues Q takes rest t o o' → Continues Q (m + takes) s t o o'
     further s t rest l both-refuse = both-refuse
     further s t rest l (both-accept r' q k) = both-accept r' q (omega arith)
+
     go : (s t : List ℕ) → m + looks ≤ length s → {o o' : Outcome (Got A)} → Continues P m s t o o' → Continues Q (m + takes) s t (andThen o f) (andThen o' f)
     go s t h both-refuse = both-refuse
     go s t h (both-accept {a = a} rest {at = at} p l) = further s t rest l (x a p .continues rest t at (omega arith))
@@ -97,7 +98,7 @@ pub number-within : (lo hi : ℕ) → Within (λ b. b < hi) 1 1 (number lo hi)
 unfolding readers
 number-within lo hi =
     here-within λ p. then-within byte-within λ b _. require-within (leb lo b && ltb b hi) outOfRange p λ e.
-      give-within b (ltb-true b hi (and-right (leb lo b) _ e))
+    give-within b (ltb-true b hi (and-right (leb lo b) _ e))
 
 pub times-within : {A : Type 0} {m : ℕ} {r : Reader A} → Within Anything m m r → (n : ℕ) → Within Anything (n * m) (n * m) (times n r)
 unfolding readers
