@@ -2,7 +2,7 @@
 use Prim.Native.Nat.{ℕ, zero, suc}
 use mathlib.Core.Path.{_≡_, refl, sym, ap, _∙_}
 use mathlib.Core.Bool.{Bool, true, false, not, _&&_, _||_}
-use mathlib.Core.List.{List, [], _∷_, _++_, append-nil}
+use mathlib.Core.List.{List, [], _∷_, _++_}
 use native.Mathlib.Nat.{suc-inj, suc-ne-zero}
 use lib.Dec.{leb, ltb, eqb}
 use lib.ListN.{length}
@@ -19,7 +19,7 @@ use Rattle.deck.specs.Deck.{Assignment, Action, targets, decks}
 use Rattle.deck.specs.Reader.{readers}
 use Rattle.deck.specs.Layout.{assignments, action, layouts}
 use Rattle.deck.specs.Encoding.{encodeExpression, encodeAssignment, encodeAction, goodLength, goodAssignment, goodAction, encodings}
-use Rattle.deck.specs.Laws.Exact.{Exact, Any, Coded, Then, exact-by, give-exact, here-exact, require-exact, then-exact}
+use Rattle.deck.specs.Laws.Exact.{Exact, Any, Coded, exact-by, give-exact, here-exact, require-exact, then-exact}
 use Rattle.deck.specs.Laws.Readers.{number-exact, nil-exact, cons-exact}
 use Rattle.deck.specs.Laws.Expressions.{below-range, zero-range, expression-exact}
 
@@ -60,14 +60,17 @@ module _ (sc : Scope) where
   abbrev Assigns : ℕ → List ℕ → Action → Type 0
   Assigns n ts a = (length a ≡ n) × (all (goodAssignment sc) a ≡ true) × (distinct (targets a) ≡ true) × (Apart ts a ≡ true)
 
-  assigns-cons : (n : ℕ) (ts : List ℕ) (s : Assignment) (a : Action) → (goodAssignment sc s ≡ true) × (not (member (s .target) ts) ≡ true) → Assigns n (s .target ∷ ts) a → Assigns (suc n) ts (s ∷ a)
+  assigns-cons : (n : ℕ) (ts : List ℕ) (s : Assignment) (a : Action)
+      → (goodAssignment sc s ≡ true) × (not (member (s .target) ts) ≡ true) → Assigns n (s .target ∷ ts) a
+      → Assigns (suc n) ts (s ∷ a)
   unfolding lists decks
   assigns-cons n ts s a p q =
       let h : (not (member (s .target) (targets a)) && Apart ts a) ≡ true = sym (apart (s .target) ts a) ∙ q .3 in
       let free = not (member (s .target) (targets a)) in
       (ap suc (q .0), and-both (goodAssignment sc s) _ (p .0) (q .1), and-both free _ (and-left free _ h) (q .2), and-both (not (member (s .target) ts)) _ (p .1) (and-right free _ h))
 
-  assigns-parts : (n : ℕ) (ts : List ℕ) (s : Assignment) (a : Action) → Assigns (suc n) ts (s ∷ a) → ((goodAssignment sc s ≡ true) × (not (member (s .target) ts) ≡ true)) × Assigns n (s .target ∷ ts) a
+  assigns-parts : (n : ℕ) (ts : List ℕ) (s : Assignment) (a : Action) → Assigns (suc n) ts (s ∷ a)
+      → ((goodAssignment sc s ≡ true) × (not (member (s .target) ts) ≡ true)) × Assigns n (s .target ∷ ts) a
   unfolding lists decks
   assigns-parts n ts s a q =
       let free = not (member (s .target) (targets a)) in
@@ -90,7 +93,11 @@ module _ (sc : Scope) where
       (assigns-cons n ts)
       (assigns-parts n ts)
       (exact-by
-      (here-exact λ p. then-exact (number-exact 0 (sc .owns)) λ t. require-exact (not (member t ts)) repeatedTarget p (then-exact (expression-exact (whole-num sc)) λ e. then-exact (assignments-exact n (t ∷ ts)) λ a. give-exact (record { target = t; value = e } ∷ a)))
+      (here-exact λ p.
+      then-exact (number-exact 0 (sc .owns)) λ t.
+      require-exact (not (member t ts)) repeatedTarget p (then-exact (expression-exact (whole-num sc)) λ e.
+      then-exact (assignments-exact n (t ∷ ts)) λ a.
+      give-exact (record { target = t; value = e } ∷ a)))
       (λ at a w _ p.
       let t : ℕ = p .0 in
       let e : Num = p .4 .1 .0 in

@@ -1,13 +1,12 @@
 -- Exact readers: a reader accepts a value with a word of bytes exactly where a relation between the two holds; and how exact
 -- readers are put together. Assumes nothing.
-use Prim.Native.Nat.{ℕ, zero, suc, _+_}
+use Prim.Native.Nat.{ℕ, _+_}
 use mathlib.Core.Path.{_≡_, refl, sym, ap, _∙_, subst}
 use mathlib.Core.Bool.{Bool, true, false, false≢true}
 use mathlib.Core.List.{List, [], _∷_, _++_, append-assoc}
 use native.Mathlib.Omega.{arith}
 use native.Mathlib.Nat.{add-zero}
 use native.Mathlib.Numerals.{add-one}
-use lib.Dec.{ltb}
 use lib.ListN.{length, length-append}
 use Rattle.refusals.specs.Outcome.{Outcome, refused, accepted}
 use Rattle.expression.specs.Laws.Bytes.{Bytes, all-left, all-right}
@@ -29,7 +28,8 @@ module _ {A : Type 0} {P : A → Type 0} where
   accepts-map f (accepting {a = a} p) = accepting (f a p)
   accepts-map f refusing = refusing
 
-pub then-accepts : {A B : Type 0} {P : Got A → Type 0} {Q : Got B → Type 0} {o : Outcome (Got A)} (f : A → Reader B) → Accepts P o → ((g : Got A) → P g → Accepts Q (f (g .value) (g .rest) (g .at))) → Accepts Q (andThen o f)
+pub then-accepts : {A B : Type 0} {P : Got A → Type 0} {Q : Got B → Type 0} {o : Outcome (Got A)} (f : A → Reader B) → Accepts P o
+    → ((g : Got A) → P g → Accepts Q (f (g .value) (g .rest) (g .at))) → Accepts Q (andThen o f)
 unfolding readers
 then-accepts f (accepting {a = g} p) k = k g p
 then-accepts f refusing k = refusing
@@ -48,7 +48,8 @@ pub record Reads {A : Type 0} (E : List ℕ → Type 0) (P : Relation A) (s : Li
 
 pub record Exact {A : Type 0} (E : List ℕ → Type 0) (r : Reader A) (P : Relation A) : Type 0 where
   pub sound : (s : List ℕ) (at : ℕ) → Bytes s → Accepts (Reads E P s at) (r s at)
-  pub complete : (at : ℕ) (a : A) (w s : List ℕ) → P at a w → E s → r (w ++ s) at ≡ accepted (record { value = a; rest = s; at = at + length w })
+  pub complete : (at : ℕ) (a : A) (w s : List ℕ) → P at a w → E s
+      → r (w ++ s) at ≡ accepted (record { value = a; rest = s; at = at + length w })
 
 -- any bytes may follow; none may
 abbrev pub Any : List ℕ → Type 0
@@ -66,19 +67,27 @@ abbrev pub Then : {A B : Type 0} → (A → List ℕ) → (A → Type 0) → (A 
 Then {A} enc Ok Q at b w = (a : A) × (v : List ℕ) × (w ≡ enc a ++ v) × Ok a × Q a (at + length (enc a)) b v
 
 module _ {A : Type 0} {E : List ℕ → Type 0} where
+  -- the same word in another relation
+  reads-by : {P Q : Relation A} {s : List ℕ} {at : ℕ} {g : Got A}
+      → ((w : List ℕ) → s ≡ w ++ g .rest → P at (g .value) w → Q at (g .value) w) → Reads E P s at g → Reads E Q s at g
+  reads-by f p =
+      record { word = p .word; relates = f (p .word) (p .bytes) (p .relates); bytes = p .bytes; moved = p .moved; ends = p .ends }
+
   -- the same relation in other words, for words of bytes
-  pub exact-by : {r : Reader A} {P Q : Relation A} → Exact E r P → ((at : ℕ) (a : A) (w : List ℕ) → Bytes w → P at a w → Q at a w) → ((at : ℕ) (a : A) (w : List ℕ) → Q at a w → P at a w) → Exact E r Q
-  exact-by {Q} x f g =
+  pub exact-by : {r : Reader A} {P Q : Relation A} → Exact E r P → ((at : ℕ) (a : A) (w : List ℕ) → Bytes w → P at a w → Q at a w)
+      → ((at : ℕ) (a : A) (w : List ℕ) → Q at a w → P at a w) → Exact E r Q
+  exact-by {Q} x to back =
       record {
-        sound = λ s at b. accepts-map (λ a p. record { word = p .word; relates = f at (a .value) (p .word) (all-left _ (p .word) (a .rest) (rw (p .bytes) at b)) (p .relates); bytes = p .bytes; moved = p .moved; ends = p .ends }) (x .sound s at b);
-        complete = λ at a w s q e. x .complete at a w s (g at a w q) e;
+        sound = λ s at b. accepts-map (λ g p. reads-by (λ w e. to at (g .value) w (all-left _ w (g .rest) (rw e at b))) p) (x .sound s at b);
+        complete = λ at a w s q e. x .complete at a w s (back at a w q) e;
       }
 
-  pub here-exact : {f : ℕ → Reader A} {P : ℕ → Relation A} → ((p : ℕ) → Exact E (f p) (P p)) → Exact E (here >>= f) (λ at a w. P at at a w)
+  pub here-exact : {f : ℕ → Reader A} {P : ℕ → Relation A} → ((p : ℕ) → Exact E (f p) (P p))
+      → Exact E (here >>= f) (λ at a w. P at at a w)
   unfolding readers
   here-exact x =
       record {
-        sound = λ s at b. accepts-map (λ g p. record { word = p .word; relates = p .relates; bytes = p .bytes; moved = p .moved; ends = p .ends }) (x at .sound s at b);
+        sound = λ s at b. accepts-map (λ g p. reads-by (λ w e q. q) p) (x at .sound s at b);
         complete = λ at a w s q e. x at .complete at a w s q e;
       }
 
@@ -86,11 +95,12 @@ module _ {A : Type 0} {E : List ℕ → Type 0} where
   unfolding readers
   fault-exact n p never = record { sound = λ s at b. refusing; complete = λ at a w s q e. absurd (never at a w q) }
 
-  pub require-exact : (t : Bool) (n p : ℕ) {r : Reader A} {P : Relation A} → Exact E r P → Exact E (require t n p >> r) (λ at a w. (t ≡ true) × P at a w)
+  pub require-exact : (t : Bool) (n p : ℕ) {r : Reader A} {P : Relation A} → Exact E r P
+      → Exact E (require t n p >> r) (λ at a w. (t ≡ true) × P at a w)
   unfolding readers
   require-exact true n p x =
       record {
-        sound = λ s at b. accepts-map (λ g q. record { word = q .word; relates = (refl, q .relates); bytes = q .bytes; moved = q .moved; ends = q .ends }) (x .sound s at b);
+        sound = λ s at b. accepts-map (λ g p. reads-by (λ w e q. (refl, q)) p) (x .sound s at b);
         complete = λ at a w s q e. x .complete at a w s (q .1) e;
       }
   require-exact false n p x = fault-exact n p (λ at a w q. false≢true (q .0))
@@ -150,3 +160,17 @@ module _ {A B : Type 0} {E : List ℕ → Type 0} {enc : A → List ℕ} {Ok : A
             ∙ y (q .0) .complete (at + length u) b v s (q .4) e
             ∙ ap (λ n. accepted (record { value = b; rest = s; at = n })) place);
       }
+
+-- ---- exact readers of coded values, as equations
+
+module _ {A : Type 0} {r : Reader A} {enc : A → List ℕ} {Ok : A → Type 0} (x : Exact Any r (Coded enc Ok)) where
+  pub coded-sound : (s : List ℕ) (at : ℕ) (g : Got A) → Bytes s → r s at ≡ accepted g
+      → Ok (g .value) × (s ≡ enc (g .value) ++ g .rest) × (g .at ≡ at + length (enc (g .value)))
+  coded-sound s at g b e =
+      let p = accepts (x .sound s at b) e in
+      let q = p .relates .1 in
+      (p .relates .0, p .bytes ∙ ap (λ u. u ++ g .rest) q, p .moved ∙ ap (λ u. at + length u) q)
+
+  pub coded-complete : (a : A) (s : List ℕ) (at : ℕ) → Ok a
+      → r (enc a ++ s) at ≡ accepted (record { value = a; rest = s; at = at + length (enc a) })
+  coded-complete a s at h = x .complete at a (enc a) s (h, refl) tt

@@ -6,13 +6,13 @@ use mathlib.Core.List.{List, [], _∷_, _++_, append-nil}
 use lib.Dec.{leb, ltb, leb·zero, leb·suc-suc}
 use lib.ListN.{length}
 use Rattle.expression.specs.Reading.{Read, got, nothing}
-use Rattle.expression.specs.Laws.Bytes.{Bytes, all-left, all-right}
-use Rattle.expression.specs.Laws.Holds.{Holds, none, holds}
+use Rattle.expression.specs.Laws.Bytes.{all-left, all-right}
+use Rattle.expression.specs.Laws.Holds.{none, holds}
 use Rattle.expression.specs.Laws.Whole.{Whole}
 use Rattle.deck.specs.Limits.{limits}
 use Rattle.deck.specs.Layout.{judged, expression, layouts}
 use Rattle.deck.specs.Encoding.{encodeExpression, inRange, goodLength, encodings}
-use Rattle.deck.specs.Laws.Exact.{Exact, Any, Coded, Then, exact-by, give-exact, here-exact, then-exact, fault-exact}
+use Rattle.deck.specs.Laws.Exact.{Exact, Any, Coded, exact-by, give-exact, here-exact, then-exact, fault-exact}
 use Rattle.deck.specs.Laws.Readers.{number-exact, bytes-exact}
 
 -- a number from lo to hi, as the readers and as the tests of decks say it
@@ -36,10 +36,14 @@ judged-exact p (got a n) =
 judged-exact p nothing = fault-exact _ p (λ at e w q. holds {P = λ _ _. ⊥} none (q .1))
 
 module _ {A : Type 0} {whole : List ℕ → Read A} {enc : A → List ℕ} {ok : A → Bool} where
-  pub expression-exact : Whole whole enc ok → Exact Any (expression whole) (Coded (λ e. encodeExpression (enc e)) (λ e. (ok e ≡ true) × (goodLength (enc e) ≡ true)))
+  pub expression-exact : Whole whole enc ok
+      → Exact Any (expression whole) (Coded (λ e. encodeExpression (enc e)) (λ e. (ok e ≡ true) × (goodLength (enc e) ≡ true)))
   unfolding layouts encodings
   expression-exact x =
-      exact-by (then-exact (number-exact 1 (suc (limits .expression))) λ n. here-exact λ p. then-exact (bytes-exact n) λ s. judged-exact p (whole s))
+      exact-by (then-exact (number-exact 1 (suc (limits .expression))) λ n.
+      here-exact λ p.
+      then-exact (bytes-exact n) λ s.
+      judged-exact p (whole s))
       (λ at e w b p.
       let n : ℕ = p .0 in
       let s : List ℕ = p .4 .0 in

@@ -1,26 +1,44 @@
 -- The longest deck that can pass has limits .deck bytes, and reading looks at one byte more at most. Assumes nothing.
 use Prim.Native.Nat.{ℕ, zero, suc, _+_, _*_, _<_, _≤_}
-use mathlib.Core.Path.{_≡_, refl, sym, ap, _∙_, subst}
+use mathlib.Core.Path.{_≡_, refl, ap, _∙_}
 use mathlib.Core.Bool.{Bool, true, false, not}
-use mathlib.Core.List.{List, [], _∷_, _++_, append-nil}
+use mathlib.Core.List.{List, [], _∷_}
 use native.Mathlib.Omega.{arith}
 use lib.Dec.{leb, eqb}
 use lib.ListN.{length, take, drop, take-append-drop}
 use lib.Seq.{take-all, length-take-le}
 use borrow.Author.Tests.{leb-true, leb-false}
 use Rattle.lists.specs.Lists.{member}
-use Rattle.refusals.specs.Outcome.{Outcome, refused, accepted}
+use Rattle.refusals.specs.Outcome.{Outcome, accepted}
 use Rattle.refusals.specs.Numbers.{badExpression, repeatedTarget}
 use Rattle.expression.specs.Reading.{Read, got, nothing, Scope, wholeNum, wholeTruth}
 use Rattle.expression.specs.Laws.Bytes.{Bytes}
 use Rattle.deck.specs.Limits.{limits}
 use Rattle.deck.specs.Deck.{Deck}
-use Rattle.deck.specs.Reader.{Got, Reader, readers}
+use Rattle.deck.specs.Reader.{Got, readers}
 use Rattle.deck.specs.Layout.{Layout, judged, expression, ownOnly, taskScope, assignments, action, rule, part, sections, valueOf, read, layouts}
 use Rattle.deck.specs.Encoding.{encode, wellFormed}
 use Rattle.deck.specs.Laws.Exact.{Accepts, accepting, refusing, accepts}
-use Rattle.deck.specs.Laws.Within.{Continues, both-refuse, both-accept, Within, Anything, widen, at-most, forget, give-within, fault-within, here-within, require-within, end-within, then-within, byte-within, number-within, times-within, rising-within, value-within}
+use Rattle.deck.specs.Laws.Within.{Continues, both-refuse, both-accept, Within, Anything, widen, at-most, forget, give-within}
+use Rattle.deck.specs.Laws.Within.{fault-within, here-within, require-within, end-within, then-within, byte-within, number-within, times-within, rising-within, value-within}
 use Rattle.deck.specs.Laws.Reading.{sections-encode, read-formed, read-encoded}
+
+-- ---- the most bytes of each thing
+
+abbrev expressionSize : ℕ
+expressionSize = 1 + limits .expression
+
+abbrev assignmentSize : ℕ
+assignmentSize = 1 + expressionSize
+
+abbrev actionSize : ℕ
+actionSize = 1 + limits .assignments * assignmentSize
+
+abbrev ruleSize : ℕ
+ruleSize = 1 + limits .events + actionSize + 1 + expressionSize + actionSize
+
+abbrev partSize : ℕ
+partSize = limits .channels * 4 + 1 + limits .rules + expressionSize
 
 -- ---- the deck's readers
 
@@ -29,46 +47,72 @@ unfolding layouts
 judged-within p (got a n) = give-within a tt
 judged-within p nothing = fault-within badExpression p
 
-expression-within : {A : Type 0} (whole : List ℕ → Read A) → Within Anything 65 65 (expression whole)
+expression-within : {A : Type 0} (whole : List ℕ → Read A) → Within Anything expressionSize expressionSize (expression whole)
 unfolding layouts readers
 expression-within whole =
     then-within (number-within 1 (suc (limits .expression))) λ n h. here-within λ p.
-    then-within (at-most 64 (omega arith) (times-within byte-within n)) λ s _. judged-within p (whole s)
+    then-within (at-most (limits .expression) (omega arith) (times-within byte-within n)) λ s _. judged-within p (whole s)
 
-assignments-within : (sc : Scope) (n : ℕ) (ts : List ℕ) → Within Anything (n * 66) (n * 66) (assignments sc n ts)
+assignments-within : (sc : Scope) (n : ℕ) (ts : List ℕ) → Within Anything (n * assignmentSize) (n * assignmentSize) (assignments sc n ts)
 unfolding layouts readers
 assignments-within sc zero ts = give-within [] tt
 assignments-within sc (suc n) ts =
     here-within λ p. widen (omega arith) (omega arith)
-    (then-within (number-within 0 (sc .owns)) λ t _. require-within (not (member t ts)) repeatedTarget p λ _. then-within (expression-within (wholeNum sc)) λ e _. then-within (assignments-within sc n (t ∷ ts)) λ a _. give-within (record { target = t; value = e } ∷ a) tt)
+    (then-within (number-within 0 (sc .owns)) λ t _.
+    require-within (not (member t ts)) repeatedTarget p λ _.
+    then-within (expression-within (wholeNum sc)) λ e _.
+    then-within (assignments-within sc n (t ∷ ts)) λ a _.
+    give-within (record { target = t; value = e } ∷ a) tt)
 
-action-within : (sc : Scope) → Within Anything 265 265 (action sc)
+action-within : (sc : Scope) → Within Anything actionSize actionSize (action sc)
 unfolding layouts readers
-action-within sc = then-within (number-within 0 (suc (limits .assignments))) λ n h. at-most 264 (omega arith) (assignments-within sc n [])
+action-within sc =
+    then-within (number-within 0 (suc (limits .assignments))) λ n h.
+    at-most (limits .assignments * assignmentSize) (omega arith) (assignments-within sc n [])
 
-rule-within : (R : ℕ) → Within Anything 605 605 (rule R)
+rule-within : (R : ℕ) → Within Anything ruleSize ruleSize (rule R)
 unfolding layouts readers
 rule-within R =
-    then-within (number-within 1 (suc (limits .events))) λ n h. then-within (at-most 8 (omega arith) (rising-within n 0 R)) λ events _. then-within (action-within (ownOnly R)) λ default _. then-within (number-within 0 2) λ kind _. then-within (expression-within (wholeTruth (taskScope R (eqb kind 1)))) λ condition _. then-within (action-within (taskScope R (eqb kind 1))) λ act _. give-within _ tt
+    then-within (number-within 1 (suc (limits .events))) λ n h.
+    then-within (at-most (limits .events) (omega arith) (rising-within n 0 R)) λ events _.
+    then-within (action-within (ownOnly R)) λ default _.
+    then-within (number-within 0 2) λ kind _.
+    then-within (expression-within (wholeTruth (taskScope R (eqb kind 1)))) λ condition _.
+    then-within (action-within (taskScope R (eqb kind 1))) λ act _.
+    give-within _ tt
 
-part-within : (R M : ℕ) → R < 33 → M < 65 → Within Anything 258 258 (part R M)
+part-within : (R M : ℕ) → R < suc (limits .channels) → M < suc (limits .rules) → Within Anything partSize partSize (part R M)
 unfolding layouts readers
 part-within R M h k =
-    then-within (at-most 128 (omega arith) (times-within value-within R)) λ opening _. then-within (number-within 0 (suc M)) λ n l. then-within (at-most 64 (omega arith) (rising-within n 0 M)) λ carried _. then-within (expression-within (wholeTruth (ownOnly R))) λ limit _. give-within _ tt
+    then-within (at-most (limits .channels * 4) (omega arith) (times-within value-within R)) λ opening _.
+    then-within (number-within 0 (suc M)) λ n l.
+    then-within (at-most (limits .rules) (omega arith) (rising-within n 0 M)) λ carried _.
+    then-within (expression-within (wholeTruth (ownOnly R))) λ limit _.
+    give-within _ tt
 
 -- the last byte looked at is one that follows
 sections-within : Within Anything (suc (limits .deck)) (limits .deck) sections
 unfolding layouts readers
 sections-within =
-    then-within (number-within 1 (suc (limits .channels))) λ R h. then-within (at-most 32 (omega arith) (times-within {m = 1} (forget (number-within 33 127)) R)) λ labels _. here-within λ rulesAt. then-within (number-within 0 (suc (limits .rules))) λ M k. then-within (at-most 38720 (omega arith) (times-within (rule-within R) M)) λ rules _. here-within λ partsAt. then-within (number-within 1 (suc (limits .parts))) λ N l. then-within (at-most 4128 (omega arith) (times-within (part-within R M h k) N)) λ parts _. end-within _
+    then-within (number-within 1 (suc (limits .channels))) λ R h.
+    then-within (at-most (limits .channels) (omega arith) (times-within {m = 1} (forget (number-within 33 127)) R)) λ labels _.
+    here-within λ rulesAt.
+    then-within (number-within 0 (suc (limits .rules))) λ M k.
+    then-within (at-most (limits .rules * ruleSize) (omega arith) (times-within (rule-within R) M)) λ rules _.
+    here-within λ partsAt.
+    then-within (number-within 1 (suc (limits .parts))) λ N l.
+    then-within (at-most (limits .parts * partSize) (omega arith) (times-within (part-within R M h k) N)) λ parts _.
+    end-within _
 
 -- ---- the whole deck
 
-continues-takes : {A : Type 0} {P : A → Type 0} {n : ℕ} {s t : List ℕ} {o o' : Outcome (Got A)} → Continues P n s t o o' → Accepts (λ g. length s ≤ length (g .rest) + n) o
+continues-takes : {A : Type 0} {P : A → Type 0} {n : ℕ} {s t : List ℕ} {o o' : Outcome (Got A)} → Continues P n s t o o'
+    → Accepts (λ g. length s ≤ length (g .rest) + n) o
 continues-takes both-refuse = refusing
 continues-takes (both-accept r p h) = accepting h
 
-continues-value : {A : Type 0} {P : A → Type 0} {n : ℕ} {s t : List ℕ} {o o' : Outcome (Got A)} → Continues P n s t o o' → valueOf o ≡ valueOf o'
+continues-value : {A : Type 0} {P : A → Type 0} {n : ℕ} {s t : List ℕ} {o o' : Outcome (Got A)} → Continues P n s t o o'
+    → valueOf o ≡ valueOf o'
 unfolding valueOf
 continues-value both-refuse = refl
 continues-value (both-accept r p h) = refl

@@ -1,21 +1,18 @@
 -- The readers of numbers and lists are exact. Assumes nothing.
-use Prim.Native.Nat.{ℕ, zero, suc, _+_, _<_}
+use Prim.Native.Nat.{ℕ, zero, suc, _<_}
 use mathlib.Core.Path.{_≡_, refl, sym, ap, _∙_}
-use mathlib.Core.Bool.{Bool, true, false, _&&_}
+use mathlib.Core.Bool.{Bool, true, _&&_}
 use mathlib.Core.List.{List, [], _∷_, _++_, append-nil}
-use native.Mathlib.Omega.{arith}
 use native.Mathlib.Nat.{suc-inj, suc-ne-zero}
 use lib.Dec.{leb, ltb, lit<}
-use lib.IntN.{ℤ}
 use lib.ListN.{length, getD}
-use borrow.Author.Tests.{ltb-true}
 use Rattle.lists.specs.Lists.{all, flatMap, lists}
 use Rattle.refusals.specs.Numbers.{outOfRange}
 use Rattle.expression.specs.Reading.{word, signed}
 use Rattle.expression.specs.Encoding.{encodeValue, fits}
-use Rattle.expression.specs.Laws.Bytes.{Bytes, byte-below, and-both, and-left, and-right}
+use Rattle.expression.specs.Laws.Bytes.{byte-below, and-both, and-left, and-right}
 use Rattle.expression.specs.Laws.Value.{FourBytes, four-bytes, encode-word, word-fits}
-use Rattle.deck.specs.Reader.{Got, Reader, give, byte, number, times, rising, value, readers}
+use Rattle.deck.specs.Reader.{Reader, give, byte, number, times, rising, value, readers}
 use Rattle.deck.specs.Encoding.{isRising, encodings}
 use Rattle.deck.specs.Laws.Exact.{Exact, Any, Coded, Then, exact-by, give-exact, here-exact, require-exact, byte-exact, then-exact}
 
@@ -29,7 +26,8 @@ number-exact lo hi =
 -- ---- lists, one element after the other
 
 module _ {A : Type 0} (enc : A → List ℕ) where
-  pub nil-exact : (All : List A → Type 0) → All [] → ((y : A) (ys : List A) → All (y ∷ ys) → ⊥) → Exact Any (give []) (Coded (flatMap enc) All)
+  pub nil-exact : (All : List A → Type 0) → All [] → ((y : A) (ys : List A) → All (y ∷ ys) → ⊥)
+      → Exact Any (give []) (Coded (flatMap enc) All)
   unfolding lists
   nil-exact All h never =
       exact-by (give-exact [])
@@ -41,7 +39,10 @@ module _ {A : Type 0} (enc : A → List ℕ) where
       back (y ∷ ys) w q e = absurd (never y ys q)
 
   -- a first element, and the list of the others
-  pub cons-exact : (Ok : A → Type 0) (Others : A → List A → Type 0) (All : List A → Type 0) {r : Reader (List A)} → (All [] → ⊥) → ((y : A) (ys : List A) → Ok y → Others y ys → All (y ∷ ys)) → ((y : A) (ys : List A) → All (y ∷ ys) → Ok y × Others y ys) → Exact Any r (Then enc Ok (λ y. Then (flatMap enc) (Others y) (λ ys at xs w. (xs ≡ y ∷ ys) × (w ≡ [])))) → Exact Any r (Coded (flatMap enc) All)
+  pub cons-exact : (Ok : A → Type 0) (Others : A → List A → Type 0) (All : List A → Type 0) {r : Reader (List A)} → (All [] → ⊥)
+      → ((y : A) (ys : List A) → Ok y → Others y ys → All (y ∷ ys)) → ((y : A) (ys : List A) → All (y ∷ ys) → Ok y × Others y ys)
+      → Exact Any r (Then enc Ok (λ y. Then (flatMap enc) (Others y) (λ ys at xs w. (xs ≡ y ∷ ys) × (w ≡ []))))
+      → Exact Any r (Coded (flatMap enc) All)
   unfolding lists
   cons-exact Ok Others All never join part x =
       exact-by x
@@ -50,7 +51,8 @@ module _ {A : Type 0} (enc : A → List ℕ) where
       (join (p .0) (p .4 .0) (p .3) (p .4 .3), ap (λ t. enc (p .0) ++ t) (append-nil (flatMap enc (p .4 .0)))))
       (λ at xs w q. back at xs w (q .0) (q .1))
     where
-      back : (at : ℕ) (xs : List A) (w : List ℕ) → All xs → w ≡ flatMap enc xs → Then enc Ok (λ y. Then (flatMap enc) (Others y) (λ ys at xs w. (xs ≡ y ∷ ys) × (w ≡ []))) at xs w
+      back : (at : ℕ) (xs : List A) (w : List ℕ) → All xs → w ≡ flatMap enc xs
+          → Then enc Ok (λ y. Then (flatMap enc) (Others y) (λ ys at xs w. (xs ≡ y ∷ ys) × (w ≡ []))) at xs w
       back at [] w q e = absurd (never q)
       back at (y ∷ ys) w q e = (y, flatMap enc ys, e, part y ys q .0, (ys, [], sym (append-nil (flatMap enc ys)), part y ys q .1, (refl, refl)))
 
@@ -71,7 +73,8 @@ unfolding lists
 flatMap-one [] = refl
 flatMap-one (b ∷ s) = ap (λ t. b ∷ t) (flatMap-one s)
 
-pub bytes-coded : {r : Reader (List ℕ)} {Ok : List ℕ → Type 0} → Exact Any r (Coded (flatMap (λ b. b ∷ [])) Ok) → Exact Any r (Coded (λ s. s) Ok)
+pub bytes-coded : {r : Reader (List ℕ)} {Ok : List ℕ → Type 0} → Exact Any r (Coded (flatMap (λ b. b ∷ [])) Ok)
+    → Exact Any r (Coded (λ s. s) Ok)
 bytes-coded x = exact-by x (λ at s w _ p. (p .0, p .1 ∙ flatMap-one s)) (λ at s w q. (q .0, q .1 ∙ sym (flatMap-one s)))
 
 all-true : (s : List ℕ) → all (λ _. true) s ≡ true
@@ -85,7 +88,8 @@ bytes-exact n =
     (λ at s w _ p. (p .0 .0, p .1))
     (λ at s w q. ((q .0, all-true s), q .1))
 
-rising-from : (n lo hi : ℕ) → Exact Any (rising n lo hi) (Coded (flatMap (λ c. c ∷ [])) (λ cs. (length cs ≡ n) × (isRising lo hi cs ≡ true)))
+rising-from : (n lo hi : ℕ)
+    → Exact Any (rising n lo hi) (Coded (flatMap (λ c. c ∷ [])) (λ cs. (length cs ≡ n) × (isRising lo hi cs ≡ true)))
 unfolding readers encodings
 rising-from zero lo hi = nil-exact _ _ (refl, refl) (λ c cs q. suc-ne-zero _ (q .0))
 rising-from (suc n) lo hi =
@@ -95,7 +99,8 @@ rising-from (suc n) lo hi =
     (λ c cs q. (and-left (leb lo c && ltb c hi) _ (q .1), (suc-inj (q .0), and-right (leb lo c && ltb c hi) _ (q .1))))
     (then-exact (number-exact lo hi) λ c. then-exact (rising-from n (suc c) hi) λ cs. give-exact (c ∷ cs))
 
-pub rising-exact : (n lo hi : ℕ) → Exact Any (rising n lo hi) (Coded (λ cs. cs) (λ cs. (length cs ≡ n) × (isRising lo hi cs ≡ true)))
+pub rising-exact : (n lo hi : ℕ)
+    → Exact Any (rising n lo hi) (Coded (λ cs. cs) (λ cs. (length cs ≡ n) × (isRising lo hi cs ≡ true)))
 rising-exact n lo hi = bytes-coded (rising-from n lo hi)
 
 -- ---- four bytes
@@ -103,7 +108,11 @@ rising-exact n lo hi = bytes-coded (rising-from n lo hi)
 pub value-exact : Exact Any value (Coded encodeValue (λ z. fits z ≡ true))
 unfolding readers
 value-exact =
-    exact-by (then-exact byte-exact λ a. then-exact byte-exact λ b. then-exact byte-exact λ c. then-exact byte-exact λ d. give-exact (signed (word a b c d)))
+    exact-by (then-exact byte-exact λ a.
+    then-exact byte-exact λ b.
+    then-exact byte-exact λ c.
+    then-exact byte-exact λ d.
+    give-exact (signed (word a b c d)))
     (λ at z w b p.
     let four : List ℕ = p .0 ∷ p .4 .0 ∷ p .4 .4 .0 ∷ p .4 .4 .4 .0 ∷ [] in
     let e : w ≡ four = rw (p .2, p .4 .2, p .4 .4 .2, p .4 .4 .4 .2, p .4 .4 .4 .4 .1) in

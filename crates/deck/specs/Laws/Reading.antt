@@ -6,13 +6,13 @@ use mathlib.Core.Bool.{true}
 use mathlib.Core.List.{List, [], _++_, append-nil}
 use native.Mathlib.Nat.{zero-add}
 use lib.ListN.{length}
-use Rattle.refusals.specs.Outcome.{Outcome, refused, accepted}
+use Rattle.refusals.specs.Outcome.{Outcome, accepted}
 use Rattle.expression.specs.Laws.Bytes.{Bytes}
 use Rattle.deck.specs.Deck.{Deck}
 use Rattle.deck.specs.Reader.{Got}
-use Rattle.deck.specs.Layout.{Layout, sections, valueOf, read, layouts}
+use Rattle.deck.specs.Layout.{Layout, sections, valueOf, read}
 use Rattle.deck.specs.Encoding.{encodeChannels, encodeRules, encode, wellFormed}
-use Rattle.deck.specs.Laws.Exact.{Accepts, accepting, refusing, accepts, accepts-map, Exact, Reads}
+use Rattle.deck.specs.Laws.Exact.{Accepts, accepting, refusing, accepts, accepts-map}
 use Rattle.deck.specs.Laws.Sections.{LayoutWord, sections-exact}
 
 value-accepts : {A : Type 0} {P : A → Type 0} {o : Outcome (Got A)} → Accepts (λ g. P (g .value)) o → Accepts P (valueOf o)
@@ -50,7 +50,8 @@ module _ (bytes : List ℕ) (b : Bytes bytes) (l : Layout) (e : read bytes ≡ a
 abbrev pub layoutOf : Deck → Layout
 layoutOf d = record { deck = d; rulesAt = length (encodeChannels d); partsAt = length (encodeChannels d) + length (encodeRules d) }
 
-pub sections-encode : (d : Deck) → wellFormed d ≡ true → sections (encode d) 0 ≡ accepted (record { value = layoutOf d; rest = []; at = 0 + length (encode d) })
+pub sections-encode : (d : Deck) → wellFormed d ≡ true
+    → sections (encode d) 0 ≡ accepted (record { value = layoutOf d; rest = []; at = 0 + length (encode d) })
 sections-encode d h =
     let p : LayoutWord 0 (layoutOf d) (encode d) = record { formed = h; bytes = refl; rules = sym (zero-add _); parts = ap (λ n. n + length (encodeRules d)) (sym (zero-add _)) } in
     ap (λ s. sections s 0) (sym (append-nil (encode d))) ∙ sections-exact .complete 0 (layoutOf d) (encode d) [] p refl

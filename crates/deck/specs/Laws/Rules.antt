@@ -1,38 +1,43 @@
 -- The readers of a rule and of a part are exact. Assumes nothing.
 use Prim.Native.Nat.{ℕ, zero, suc, _<_}
-use mathlib.Core.Path.{_≡_, refl, sym, ap, _∙_}
-use mathlib.Core.Bool.{Bool, true, false, _&&_}
-use mathlib.Core.List.{List, [], _∷_, _++_, append-nil, append-assoc}
+use mathlib.Core.Path.{_≡_, refl, sym, _∙_}
+use mathlib.Core.Bool.{Bool, true, false}
+use mathlib.Core.List.{[], _∷_, _++_, append-nil, append-assoc}
 use native.Mathlib.Omega.{arith}
 use lib.Dec.{leb, ltb, eqb}
 use lib.ListN.{length}
 use borrow.Author.Tests.{ltb-true, eqb-true, eq-eqb}
 use Rattle.lists.specs.Lists.{all, flatMap}
-use Rattle.expression.specs.Syntax.{Truth}
 use Rattle.expression.specs.Encoding.{encodeValue, encodeTruth, fits, goodTruth}
 use Rattle.expression.specs.Laws.Bytes.{and-both, and-left, and-right}
 use Rattle.expression.specs.Laws.Whole.{whole-truth}
 use Rattle.deck.specs.Limits.{limits}
-use Rattle.deck.specs.Deck.{Action, Rule, Part}
+use Rattle.deck.specs.Deck.{Rule, Part}
 use Rattle.deck.specs.Reader.{readers}
 use Rattle.deck.specs.Layout.{ownOnly, taskScope, rule, part, layouts}
-use Rattle.deck.specs.Encoding.{encodeExpression, encodeAction, kindByte, encodeRule, encodePart, inRange, isRising, goodLength, goodAction, goodCondition, goodRule, goodPart, encodings}
+use Rattle.deck.specs.Encoding.{encodeExpression, encodeAction, kindByte, encodeRule, encodePart, inRange, isRising, goodAction, goodCondition, goodRule, goodPart}
 use Rattle.deck.specs.Laws.Tests.{five, from-five}
-use Rattle.deck.specs.Laws.Exact.{Exact, Any, Coded, Then, exact-by, give-exact, then-exact}
+use Rattle.deck.specs.Laws.Exact.{Exact, Any, Coded, exact-by, give-exact, then-exact}
 use Rattle.deck.specs.Laws.Readers.{number-exact, times-exact, rising-exact, value-exact}
 use Rattle.deck.specs.Laws.Expressions.{range, below-range, zero-range, expression-exact}
 use Rattle.deck.specs.Laws.Actions.{action-exact}
 
 -- ---- the encodings, one thing after the other
 
-encode-rule : (r : Rule) → encodeRule r ≡ length (r .events) ∷ (r .events ++ (encodeAction (r .default) ++ (kindByte (r .everywhere) ∷ (encodeExpression (encodeTruth (r .condition)) ++ encodeAction (r .action)))))
+encode-rule : (r : Rule)
+    → encodeRule r
+    ≡ length (r .events)
+    ∷ (r .events
+    ++ (encodeAction (r .default)
+    ++ (kindByte (r .everywhere) ∷ (encodeExpression (encodeTruth (r .condition)) ++ encodeAction (r .action)))))
 unfolding encodeRule
 encode-rule r =
     let k = kindByte (r .everywhere) ∷ encodeExpression (encodeTruth (r .condition)) in
     append-assoc ((length (r .events) ∷ r .events) ++ encodeAction (r .default)) k (encodeAction (r .action))
     ∙ append-assoc (length (r .events) ∷ r .events) (encodeAction (r .default)) (k ++ encodeAction (r .action))
 
-encode-part : (p : Part) → encodePart p ≡ flatMap encodeValue (p .opening) ++ (length (p .carried) ∷ (p .carried ++ encodeExpression (encodeTruth (p .limit))))
+encode-part : (p : Part)
+    → encodePart p ≡ flatMap encodeValue (p .opening) ++ (length (p .carried) ∷ (p .carried ++ encodeExpression (encodeTruth (p .limit))))
 unfolding encodePart
 encode-part p = append-assoc (flatMap encodeValue (p .opening)) (length (p .carried) ∷ p .carried) (encodeExpression (encodeTruth (p .limit)))
 
@@ -56,7 +61,13 @@ pub rule-exact : (R : ℕ) → Exact Any (rule R) (Coded encodeRule (λ r. goodR
 unfolding layouts readers goodRule goodCondition
 rule-exact R =
     exact-by
-    (then-exact (number-exact 1 (suc (limits .events))) λ n. then-exact (rising-exact n 0 R) λ events. then-exact (action-exact (ownOnly R)) λ default. then-exact (number-exact 0 2) λ kind. then-exact (expression-exact (whole-truth (taskScope R (eqb kind 1)))) λ condition. then-exact (action-exact (taskScope R (eqb kind 1))) λ act. give-exact (record { events = events; default = default; everywhere = eqb kind 1; condition = condition; action = act }))
+    (then-exact (number-exact 1 (suc (limits .events))) λ n.
+    then-exact (rising-exact n 0 R) λ events.
+    then-exact (action-exact (ownOnly R)) λ default.
+    then-exact (number-exact 0 2) λ kind.
+    then-exact (expression-exact (whole-truth (taskScope R (eqb kind 1)))) λ condition.
+    then-exact (action-exact (taskScope R (eqb kind 1))) λ act.
+    give-exact (record { events = events; default = default; everywhere = eqb kind 1; condition = condition; action = act }))
     (λ at r w _ p.
     let events = p .4 in
     let default = events .4 in
@@ -114,7 +125,11 @@ pub part-exact : (R M : ℕ) → Exact Any (part R M) (Coded encodePart (λ p. g
 unfolding layouts readers goodPart goodCondition
 part-exact R M =
     exact-by
-    (then-exact (times-exact value-exact R) λ opening. then-exact (number-exact 0 (suc M)) λ n. then-exact (rising-exact n 0 M) λ carried. then-exact (expression-exact (whole-truth (ownOnly R))) λ limit. give-exact (record { opening = opening; carried = carried; limit = limit }))
+    (then-exact (times-exact value-exact R) λ opening.
+    then-exact (number-exact 0 (suc M)) λ n.
+    then-exact (rising-exact n 0 M) λ carried.
+    then-exact (expression-exact (whole-truth (ownOnly R))) λ limit.
+    give-exact (record { opening = opening; carried = carried; limit = limit }))
     (λ at r w _ p.
     let count = p .4 in
     let carried = count .4 in

@@ -1,6 +1,6 @@
 -- The reader of the deck's three sections is exact, with the offsets of the last two. Assumes nothing.
 use Prim.Native.Nat.{ℕ, suc, _+_}
-use mathlib.Core.Path.{_≡_, refl, sym, ap, _∙_}
+use mathlib.Core.Path.{_≡_, refl, sym, _∙_}
 use mathlib.Core.Bool.{Bool, true, _&&_}
 use mathlib.Core.List.{List, [], _∷_, _++_, append-nil, append-assoc}
 use native.Mathlib.Omega.{arith}
@@ -14,16 +14,18 @@ use Rattle.deck.specs.Reader.{number, times, readers}
 use Rattle.deck.specs.Layout.{Layout, sections, layouts}
 use Rattle.deck.specs.Encoding.{encodeRule, encodePart, encodeChannels, encodeRules, encodeParts, encode, inRange, goodRule, goodPart, wellFormed}
 use Rattle.deck.specs.Laws.Tests.{five, from-five}
-use Rattle.deck.specs.Laws.Exact.{Exact, Any, Nothing, Coded, Relation, exact-by, here-exact, end-exact, then-exact}
+use Rattle.deck.specs.Laws.Exact.{Exact, Any, Nothing, Coded, exact-by, here-exact, end-exact, then-exact}
 use Rattle.deck.specs.Laws.Readers.{number-exact, times-exact, bytes-coded}
 use Rattle.deck.specs.Laws.Expressions.{range, zero-range}
 use Rattle.deck.specs.Laws.Rules.{rule-exact, part-exact}
 
-encode-deck : (d : Deck) → encode d ≡ length (d .labels) ∷ (d .labels ++ (length (d .rules) ∷ (flatMap encodeRule (d .rules) ++ (length (d .parts) ∷ flatMap encodePart (d .parts)))))
+encode-deck : (d : Deck)
+    → encode d ≡ length (d .labels) ∷ (d .labels ++ (length (d .rules) ∷ (flatMap encodeRule (d .rules) ++ (length (d .parts) ∷ flatMap encodePart (d .parts)))))
 unfolding encode encodeChannels encodeRules encodeParts decks
 encode-deck d = append-assoc (encodeChannels d) (encodeRules d) (encodeParts d)
 
-labels-exact : (n : ℕ) → Exact Any (times n (number 33 127)) (Coded (λ s. s) (λ s. (length s ≡ n) × (all (inRange 33 126) s ≡ true)))
+labels-exact : (n : ℕ)
+    → Exact Any (times n (number 33 127)) (Coded (λ s. s) (λ s. (length s ≡ n) × (all (inRange 33 126) s ≡ true)))
 labels-exact n = bytes-coded (times-exact label n)
   where
     label : Exact Any (number 33 127) (Coded (λ b. b ∷ []) (λ b. inRange 33 126 b ≡ true))
@@ -43,7 +45,15 @@ pub sections-exact : Exact Nothing sections LayoutWord
 unfolding layouts readers wellFormed encodeChannels encodeRules decks
 sections-exact =
     exact-by
-    (then-exact (number-exact 1 (suc (limits .channels))) λ R. then-exact (labels-exact R) λ labels. here-exact λ rulesAt. then-exact (number-exact 0 (suc (limits .rules))) λ M. then-exact (times-exact (rule-exact R) M) λ rules. here-exact λ partsAt. then-exact (number-exact 1 (suc (limits .parts))) λ N. then-exact (times-exact (part-exact R M) N) λ parts. end-exact (record { deck = record { labels = labels; rules = rules; parts = parts }; rulesAt = rulesAt; partsAt = partsAt }))
+    (then-exact (number-exact 1 (suc (limits .channels))) λ R.
+    then-exact (labels-exact R) λ labels.
+    here-exact λ rulesAt.
+    then-exact (number-exact 0 (suc (limits .rules))) λ M.
+    then-exact (times-exact (rule-exact R) M) λ rules.
+    here-exact λ partsAt.
+    then-exact (number-exact 1 (suc (limits .parts))) λ N.
+    then-exact (times-exact (part-exact R M) N) λ parts.
+    end-exact (record { deck = record { labels = labels; rules = rules; parts = parts }; rulesAt = rulesAt; partsAt = partsAt }))
     (λ at l w _ p.
     let labels = p .4 in
     let m = labels .4 in

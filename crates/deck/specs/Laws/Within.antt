@@ -1,7 +1,7 @@
 -- How far readers look: given enough bytes, a reader answers the same whatever follows them; and how many it takes.
 -- Assumes nothing.
 use Prim.Native.Nat.{ℕ, zero, suc, _+_, _*_, _<_, _≤_}
-use mathlib.Core.Path.{_≡_, refl, sym, ap, _∙_, subst}
+use mathlib.Core.Path.{_≡_, refl}
 use mathlib.Core.Bool.{Bool, true, false, _&&_}
 use mathlib.Core.List.{List, [], _∷_, _++_}
 use native.Mathlib.Omega.{arith}
@@ -19,7 +19,8 @@ use Rattle.deck.specs.Reader.{Got, Reader, andThen, _>>=_, _>>_, give, f
 -- taken, and the value has the property P
 pub data Continues {A : Type 0} (P : A → Type 0) (takes : ℕ) (s t : List ℕ) : Outcome (Got A) → Outcome (Got A) → Type 0 where
   both-refuse : {n p : ℕ} → Continues P takes s t (refused n p) (refused n p)
-  both-accept : {a : A} (r : List ℕ) {at : ℕ} → P a → length s ≤ length r + takes → Continues P takes s t (accepted (record { value = a; rest = r; at = at })) (accepted (record { value = a; rest = r ++ t; at = at }))
+  both-accept : {a : A} (r : List ℕ) {at : ℕ} → P a → length s ≤ length r + takes
+      → Continues P takes s t (accepted (record { value = a; rest = r; at = at })) (accepted (record { value = a; rest = r ++ t; at = at }))
 
 -- the reader looks at no more than `looks` bytes
 pub record Within {A : Type 0} (P : A → Type 0) (looks takes : ℕ) (r : Reader A) : Type 0 where
@@ -33,7 +34,8 @@ module _ {A : Type 0} {P : A → Type 0} where
   more l both-refuse = both-refuse
   more l (both-accept r p h) = both-accept r p (omega arith)
 
-  pub widen : {looks takes looks' takes' : ℕ} {r : Reader A} → looks ≤ looks' → takes ≤ takes' → Within P looks takes r → Within P looks' takes' r
+  pub widen : {looks takes looks' takes' : ℕ} {r : Reader A} → looks ≤ looks' → takes ≤ takes' → Within P looks takes r
+      → Within P looks' takes' r
   widen l m w = record { continues = λ s t at h. more m (w .continues s t at (le-trans l h)) }
 
   pub at-most : (n : ℕ) {m : ℕ} {r : Reader A} → m ≤ n → Within P m m r → Within P n n r
@@ -54,11 +56,13 @@ module _ {A : Type 0} {P : A → Type 0} where
   unfolding readers
   fault-within n p = record { continues = λ s t at h. both-refuse }
 
-  pub here-within : {looks takes : ℕ} {f : ℕ → Reader A} → ((p : ℕ) → Within P looks takes (f p)) → Within P looks takes (here >>= f)
+  pub here-within : {looks takes : ℕ} {f : ℕ → Reader A} → ((p : ℕ) → Within P looks takes (f p))
+      → Within P looks takes (here >>= f)
   unfolding readers
   here-within w = record { continues = λ s t at h. w at .continues s t at h }
 
-  pub require-within : {looks takes : ℕ} (t : Bool) (n p : ℕ) {r : Reader A} → (t ≡ true → Within P looks takes r) → Within P looks takes (require t n p >> r)
+  pub require-within : {looks takes : ℕ} (t : Bool) (n p : ℕ) {r : Reader A} → (t ≡ true → Within P looks takes r)
+      → Within P looks takes (require t n p >> r)
   unfolding readers
   require-within true n p w = record { continues = λ s t at h. w refl .continues s t at h }
   require-within false n p w = record { continues = λ s t at h. both-refuse }
@@ -72,15 +76,18 @@ module _ {A : Type 0} {P : A → Type 0} where
       go [] t at h = absurd (not-suc-le-zero h)
       go (b ∷ s) t at h = both-refuse
 
-pub then-within : {A B : Type 0} {P : A → Type 0} {Q : B → Type 0} {m looks takes : ℕ} {r : Reader A} {f : A → Reader B} → Within P m m r → ((a : A) → P a → Within Q looks takes (f a)) → Within Q (m + looks) (m + takes) (r >>= f)
+pub then-within : {A B : Type 0} {P : A → Type 0} {Q : B → Type 0} {m looks takes : ℕ} {r : Reader A} {f : A → Reader B}
+    → Within P m m r → ((a : A) → P a → Within Q looks takes (f a)) → Within Q (m + looks) (m + takes) (r >>= f)
 unfolding readers
 then-within {A} {B} {P} {Q} {m} {looks} {takes} {r} {f} w x = record { continues = λ s t at h. go s t h (w .continues s t at (omega arith)) }
   where
-    further : (s t : List ℕ) (rest : List ℕ) {o o' : Outcome (Got B)} → length s ≤ length rest + m → Continues Q takes rest t o o' → Continues Q (m + takes) s t o o'
+    further : (s t : List ℕ) (rest : List ℕ) {o o' : Outcome (Got B)} → length s ≤ length rest + m → Continues Q takes rest t o o'
+        → Continues Q (m + takes) s t o o'
     further s t rest l both-refuse = both-refuse
     further s t rest l (both-accept r' q k) = both-accept r' q (omega arith)
 
-    go : (s t : List ℕ) → m + looks ≤ length s → {o o' : Outcome (Got A)} → Continues P m s t o o' → Continues Q (m + takes) s t (andThen o f) (andThen o' f)
+    go : (s t : List ℕ) → m + looks ≤ length s → {o o' : Outcome (Got A)} → Continues P m s t o o'
+        → Continues Q (m + takes) s t (andThen o f) (andThen o' f)
     go s t h both-refuse = both-refuse
     go s t h (both-accept {a = a} rest {at = at} p l) = further s t rest l (x a p .continues rest t at (omega arith))
 
@@ -100,7 +107,8 @@ number-within lo hi =
     here-within λ p. then-within byte-within λ b _. require-within (leb lo b && ltb b hi) outOfRange p λ e.
     give-within b (ltb-true b hi (and-right (leb lo b) _ e))
 
-pub times-within : {A : Type 0} {m : ℕ} {r : Reader A} → Within Anything m m r → (n : ℕ) → Within Anything (n * m) (n * m) (times n r)
+pub times-within : {A : Type 0} {m : ℕ} {r : Reader A} → Within Anything m m r → (n : ℕ)
+    → Within Anything (n * m) (n * m) (times n r)
 unfolding readers
 times-within w zero = widen (omega arith) (omega arith) (give-within [] tt)
 times-within w (suc n) = widen (omega arith) (omega arith) (then-within w λ x _. then-within (times-within w n) λ xs _. give-within (x ∷ xs) tt)
@@ -108,8 +116,15 @@ times-within w (suc n) = widen (omega arith) (omega arith) (then-within w λ x _
 pub rising-within : (n lo hi : ℕ) → Within Anything n n (rising n lo hi)
 unfolding readers
 rising-within zero lo hi = give-within [] tt
-rising-within (suc n) lo hi = widen (omega arith) (omega arith) (then-within (number-within lo hi) λ c _. then-within (rising-within n (suc c) hi) λ cs _. give-within (c ∷ cs) tt)
+rising-within (suc n) lo hi =
+    widen (omega arith) (omega arith)
+    (then-within (number-within lo hi) λ c _. then-within (rising-within n (suc c) hi) λ cs _. give-within (c ∷ cs) tt)
 
 pub value-within : Within Anything 4 4 value
 unfolding readers
-value-within = then-within byte-within λ a _. then-within byte-within λ b _. then-within byte-within λ c _. then-within byte-within λ d _. give-within (signed (word a b c d)) tt
+value-within =
+    then-within byte-within λ a _.
+    then-within byte-within λ b _.
+    then-within byte-within λ c _.
+    then-within byte-within λ d _.
+    give-within (signed (word a b c d)) tt

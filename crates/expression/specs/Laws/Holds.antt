@@ -19,6 +19,7 @@ module _ {A : Type 0} {P : A → ℕ → Type 0} where
   onlyIf-holds {t = true} h = h refl
   onlyIf-holds {t = false} h = none
 
-  pub then-holds : {B : Type 0} {Q : B → ℕ → Type 0} {r : Read A} (k : A → ℕ → Read B) → Holds P r → ((a : A) (n : ℕ) → P a n → Holds Q (k a n)) → Holds Q (then r k)
+  pub then-holds : {B : Type 0} {Q : B → ℕ → Type 0} {r : Read A} (k : A → ℕ → Read B) → Holds P r
+      → ((a : A) (n : ℕ) → P a n → Holds Q (k a n)) → Holds Q (then r k)
   then-holds k (held {a = a} {n = n} p) q = q a n p
   then-holds k none q = none

@@ -1,15 +1,14 @@
 -- A number that was read is a good one, and its encoding stands where it was read. Assumes nothing.
 use Prim.Native.Nat.{ℕ, zero, suc, _+_, _-_, _<_, _≤_}
-use mathlib.Core.Path.{_≡_, refl, sym, ap, _∙_, subst}
-use mathlib.Core.Bool.{Bool, true, false}
-use mathlib.Core.List.{List, [], _∷_, _++_}
+use mathlib.Core.Path.{_≡_, refl}
+use mathlib.Core.Bool.{true}
+use mathlib.Core.List.{List, [], _∷_}
 use native.Mathlib.Omega.{arith}
-use lib.Dec.{ltb, leb}
-use lib.IntN.{ℤ}
+use lib.Dec.{ltb}
 use lib.ListN.{length, getD}
 use borrow.Author.Tests.{ltb-true, leb-true}
-use Rattle.expression.specs.Syntax.{Num, literal, own, far, two, negation}
-use Rattle.expression.specs.Reading.{Read, got, nothing, onlyIf, then, word, signed, literalAt, channelAt, numOp, Scope, numOperands, num, readingExpressions}
+use Rattle.expression.specs.Syntax.{Num}
+use Rattle.expression.specs.Reading.{Read, literalAt, channelAt, numOp, Scope, numOperands, num, readingExpressions}
 use Rattle.expression.specs.Encoding.{encodeValue, encodeNum, fits, goodNum, encodingExpressions}
 use Rattle.expression.specs.declared.NumOp.{NumOp}
 use Rattle.expression.specs.declared.NumOp.the-variants as OfNum
@@ -49,7 +48,8 @@ module _ (sc : Scope) (s : List ℕ) (bytes : Bytes s) where
       onlyIf-holds λ e. onlyIf-holds λ f.
       held (f, span-one s at (at + 1) (getD s at 0) refl (ltb-true at (length s) e) refl)
 
-  num-operands-sound : (op : NumOp) (at : ℕ) (go : ℕ → Read Num) → (KnownNum op → Spans s at (at + 1) (numByte op ∷ [])) → ((n : ℕ) → Holds (NumAt n) (go n)) → Holds (NumAt at) (numOperands sc op s (at + 1) go)
+  num-operands-sound : (op : NumOp) (at : ℕ) (go : ℕ → Read Num) → (KnownNum op → Spans s at (at + 1) (numByte op ∷ []))
+      → ((n : ℕ) → Holds (NumAt n) (go n)) → Holds (NumAt at) (numOperands sc op s (at + 1) go)
   unfolding encodingExpressions
   num-operands-sound OfNum.Literal at go o h = then-holds _ (literal-sound (at + 1)) λ z n p. held (p .0, span-append s (o tt) (p .1))
   num-operands-sound OfNum.Own at go o h = then-holds _ (channel-sound (sc .owns) (at + 1)) λ c n p. held (p .0, span-append s (o tt) (p .1))

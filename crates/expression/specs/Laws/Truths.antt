@@ -3,9 +3,9 @@
 use Prim.Native.Nat.{ℕ, zero, suc, _+_, _-_, _≤_}
 use mathlib.Core.Path.{_≡_, refl, ap, _∙_}
 use mathlib.Core.Bool.{true}
-use mathlib.Core.List.{List, [], _∷_, _++_, append-assoc}
+use mathlib.Core.List.{List, [], _∷_, _++_}
 use native.Mathlib.Omega.{arith}
-use lib.ListN.{length, getD, drop, length-append}
+use lib.ListN.{length, getD, drop}
 use borrow.Author.Tests.{ltb-true, lt-ltb}
 use Rattle.expression.specs.Syntax.{Num, Truth, constant, opposite, both, compared}
 use Rattle.expression.specs.Reading.{Read, got, Scope, num, truthOp, truthOperands, truth, readingExpressions}
@@ -24,7 +24,9 @@ module _ (sc : Scope) (s : List ℕ) (bytes : Bytes s) where
   abbrev pub TruthAt : ℕ → Truth → ℕ → Type 0
   TruthAt at e n = (goodTruth sc e ≡ true) × Spans s at n (encodeTruth e)
 
-  truth-operands-sound : (op : TruthOp) (at : ℕ) (go : ℕ → Read Truth) (goNum : ℕ → Read Num) → (KnownTruth op → Spans s at (at + 1) (truthByte op ∷ [])) → ((n : ℕ) → Holds (TruthAt n) (go n)) → ((n : ℕ) → Holds (NumAt sc s bytes n) (goNum n)) → Holds (TruthAt at) (truthOperands op (at + 1) go goNum)
+  truth-operands-sound : (op : TruthOp) (at : ℕ) (go : ℕ → Read Truth) (goNum : ℕ → Read Num)
+      → (KnownTruth op → Spans s at (at + 1) (truthByte op ∷ [])) → ((n : ℕ) → Holds (TruthAt n) (go n))
+      → ((n : ℕ) → Holds (NumAt sc s bytes n) (goNum n)) → Holds (TruthAt at) (truthOperands op (at + 1) go goNum)
   unfolding encodingExpressions
   truth-operands-sound (OfTruth.Constant b) at go goNum o h i = held (refl, o tt)
   truth-operands-sound OfTruth.Not at go goNum o h i = then-holds _ (h (at + 1)) λ t n p. held (p .0, span-append s (o tt) (p .1))
@@ -47,28 +49,26 @@ module _ (sc : Scope) (s : List ℕ) (bytes : Bytes s) where
       (λ n. num-sound sc s bytes fuel n)
 
 module _ (s : List ℕ) (sc : Scope) where
-  truth-step : (op : TruthOp) (fuel less at : ℕ) (t : List ℕ) → fuel ≡ suc less → drop at s ≡ truthByte op ∷ t → truth sc fuel s at ≡ truthOperands op (at + 1) (λ n. truth sc less s n) (λ n. num sc less s n)
+  truth-step : (op : TruthOp) (fuel less at : ℕ) (t : List ℕ) → fuel ≡ suc less → drop at s ≡ truthByte op ∷ t
+      → truth sc fuel s at ≡ truthOperands op (at + 1) (λ n. truth sc less s n) (λ n. num sc less s n)
   unfolding readingExpressions
   truth-step op fuel less at t f e =
       rw (f, lt-ltb at (length s) (starts-inside s at _ t e), starts-byte s at _ t e, truth-op op)
 
-  pub truth-complete : (e : Truth) (fuel at : ℕ) (t : List ℕ) → goodTruth sc e ≡ true → drop at s ≡ encodeTruth e ++ t → length (encodeTruth e) ≤ fuel → truth sc fuel s at ≡ got e (at + length (encodeTruth e))
+  pub truth-complete : (e : Truth) (fuel at : ℕ) (t : List ℕ) → goodTruth sc e ≡ true → drop at s ≡ encodeTruth e ++ t
+      → length (encodeTruth e) ≤ fuel → truth sc fuel s at ≡ got e (at + length (encodeTruth e))
   unfolding encodingExpressions
   truth-complete (constant b) fuel at t g d l = truth-step (OfTruth.Constant b) fuel (fuel - 1) at _ (omega arith) d
   truth-complete (opposite u) fuel at t g d l =
       truth-step OfTruth.Not fuel (fuel - 1) at _ (omega arith) d
       ∙ rw (truth-complete u (fuel - 1) (at + 1) t g (starts-then s at (18 ∷ []) _ d) (omega arith)) (ap (got (opposite u)) (omega arith))
   truth-complete (both k a b) fuel at t g d l =
-      let n : length (encodeTruth a ++ encodeTruth b) ≡ length (encodeTruth a) + length (encodeTruth b) = length-append (encodeTruth a) (encodeTruth b) in
-      let p : drop (at + 1) s ≡ encodeTruth a ++ (encodeTruth b ++ t) = starts-then s at (truthByte (OfTruth.Both k) ∷ []) _ d ∙ append-assoc (encodeTruth a) (encodeTruth b) t in
       truth-step (OfTruth.Both k) fuel (fuel - 1) at _ (omega arith) d
-      ∙ two-read (λ i. truth sc (fuel - 1) s i) (both k) a b at (encodeTruth a) (encodeTruth b)
-      (truth-complete a (fuel - 1) (at + 1) _ (and-left (goodTruth sc a) (goodTruth sc b) g) p (omega arith))
-      (truth-complete b (fuel - 1) _ t (and-right (goodTruth sc a) (goodTruth sc b) g) (starts-then s (at + 1) (encodeTruth a) _ p) (omega arith))
+      ∙ two-read s fuel (λ i. truth sc (fuel - 1) s i) (both k) a b at _ (encodeTruth a) (encodeTruth b) t d l
+      (λ i r. truth-complete a (fuel - 1) i r (and-left (goodTruth sc a) _ g))
+      (λ i r. truth-complete b (fuel - 1) i r (and-right (goodTruth sc a) _ g))
   truth-complete (compared k a b) fuel at t g d l =
-      let n : length (encodeNum a ++ encodeNum b) ≡ length (encodeNum a) + length (encodeNum b) = length-append (encodeNum a) (encodeNum b) in
-      let p : drop (at + 1) s ≡ encodeNum a ++ (encodeNum b ++ t) = starts-then s at (truthByte (OfTruth.Two k) ∷ []) _ d ∙ append-assoc (encodeNum a) (encodeNum b) t in
       truth-step (OfTruth.Two k) fuel (fuel - 1) at _ (omega arith) d
-      ∙ two-read (λ i. num sc (fuel - 1) s i) (compared k) a b at (encodeNum a) (encodeNum b)
-      (num-complete s sc a (fuel - 1) (at + 1) _ (and-left (goodNum sc a) (goodNum sc b) g) p (omega arith))
-      (num-complete s sc b (fuel - 1) _ t (and-right (goodNum sc a) (goodNum sc b) g) (starts-then s (at + 1) (encodeNum a) _ p) (omega arith))
+      ∙ two-read s fuel (λ i. num sc (fuel - 1) s i) (compared k) a b at _ (encodeNum a) (encodeNum b) t d l
+      (λ i r. num-complete s sc a (fuel - 1) i r (and-left (goodNum sc a) _ g))
+      (λ i r. num-complete s sc b (fuel - 1) i r (and-right (goodNum sc a) _ g))

@@ -3,11 +3,9 @@
 use Prim.Native.Nat.{ℕ, _+_}
 use mathlib.Core.Path.{_≡_, refl, sym, ap, _∙_}
 use mathlib.Core.Logic.{_↔_}
-use mathlib.Core.Bool.{Bool, true, false}
+use mathlib.Core.Bool.{Bool, true}
 use mathlib.Core.List.{List, [], _++_, append-nil}
-use native.Mathlib.Omega.{arith}
 use native.Mathlib.Nat.{le-refl, zero-add}
-use lib.Dec.{eqb}
 use lib.ListN.{length, drop}
 use lib.Seq.{drop-length}
 use borrow.Author.Tests.{eqb-true, eq-eqb}
@@ -24,12 +22,14 @@ use Rattle.expression.specs.Laws.Truths.{truth-sound, truth-complete}
 -- ---- at a place
 
 module _ (sc : Scope) (fuel : ℕ) (s : List ℕ) (at : ℕ) where
-  pub num-exact : (e : Num) (n : ℕ) → num sc fuel s at ≡ got e n → Bytes s → (goodNum sc e ≡ true) × (drop at s ≡ encodeNum e ++ drop n s) × (n ≡ at + length (encodeNum e))
+  pub num-exact : (e : Num) (n : ℕ) → num sc fuel s at ≡ got e n → Bytes s
+      → (goodNum sc e ≡ true) × (drop at s ≡ encodeNum e ++ drop n s) × (n ≡ at + length (encodeNum e))
   num-exact e n h b =
       let p = holds (num-sound sc s b fuel at) h in
       (p .0, p .1 .bytes, p .1 .moved)
 
-  pub truth-exact : (e : Truth) (n : ℕ) → truth sc fuel s at ≡ got e n → Bytes s → (goodTruth sc e ≡ true) × (drop at s ≡ encodeTruth e ++ drop n s) × (n ≡ at + length (encodeTruth e))
+  pub truth-exact : (e : Truth) (n : ℕ) → truth sc fuel s at ≡ got e n → Bytes s
+      → (goodTruth sc e ≡ true) × (drop at s ≡ encodeTruth e ++ drop n s) × (n ≡ at + length (encodeTruth e))
   truth-exact e n h b =
       let p = holds (truth-sound sc s b fuel at) h in
       (p .0, p .1 .bytes, p .1 .moved)
@@ -45,13 +45,15 @@ exactly-complete : {A : Type 0} (e : A) (n : ℕ) {r : Read A} → r ≡ got e (
 exactly-complete e n h = rw (h, zero-add n, eq-eqb n n refl)
 
 module _ {A : Type 0} {enc : A → List ℕ} {ok : A → Bool} where
-  exactly-sound : (s : List ℕ) {r : Read A} → Holds (λ e n. (ok e ≡ true) × Spans s 0 n (enc e)) r → Holds (λ e n. (ok e ≡ true) × (s ≡ enc e) × (n ≡ length s)) (exactly (length s) r)
+  exactly-sound : (s : List ℕ) {r : Read A} → Holds (λ e n. (ok e ≡ true) × Spans s 0 n (enc e)) r
+      → Holds (λ e n. (ok e ≡ true) × (s ≡ enc e) × (n ≡ length s)) (exactly (length s) r)
   exactly-sound s (held {a = e} {n = n} p) = onlyIf-holds λ h.
       let m : n ≡ length s = eqb-true n (length s) h in
       held (p .0, p .1 .bytes ∙ ap (λ k. enc e ++ drop k s) m ∙ ap (λ r. enc e ++ r) (drop-length s) ∙ append-nil (enc e), m)
   exactly-sound s none = none
 
-  pub whole-exact : {whole : List ℕ → Read A} → Whole whole enc ok → (s : List ℕ) → Bytes s → (e : A) (n : ℕ) → (whole s ≡ got e n) ↔ ((ok e ≡ true) × (s ≡ enc e) × (n ≡ length s))
+  pub whole-exact : {whole : List ℕ → Read A} → Whole whole enc ok → (s : List ℕ) → Bytes s → (e : A) (n : ℕ)
+      → (whole s ≡ got e n) ↔ ((ok e ≡ true) × (s ≡ enc e) × (n ≡ length s))
   whole-exact w s b e n = (λ h. holds (w .sound s b) h, λ p. rw (p .2, p .1) (w .complete e (p .0)))
 
 pub whole-num : (sc : Scope) → Whole (wholeNum sc) encodeNum (goodNum sc)
