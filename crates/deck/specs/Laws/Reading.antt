@@ -1,0 +1,78 @@
+-- Reading is exact: the reader accepts bytes with a deck exactly when the deck is well formed and the bytes are its encoding.
+-- Assumes nothing.
+use Prim.Native.Nat.{ℕ, _+_}
+use mathlib.Core.Path.{_≡_, refl, sym, ap, _∙_, subst}
+use mathlib.Core.Bool.{true}
+use mathlib.Core.List.{List, [], _++_, append-nil}
+use native.Mathlib.Nat.{zero-add}
+use lib.ListN.{length}
+use Rattle.refusals.specs.Outcome.{Outcome, accepted}
+use Rattle.expression.specs.Laws.Bytes.{Bytes}
+use Rattle.deck.specs.Deck.{Deck}
+use Rattle.deck.specs.Reader.{Got}
+use Rattle.deck.specs.Layout.{Layout, sections, valueOf, read}
+use Rattle.deck.specs.Encoding.{encodeChannels, encodeRules, encode, wellFormed}
+use Rattle.deck.specs.Laws.Exact.{Accepts, accepting, refusing, accepts, accepts-map}
+use Rattle.deck.specs.Laws.Sections.{LayoutWord, sections-exact}
+
+value-accepts : {A : Type 0} {P : A → Type 0} {o : Outcome (Got A)} → Accepts (λ g. P (g .value)) o → Accepts P (valueOf o)
+unfolding valueOf
+value-accepts (accepting p) = accepting p
+value-accepts refusing = refusing
+
+-- ---- what was read
+
+read-layout : (bytes : List ℕ) → Bytes bytes → Accepts (λ l. LayoutWord 0 l bytes) (read bytes)
+unfolding read
+read-layout bytes b =
+    value-accepts
+    (accepts-map
+    (λ g p.
+    let whole : bytes ≡ p .word = p .bytes ∙ ap (λ r. p .word ++ r) (p .ends) ∙ append-nil (p .word) in
+    subst (λ w. LayoutWord 0 (g .value) w) (sym whole) (p .relates))
+    (sections-exact .sound bytes 0 b))
+
+module _ (bytes : List ℕ) (b : Bytes bytes) (l : Layout) (e : read bytes ≡ accepted l) where
+  pub read-formed : wellFormed (l .deck) ≡ true
+  read-formed = accepts (read-layout bytes b) e .formed
+
+  pub read-encoded : bytes ≡ encode (l .deck)
+  read-encoded = accepts (read-layout bytes b) e .bytes
+
+  pub sections-exactly : (l .rulesAt ≡ length (encodeChannels (l .deck))) × (l .partsAt ≡ length (encodeChannels (l .deck)) + length (encodeRules (l .deck)))
+  sections-exactly =
+      let w = accepts (read-layout bytes b) e in
+      (w .rules ∙ zero-add _, w .parts ∙ ap (λ n. n + length (encodeRules (l .deck))) (zero-add _))
+
+-- ---- what is read
+
+-- a deck with the offsets of its sections
+abbrev pub layoutOf : Deck → Layout
+layoutOf d = record { deck = d; rulesAt = length (encodeChannels d); partsAt = length (encodeChannels d) + length (encodeRules d) }
+
+pub sections-encode : (d : Deck) → wellFormed d ≡ true
+    → sections (encode d) 0 ≡ accepted (record { value = layoutOf d; rest = []; at = 0 + length (encode d) })
+sections-encode d h =
+    let p : LayoutWord 0 (layoutOf d) (encode d) = record { formed = h; bytes = refl; rules = sym (zero-add _); parts = ap (λ n. n + length (encodeRules d)) (sym (zero-add _)) } in
+    ap (λ s. sections s 0) (sym (append-nil (encode d))) ∙ sections-exact .complete 0 (layoutOf d) (encode d) [] p refl
+
+pub read-encode : (d : Deck) → wellFormed d ≡ true → read (encode d) ≡ accepted (layoutOf d)
+unfolding read valueOf
+read-encode d h = ap valueOf (sections-encode d h)
+
+-- ---- both
+
+-- the bytes are accepted with this deck
+abbrev pub AcceptedAs : List ℕ → Deck → Type 0
+AcceptedAs bytes d = (l : Layout) × (read bytes ≡ accepted l) × (l .deck ≡ d)
+
+pub record ReadsExactly (bytes : List ℕ) (d : Deck) : Type 0 where
+  pub reads : AcceptedAs bytes d → (wellFormed d ≡ true) × (bytes ≡ encode d)
+  pub accepts : (wellFormed d ≡ true) × (bytes ≡ encode d) → AcceptedAs bytes d
+
+pub reads-exactly : (bytes : List ℕ) → Bytes bytes → (d : Deck) → ReadsExactly bytes d
+reads-exactly bytes b d =
+    record {
+      reads = λ p. rw (← p .2) (read-formed bytes b (p .0) (p .1), read-encoded bytes b (p .0) (p .1));
+      accepts = λ p. (layoutOf d, ap read (p .1) ∙ read-encode d (p .0), refl);
+    }

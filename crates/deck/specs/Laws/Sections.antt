@@ -1,0 +1,118 @@
+-- The reader of the deck's three sections is exact, with the offsets of the last two. Assumes nothing.
+use Prim.Native.Nat.{ℕ, suc, _+_}
+use mathlib.Core.Path.{_≡_, refl, sym, _∙_}
+use mathlib.Core.Bool.{Bool, true, _&&_}
+use mathlib.Core.List.{List, [], _∷_, _++_, append-nil, append-assoc}
+use native.Mathlib.Omega.{arith}
+use lib.Dec.{leb}
+use lib.ListN.{length}
+use Rattle.lists.specs.Lists.{all, flatMap}
+use Rattle.expression.specs.Laws.Bytes.{and-both, and-left, and-right}
+use Rattle.deck.specs.Limits.{limits}
+use Rattle.deck.specs.Deck.{Deck, decks}
+use Rattle.deck.specs.Reader.{number, times, readers}
+use Rattle.deck.specs.Layout.{Layout, sections, layouts}
+use Rattle.deck.specs.Encoding.{encodeRule, encodePart, encodeChannels, encodeRules, encodeParts, encode, inRange, goodRule, goodPart, wellFormed}
+use Rattle.deck.specs.Laws.Tests.{five, from-five}
+use Rattle.deck.specs.Laws.Exact.{Exact, Any, Nothing, Coded, exact-by, here-exact, end-exact, then-exact}
+use Rattle.deck.specs.Laws.Readers.{number-exact, times-exact, bytes-coded}
+use Rattle.deck.specs.Laws.Expressions.{range, zero-range}
+use Rattle.deck.specs.Laws.Rules.{rule-exact, part-exact}
+
+encode-deck : (d : Deck)
+    → encode d ≡ length (d .labels) ∷ (d .labels ++ (length (d .rules) ∷ (flatMap encodeRule (d .rules) ++ (length (d .parts) ∷ flatMap encodePart (d .parts)))))
+unfolding encode encodeChannels encodeRules encodeParts decks
+encode-deck d = append-assoc (encodeChannels d) (encodeRules d) (encodeParts d)
+
+labels-exact : (n : ℕ)
+    → Exact Any (times n (number 33 127)) (Coded (λ s. s) (λ s. (length s ≡ n) × (all (inRange 33 126) s ≡ true)))
+labels-exact n = bytes-coded (times-exact label n)
+  where
+    label : Exact Any (number 33 127) (Coded (λ b. b ∷ []) (λ b. inRange 33 126 b ≡ true))
+    label =
+        exact-by (number-exact 33 127)
+        (λ at b w _ p. (sym (range 33 126 b) ∙ p .0, p .1))
+        (λ at b w q. (range 33 126 b ∙ q .0, q .1))
+
+-- the word is the encoding of a well-formed deck, and the offsets are those of its sections
+pub record LayoutWord (at : ℕ) (l : Layout) (w : List ℕ) : Type 0 where
+  pub formed : wellFormed (l .deck) ≡ true
+  pub bytes : w ≡ encode (l .deck)
+  pub rules : l .rulesAt ≡ at + length (encodeChannels (l .deck))
+  pub parts : l .partsAt ≡ at + length (encodeChannels (l .deck)) + length (encodeRules (l .deck))
+
+pub sections-exact : Exact Nothing sections LayoutWord
+unfolding layouts readers wellFormed encodeChannels encodeRules decks
+sections-exact =
+    exact-by
+    (then-exact (number-exact 1 (suc (limits .channels))) λ R.
+    then-exact (labels-exact R) λ labels.
+    here-exact λ rulesAt.
+    then-exact (number-exact 0 (suc (limits .rules))) λ M.
+    then-exact (times-exact (rule-exact R) M) λ rules.
+    here-exact λ partsAt.
+    then-exact (number-exact 1 (suc (limits .parts))) λ N.
+    then-exact (times-exact (part-exact R M) N) λ parts.
+    end-exact (record { deck = record { labels = labels; rules = rules; parts = parts }; rulesAt = rulesAt; partsAt = partsAt }))
+    (λ at l w _ p.
+    let labels = p .4 in
+    let m = labels .4 in
+    let rules = m .4 in
+    let n = rules .4 in
+    let parts = n .4 in
+    let d : Deck = record { labels = labels .0; rules = rules .0; parts = parts .0 } in
+    let front : inRange 1 (limits .channels) (p .0) ≡ true = sym (range 1 (limits .channels) (p .0)) ∙ p .3 in
+    rw (parts .4 .0)
+    (record {
+      formed =
+          rw (labels .3 .0, rules .3 .0, parts .3 .0)
+          (from-five (inRange 1 (limits .channels) (p .0) && all (inRange 33 126) (labels .0)) (leb (m .0) (limits .rules)) (all (goodRule (p .0)) (rules .0)) (inRange 1 (limits .parts) (n .0)) (all (goodPart (p .0) (m .0)) (parts .0))
+          (and-both _ _ front (labels .3 .1), sym (zero-range (limits .rules) (m .0)) ∙ m .3, rules .3 .1, sym (range 1 (limits .parts) (n .0)) ∙ n .3, parts .3 .1));
+      bytes =
+          rw (encode-deck d, labels .3 .0, rules .3 .0, parts .3 .0)
+          (rw (p .2, labels .2, m .2, rules .2, n .2, parts .2, parts .4 .1, append-nil (flatMap encodePart (parts .0))));
+      rules = omega arith;
+      parts = omega arith;
+    }))
+    (λ at l w q.
+    let d : Deck = l .deck in
+    let R : ℕ = length (d .labels) in
+    let M : ℕ = length (d .rules) in
+    let N : ℕ = length (d .parts) in
+    let front : Bool = inRange 1 (limits .channels) R in
+    let good = five (front && all (inRange 33 126) (d .labels)) (leb M (limits .rules)) (all (goodRule R) (d .rules)) (inRange 1 (limits .parts) N) (all (goodPart R M) (d .parts)) (q .formed) in
+    let parts : List ℕ = flatMap encodePart (d .parts) in
+    let rules : List ℕ = flatMap encodeRule (d .rules) in
+    let e : l .rulesAt ≡ at + 1 + R = q .rules ∙ omega arith in
+    let f : l .partsAt ≡ at + 1 + R + 1 + length rules = q .parts ∙ omega arith in
+    let same : _≡_ {A = Layout} l (record { deck = d; rulesAt = at + 1 + R; partsAt = at + 1 + R + 1 + length rules }) = λ i. record { deck = d; rulesAt = e i; partsAt = f i } in (
+      R,
+      d .labels ++ (M ∷ (rules ++ (N ∷ parts))),
+      q .bytes ∙ encode-deck d,
+      range 1 (limits .channels) R ∙ and-left front _ (good .0),
+      (
+        d .labels,
+        M ∷ (rules ++ (N ∷ parts)),
+        refl,
+        (refl, and-right front _ (good .0)),
+        (
+          M,
+          rules ++ (N ∷ parts),
+          refl,
+          zero-range (limits .rules) M ∙ good .1,
+          (
+            d .rules,
+            N ∷ parts,
+            refl,
+            (refl, good .2),
+            (
+              N,
+              parts,
+              refl,
+              range 1 (limits .parts) N ∙ good .3,
+              (d .parts, [], sym (append-nil parts), (refl, good .4), (same, refl)),
+            ),
+          ),
+        ),
+      ),
+    ))
