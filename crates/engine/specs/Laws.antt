@@ -2,3 +2,5 @@
 pub mod Opening
 pub mod Firing
 pub mod Enqueue
+pub mod Charges
+pub mod Commits

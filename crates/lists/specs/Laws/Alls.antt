@@ -2,8 +2,9 @@
 use mathlib.Core.Path.{_≡_, refl, sym, ap, _∙_}
 use mathlib.Core.Bool.{Bool, true, false, _&&_, cond}
 use mathlib.Core.List.{List, [], _∷_, _++_, map}
-use Prim.Native.Nat.{ℕ, zero, suc}
-use lib.ListN.{getD, take, drop, replicate}
+use Prim.Native.Nat.{ℕ, zero, suc, _<_}
+use native.Mathlib.Nat.{not-suc-le-zero, le-of-suc-le-suc}
+use lib.ListN.{length, getD, take, drop, replicate}
 use Rattle.lists.specs.Lists.{lists, all, flatMap}
 use Rattle.lists.specs.Laws.Booleans.{and-both, and-left, and-right}
 
@@ -68,6 +69,11 @@ module _ {A : Type 0} (f : A → Bool) where
   all-getD [] i x h e = e
   all-getD (y ∷ l) zero x h e = all-head y l h
   all-getD (y ∷ l) (suc i) x h e = all-getD l i x (all-tail y l h) e
+
+  pub all-at : (l : List A) (i : ℕ) (x : A) → all f l ≡ true → i < length l → f (getD l i x) ≡ true
+  all-at [] i x h m = absurd (not-suc-le-zero m)
+  all-at (y ∷ l) zero x h m = all-head y l h
+  all-at (y ∷ l) (suc i) x h m = all-at l i x (all-tail y l h) (le-of-suc-le-suc m)
 
 module _ {A B : Type 0} (f : B → Bool) where
   pub all-map : (g : A → B) (l : List A) → all f (map g l) ≡ all (λ x. f (g x)) l

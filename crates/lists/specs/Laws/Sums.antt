@@ -70,3 +70,24 @@ pub largest-flatMap : {A B : Type 0} (f : B → ℕ) (g : A → List B) (l : Lis
 unfolding lists
 largest-flatMap f g [] = refl
 largest-flatMap f g (x ∷ l) = largest-append f (g x) (flatMap g l) ∙ ap (max (largest f (g x))) (largest-flatMap f g l)
+
+-- over a map, over lists one behind the other, and of two functions at once
+pub sum-map : {A B : Type 0} (f : B → ℕ) (g : A → B) (l : List A) → sum f (map g l) ≡ sum (λ x. f (g x)) l
+unfolding sum
+sum-map f g [] = refl
+sum-map f g (x ∷ l) = ap (λ n. f (g x) + n) (sum-map f g l)
+
+pub sum-flatMap : {A B : Type 0} (f : B → ℕ) (g : A → List B) (l : List A) → sum f (flatMap g l) ≡ sum (λ x. sum f (g x)) l
+unfolding lists
+sum-flatMap f g [] = refl
+sum-flatMap f g (x ∷ l) = sum-append f (g x) (flatMap g l) ∙ ap (λ n. sum f (g x) + n) (sum-flatMap f g l)
+
+pub sum-plus : {A : Type 0} (f g : A → ℕ) (l : List A) → sum (λ x. f x + g x) l ≡ sum f l + sum g l
+unfolding sum
+sum-plus f g [] = refl
+sum-plus f g (x ∷ l) = let e = sum-plus f g l in omega arith
+
+pub sum-zero : {A : Type 0} (f : A → ℕ) (l : List A) → ((x : A) → f x ≡ 0) → sum f l ≡ 0
+unfolding sum
+sum-zero f [] h = refl
+sum-zero f (x ∷ l) h = let e = sum-zero f l h in omega (arith, h x)
