@@ -1,0 +1,2 @@
+-- Laws of lists of calls and of the published calculus.
+pub mod Agreement
