@@ -1,2 +1,4 @@
 -- Laws of lists of calls and of the published calculus.
 pub mod Agreement
+pub mod Taking
+pub mod Order
