@@ -155,3 +155,51 @@ module _ (bytes : List ℕ) (l : Layout) (passes : passing bytes ≡ accepted l)
       let later = listFrom d C (machineAfter x o) cs in
       (ap₂ (λ a as′. a ∷ as′) answer (ap (λ m. runFrom bytes m cs .answers) after ∙ rest .0) ∙ sym (front-answers o later),
       ap (λ m. runFrom bytes m cs .memory) after ∙ rest .1 ∙ ap (store n) (sym (front-machine o later)))
+
+-- ---- a fresh start
+
+-- what an accepted start says of the deck and the pool, and what it leaves
+pub record Fresh (bytes : List ℕ) (pool : List ℤ) (l : Layout) : Type 0 where
+  pub passes : passing bytes ≡ accepted l
+  pub long : goodLength (length pool) ≡ true
+  pub left : Calls.start bytes pool .memory ≡ store (length pool) (opened (l .deck))
+
+pub start-fresh : (bytes : List ℕ) (pool : List ℤ) → Calls.start bytes pool .answer ≡ accepted started → (l : Layout) × Fresh bytes pool l
+unfolding Calls.start reply outcomes
+start-fresh bytes pool h = go (passing bytes) refl (goodLength (length pool)) refl h
+  where
+    before : Memory
+    before = record { state = record { values = Rattle.pool.specs.Places.zeros 512; pending = 0 }; pool = pool }
+
+    after : Outcome Layout → Bool → Reply
+    after o b = reply before (o >>= λ l. require b badPool 0 >> accepted (record { answer = started; machine = opened (l .deck) }))
+
+    go : (o : Outcome Layout) → passing bytes ≡ o → (b : Bool) → goodLength (length pool) ≡ b → after o b .answer ≡ accepted started
+        → (l : Layout) × Fresh bytes pool l
+    go (refused n p) e b f a = refused≢accepted a
+    go (accepted l) e false f a = refused≢accepted a
+    go (accepted l) e true f a =
+        (l, record { passes = e; long = f; left = ap₂ (λ o b. after o b .memory) e f })
+
+nothing-charged : (d : Deck) → charge d (opened d .pending) ≡ 0
+unfolding opened charge lists
+nothing-charged d = refl
+
+module _ (bytes : List ℕ) (pool : List ℤ) (l : Layout) (fresh : Fresh bytes pool l) (formed : Formed (l .deck)) (acyclic : Acyclic (l .deck)) where
+  pub ordered : (cs : List Call) → Order bytes (l .deck) pool cs
+  unfolding run listed opened commitsMade chargeAdded chargePending
+  ordered cs =
+      let d = l .deck in
+      let n = length pool in
+      let C = capacity n in
+      let x = opened d in
+      let f = fine-opened d formed C in
+      let agrees = run-agrees bytes l (fresh .passes) n (fresh .long) formed acyclic x f cs in
+      record {
+        answers = ap (λ m. runFrom bytes m cs .answers) (fresh .left) ∙ agrees .0;
+        memory = ap (λ m. runFrom bytes m cs .memory) (fresh .left) ∙ agrees .1;
+        bound = omega (arith, list-paid d C formed acyclic x f cs, nothing-charged d);
+        commit-refused = along d C (RefusedAsPlaced d C) (refused-as-placed d C) x cs;
+        stays-within = list-stays d C formed acyclic x f cs;
+        settles = along-fine d C formed acyclic (Settles d C) (settles-paid d C formed acyclic) x f cs;
+      }
