@@ -4,3 +4,5 @@ pub mod Firing
 pub mod Enqueue
 pub mod Charges
 pub mod Commits
+pub mod Passing
+pub mod Passes
