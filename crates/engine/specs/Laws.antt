@@ -6,3 +6,4 @@ pub mod Charges
 pub mod Commits
 pub mod Passing
 pub mod Passes
+pub mod Checks
