@@ -7,3 +7,4 @@ pub mod Commits
 pub mod Passing
 pub mod Passes
 pub mod Checks
+pub mod Refusals
