@@ -1,10 +1,12 @@
--- Where a deck that was read is refused: with 6, 7 or 8, each at the place that document 01 names. Assumes nothing.
-use Prim.Native.Nat.{ℕ, _<_}
-use mathlib.Core.Path.{_≡_, refl, sym, ap, _∙_, subst}
-use mathlib.Core.Bool.{Bool, true, false, not}
+-- A deck that was read is refused exactly where document 01 says so: with 6, 7 or 8, each at its place. Assumes nothing.
+use Prim.Native.Nat.{ℕ, _+_, _*_, _<_}
+use mathlib.Core.Path.{_≡_, refl, sym, ap₂, _∙_, subst₂}
+use mathlib.Core.Logic.{_↔_, _⊎_, inl, inr, ⊎-elim}
+use mathlib.Core.Bool.{true, false, not}
 use mathlib.Core.List.{List, [], _∷_}
 use native.Mathlib.Omega.{arith}
 use borrow.Author.Tests.{not-true, not-false}
+use Rattle.lists.specs.Laws.Booleans.{contradiction}
 use Rattle.lists.specs.Laws.Below.{filter-first}
 use Rattle.refusals.specs.Outcome.{Outcome, refused, accepted}
 use Rattle.refusals.specs.Numbers.{opensOutside, cyclicGraph, overcharged}
@@ -20,7 +22,7 @@ use Rattle.charge.specs.Charge.{carriedCharges, aboveBound}
 use Rattle.charge.specs.Laws.Bound.{FirstAbove, first-above}
 use Rattle.engine.specs.Check.{within, openingValues, outside, passing}
 use Rattle.engine.specs.Laws.Passing.{judge, Judged, clean, found-6, found-7, found-8, judged, passing-judges, refused≢accepted, number-inj, place-inj}
-use Rattle.engine.specs.Laws.Passes.{none-outside}
+use Rattle.engine.specs.Laws.Passes.{Passes, none-outside, passes-exactly}
 
 -- every part opens within its limit
 abbrev pub OpensWithin : Deck → Type 0
@@ -76,32 +78,80 @@ module _ (d : Deck) where
           first = first-above d (f .rules) p ps c;
         }
 
+-- ---- each of the three says which place it is, and where one holds no other does
+
+module _ (d : Deck) where
+  outside-not-within : {p : ℕ} → OpensOutside d p → OpensWithin d → ⊥
+  outside-not-within {p} x h = contradiction (h p (x .known)) (x .outside)
+
+  same-6 : {p q : ℕ} → OpensOutside d p → OpensOutside d q → p ≡ q
+  same-6 {p} {q} x y =
+      let above : ¬ (p < q) = λ h. contradiction (y .lowest p h) (x .outside) in
+      let below : ¬ (q < p) = λ h. contradiction (x .lowest q h) (y .outside) in
+      omega arith
+
+  same-7 : {p q : ℕ} → LowestCycle d p → LowestCycle d q → p ≡ q
+  same-7 {p} {q} x y =
+      let above : ¬ (p < q) = λ h. y .lowest p h (x .itself) in
+      let below : ¬ (q < p) = λ h. x .lowest q h (y .itself) in
+      omega arith
+
+  not-lower : {p q : ℕ} → FirstAbove d p → FirstAbove d q → ¬ (p < q)
+  not-lower {p} {q} x y h =
+      let place : 64 * x .part + x .rule < q = omega (arith, x .place) in
+      omega (arith, y .lowest (x .part) (x .rule) (x .part-known) (x .rule-known) (x .carried) place, x .above)
+
+  same-8 : {p q : ℕ} → Overcharged d p → Overcharged d q → p ≡ q
+  same-8 x y = omega (arith, not-lower (x .first) (y .first), not-lower (y .first) (x .first))
+
+  same : {n m p q : ℕ} → RefusedFor d n p → RefusedFor d m q → (n ≡ m) × (p ≡ q)
+  same (for-6 a x) (for-6 b y) = (a ∙ sym b, same-6 x y)
+  same (for-6 a x) (for-7 b y) = absurd (outside-not-within x (y .opens))
+  same (for-6 a x) (for-8 b y) = absurd (outside-not-within x (y .opens))
+  same (for-7 a x) (for-6 b y) = absurd (outside-not-within y (x .opens))
+  same (for-7 a x) (for-7 b y) = (a ∙ sym b, same-7 x y)
+  same {p} (for-7 a x) (for-8 b y) = absurd (y .acyclic p (x .itself))
+  same (for-8 a x) (for-6 b y) = absurd (outside-not-within y (x .opens))
+  same {q} (for-8 a x) (for-7 b y) = absurd (x .acyclic q (y .itself))
+  same (for-8 a x) (for-8 b y) = (a ∙ sym b, same-8 x y)
+
 -- bytes that were read
 module _ (bytes : List ℕ) (b : Bytes bytes) (l : Layout) (e : read bytes ≡ accepted l) where
-  f : Formed (l .deck)
-  f = formed (l .deck) (read-formed bytes b l e)
+  -- what the tests come to, in the document's words
+  found : Judged l (judge l) → Passes bytes l ⊎ ((n : ℕ) × (p : ℕ) × (judge l ≡ refused n p) × RefusedFor (l .deck) n p)
+  found (clean _ _ _ q) = inl (passes-exactly bytes b l .0 (passing-judges bytes l e ∙ q))
+  found (found-6 p ps x q) = inr (opensOutside, p, q, for-6 refl (first-outside (l .deck) p ps x))
+  found (found-7 p ps x y q) =
+      inr (cyclicGraph, p, q, for-7 refl (first-cyclic (l .deck) (formed (l .deck) (read-formed bytes b l e)) p ps x y))
+  found (found-8 p ps x y z q) =
+      inr (overcharged, p, q, for-8 refl (first-over (l .deck) (formed (l .deck) (read-formed bytes b l e)) p ps x y z))
 
-  pub refused-for : (n p : ℕ) → passing bytes ≡ refused n p → RefusedFor (l .deck) n p
-  unfolding f
-  refused-for n p h = by (judged l)
-    where
-      o : judge l ≡ refused n p
-      o = sym (passing-judges bytes l e) ∙ h
+  passes-not : {n p : ℕ} → Passes bytes l → RefusedFor (l .deck) n p → ⊥
+  passes-not h (for-6 _ x) = outside-not-within (l .deck) x (h .opens)
+  passes-not {p} h (for-7 _ x) = h .acyclic p (x .itself)
+  passes-not h (for-8 _ x) =
+      let f = x .first in
+      omega (arith, f .above, h .charged (f .part) (f .rule) (f .part-known) (f .rule-known) (f .carried))
 
-      by : Judged l (judge l) → RefusedFor (l .deck) n p
-      by (clean _ _ _ q) = refused≢accepted (sym o ∙ q)
-      by (found-6 m ms x q) =
-          let same = sym q ∙ o in
-          for-6 (sym (number-inj same)) (subst (OpensOutside (l .deck)) (place-inj same) (first-outside (l .deck) m ms x))
-      by (found-7 m ms x y q) =
-          let same = sym q ∙ o in
-          for-7 (sym (number-inj same)) (subst (LowestCycle (l .deck)) (place-inj same) (first-cyclic (l .deck) f m ms x y))
-      by (found-8 m ms x y z q) =
-          let same = sym q ∙ o in
-          for-8 (sym (number-inj same)) (subst (Overcharged (l .deck)) (place-inj same) (first-over (l .deck) f m ms x y z))
+  -- refused with a number and place exactly where the document says so
+  pub refused-exactly : (n p : ℕ) → (passing bytes ≡ refused n p) ↔ RefusedFor (l .deck) n p
+  refused-exactly n p = (
+    λ h.
+        ⊎-elim (λ x. refused≢accepted (sym h ∙ passes-exactly bytes b l .1 x))
+        (λ x.
+        let q = sym (x .2) ∙ sym (passing-judges bytes l e) ∙ h in
+        subst₂ (RefusedFor (l .deck)) (number-inj q) (place-inj q) (x .3))
+        (found (judged l)),
+    λ r.
+        ⊎-elim (λ x. absurd (passes-not x r))
+        (λ x.
+        let q = same (l .deck) (x .3) r in
+        passing-judges bytes l e ∙ x .2 ∙ ap₂ refused (q .0) (q .1))
+        (found (judged l)),
+  )
 
   pub place-of-6 : (p : ℕ) → passing bytes ≡ refused opensOutside p → OpensOutside (l .deck) p
-  place-of-6 p h = of (refused-for opensOutside p h)
+  place-of-6 p h = of (refused-exactly opensOutside p .0 h)
     where
       of : RefusedFor (l .deck) opensOutside p → OpensOutside (l .deck) p
       of (for-6 _ x) = x
@@ -109,7 +159,7 @@ module _ (bytes : List ℕ) (b : Bytes bytes) (l : Layout) (e : read bytes ≡ a
       of (for-8 n _) = absurd (omega arith)
 
   pub place-of-7 : (p : ℕ) → passing bytes ≡ refused cyclicGraph p → LowestCycle (l .deck) p
-  place-of-7 p h = of (refused-for cyclicGraph p h)
+  place-of-7 p h = of (refused-exactly cyclicGraph p .0 h)
     where
       of : RefusedFor (l .deck) cyclicGraph p → LowestCycle (l .deck) p
       of (for-6 n _) = absurd (omega arith)
@@ -117,7 +167,7 @@ module _ (bytes : List ℕ) (b : Bytes bytes) (l : Layout) (e : read bytes ≡ a
       of (for-8 n _) = absurd (omega arith)
 
   pub place-of-8 : (p : ℕ) → passing bytes ≡ refused overcharged p → Overcharged (l .deck) p
-  place-of-8 p h = of (refused-for overcharged p h)
+  place-of-8 p h = of (refused-exactly overcharged p .0 h)
     where
       of : RefusedFor (l .deck) overcharged p → Overcharged (l .deck) p
       of (for-6 n _) = absurd (omega arith)
