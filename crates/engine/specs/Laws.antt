@@ -4,3 +4,7 @@ pub mod Firing
 pub mod Enqueue
 pub mod Charges
 pub mod Commits
+pub mod Passing
+pub mod Passes
+pub mod Checks
+pub mod Refusals

@@ -26,7 +26,7 @@ module _ {d : Deck} (known : KnownTargets d) where
   pub edge-inside : (a b : ℕ) → edge d a b ≡ true → b < R d
   edge-inside a b h = let found = edge-found d a b h in known .known (found .0) b (found .4)
 
-  reaches-inside : {a b : ℕ} → Reaches (edge d) a b → b < R d
+  pub reaches-inside : {a b : ℕ} → Reaches (edge d) a b → b < R d
   reaches-inside {a} {b} (one h) = edge-inside a b h
   reaches-inside (more {b = b} {c = c} p h) = edge-inside b c h
 

@@ -1,11 +1,12 @@
 -- Laws of `sum` and `largest`. Assumes nothing.
 use Prim.Native.Nat.{ℕ, _+_, _≤_, max, zero-le}
 use mathlib.Core.Path.{_≡_, refl, sym, ap, ap₂, _∙_}
-use mathlib.Core.Logic.{_↔_, ⊎-elim}
+use mathlib.Core.Logic.{_↔_, _⊎_, inl, inr, ⊎-elim}
 use mathlib.Core.Bool.{Bool, true, false}
 use mathlib.Core.List.{List, [], _∷_, _++_, map}
 use native.Mathlib.Nat.{add-le-add, zero-add, add-assoc}
 use native.Mathlib.Omega.{arith}
+use native.Mathlib.Decide.{decLe}
 use Rattle.lists.specs.Lists.{lists, keep, filter, flatMap, sum, largest, member}
 use Rattle.lists.specs.Laws.Booleans.{contradiction}
 use Rattle.lists.specs.Laws.Members.{member-empty, member-head, member-tail, member-cases}
@@ -53,6 +54,24 @@ largest-member f (y ∷ l) x m =
 
 pub largest-bound : (f : ℕ → ℕ) (l : List ℕ) (b : ℕ) → (largest f l ≤ b) ↔ ((x : ℕ) → member x l ≡ true → f x ≤ b)
 largest-bound f l b = (λ h x m. omega (arith, largest-member f l x m), below-bound f l b)
+
+-- of a list that is not empty it is attained
+module _ (f : ℕ → ℕ) where
+  abbrev Attained : List ℕ → Type 0
+  Attained l = (x : ℕ) × (member x l ≡ true) × (f x ≡ largest f l)
+
+  pub largest-found : (l : List ℕ) → (l ≡ []) ⊎ Attained l
+  unfolding largest
+  largest-found [] = inl refl
+  largest-found (y ∷ l) = inr (go (largest-found l))
+    where
+      further : (h : Attained l) → Dec (f y ≤ f (h .0)) → Attained (y ∷ l)
+      further h (yes le) = (h .0, member-tail (h .0) y l (h .1), omega (arith, h .2))
+      further h (no le) = (y, member-head y l, omega (arith, h .2))
+
+      go : (l ≡ []) ⊎ Attained l → Attained (y ∷ l)
+      go (inl e) = (y, member-head y l, rw e (omega arith))
+      go (inr h) = further h (decLe (f y) (f (h .0)))
 
 -- over a map, and over lists one behind the other
 pub largest-map : {A B : Type 0} (f : B → ℕ) (g : A → B) (l : List A) → largest f (map g l) ≡ largest (λ x. f (g x)) l
