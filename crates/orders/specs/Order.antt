@@ -50,16 +50,12 @@ pub record Order (bytes : List ℕ) (d : Deck) (pool : List ℤ) (cs : List Call
   -- answers, state and pool are as the definition of the list has them
   pub answers : run bytes pool cs .answers ≡ listed d (length pool) cs .answers
   pub memory : run bytes pool cs .memory ≡ store (length pool) (listed d (length pool) cs .machine)
-
   -- commits made and charge pending are at most the charge added
   pub bound : commitsMade (listed d (length pool) cs) + chargePending d (listed d (length pool) cs) ≤ chargeAdded (listed d (length pool) cs)
-
   -- a commit is refused exactly when its place is not below the pending number
   pub commit-refused : Along (RefusedAsPlaced d (capacity (length pool))) d (capacity (length pool)) (record { values = openingValues d; pending = [] }) cs
-
   -- each applied commit, within a settle too, leaves its part within its limit
   pub stays-within : all (leavesWithin d) (listed d (length pool) cs .turns) ≡ true
-
   -- an accepted settle with a budget of at least the charge pending before it ends settled
   pub settles : Along (Settles d (capacity (length pool))) d (capacity (length pool)) (record { values = openingValues d; pending = [] }) cs
 

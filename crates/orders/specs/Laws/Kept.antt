@@ -1,0 +1,101 @@
+-- Good states are kept: a start makes one, and every call leaves one that is handed one. Assumes nothing.
+use Prim.Native.Nat.{ℕ}
+use mathlib.Core.Path.{_≡_, refl, sym, _∙_, ap, ap₂, subst}
+use mathlib.Core.Bool.{Bool, true, false}
+use mathlib.Core.List.{List, [], _∷_}
+use lib.ListN.{length}
+use lib.IntN.{ℤ}
+use Rattle.refusals.specs.Outcome.{Outcome, refused, accepted, _>>=_, _>>_, require, outcomes}
+use Rattle.refusals.specs.Numbers.{badPool, badState}
+use Rattle.refusals.specs.Laws.Outcomes.{refused≢accepted, accepted-inj}
+use Rattle.expression.specs.Laws.Bytes.{Bytes}
+use Rattle.deck.specs.Deck.{Deck}
+use Rattle.deck.specs.Layout.{Layout}
+use Rattle.deck.specs.Laws.Formed.{Formed, formed}
+use Rattle.graph.specs.Laws.Cycles.{Acyclic}
+use Rattle.pool.specs.Places.{capacity}
+use Rattle.pool.specs.States.{Machine, Memory, load, store, goodLength, good}
+use Rattle.pool.specs.Laws.Good.{Fine, good-stored, fine-loaded, store-load}
+use Rattle.engine.specs.Check.{passing}
+use Rattle.engine.specs.Calls as Calls
+use Rattle.engine.specs.Calls.{Answer, started, Reply, Done, reply, tested, opened}
+use Rattle.engine.specs.Laws.Opening.{fine-opened}
+use Rattle.engine.specs.Laws.Passes.{Passes, passes-exactly}
+use Rattle.orders.specs.Calling.{Call, input, commit, settle, made}
+use Rattle.orders.specs.Listed.{Taken, taken, machineAfter}
+use Rattle.orders.specs.Laws.Agreement.{made-agrees}
+use Rattle.orders.specs.Laws.Taking.{Taking, taking}
+use Rattle.orders.specs.Laws.Listing.{Fresh, start-fresh, handed-memory}
+
+-- a deck that passes is well formed and has no cycle
+module _ (bytes : List ℕ) (b : Bytes bytes) (l : Layout) (passes : passing bytes ≡ accepted l) where
+  pub passed-formed : Formed (l .deck)
+  passed-formed = formed (l .deck) (passes-exactly bytes b l .0 passes .layout .0)
+
+  pub passed-acyclic : Acyclic (l .deck)
+  passed-acyclic = passes-exactly bytes b l .0 passes .acyclic
+
+-- what a call has tested when it goes on
+pub record Tested (bytes : List ℕ) (m : Memory) : Type 0 where
+  pub layout : Layout
+  pub passes : passing bytes ≡ accepted layout
+  pub long : goodLength (length (m .pool)) ≡ true
+  pub good-before : good (layout .deck) m ≡ true
+
+module _ (bytes : List ℕ) (m : Memory) where
+  tested-all : (d : Deck) → tested bytes m ≡ accepted d → Tested bytes m
+  unfolding tested outcomes
+  tested-all d h = go (passing bytes) refl h
+    where
+      after : Layout → Bool → Bool → Outcome Deck
+      after l b c = require b badPool 0 >> (require c badState 0 >> accepted (l .deck))
+
+      tests : (l : Layout) → passing bytes ≡ accepted l → (b c : Bool) → goodLength (length (m .pool)) ≡ b → good (l .deck) m ≡ c → after l b c ≡ accepted d → Tested bytes m
+      tests l e false c f g a = refused≢accepted a
+      tests l e true false f g a = refused≢accepted a
+      tests l e true true f g a = record { layout = l; passes = e; long = f; good-before = g }
+
+      go : (o : Outcome Layout) → passing bytes ≡ o → (o >>= λ l. after l (goodLength (length (m .pool))) (good (l .deck) m)) ≡ accepted d → Tested bytes m
+      go (refused n p) e a = refused≢accepted a
+      go (accepted l) e a = tests l e (goodLength (length (m .pool))) (good (l .deck) m) refl refl a
+
+  -- an answer means that all tests went well
+  answered-tested : {a : Answer} (body : Deck → Outcome Done) → reply m (tested bytes m >>= body) .answer ≡ accepted a → Tested bytes m
+  unfolding reply outcomes
+  answered-tested {a} body h = go (tested bytes m) refl h
+    where
+      go : (o : Outcome Deck) → tested bytes m ≡ o → reply m (o >>= body) .answer ≡ accepted a → Tested bytes m
+      go (refused n p) e h = refused≢accepted h
+      go (accepted d) e h = tested-all d e
+
+  pub accepted-tested : (c : Call) (a : Answer) → made bytes m c .answer ≡ accepted a → Tested bytes m
+  unfolding made Calls.input Calls.commit Calls.settle
+  accepted-tested (input p l) a h = answered-tested _ h
+  accepted-tested (commit k) a h = answered-tested _ h
+  accepted-tested (settle b) a h = answered-tested _ h
+
+  -- a good state stays good, whatever the call and its answer
+  pub call-keeps-good : Bytes bytes → (t : Tested bytes m) → (c : Call) → good (t .layout .deck) (made bytes m c .memory) ≡ true
+  call-keeps-good b t c =
+      let l = t .layout in
+      let d = l .deck in
+      let n = length (m .pool) in
+      let x = load m in
+      let f = fine-loaded d m (t .good-before) in
+      let o = taken d (capacity n) x c in
+      let fine = taking d (passed-formed bytes b l (t .passes)) (passed-acyclic bytes b l (t .passes)) (capacity n) x f c .fine in
+      ap (λ k. good d (made bytes k c .memory)) (sym (store-load d m (t .good-before)))
+      ∙ ap (λ r. good d (r .memory)) (made-agrees bytes l (t .passes) n (t .long) x f c)
+      ∙ ap (good d) (handed-memory n x o)
+      ∙ good-stored d n (machineAfter x o) fine
+
+pub start-makes-good : (bytes : List ℕ) (pool : List ℤ) → Bytes bytes → Calls.start bytes pool .answer ≡ accepted started
+    → (l : Layout) × (passing bytes ≡ accepted l) × (good (l .deck) (Calls.start bytes pool .memory) ≡ true)
+start-makes-good bytes pool b h =
+    let fresh = start-fresh bytes pool h in
+    let l = fresh .0 in
+    let n = length pool in (
+      l,
+      fresh .1 .passes,
+      ap (good (l .deck)) (fresh .1 .left) ∙ good-stored (l .deck) n (opened (l .deck)) (fine-opened (l .deck) (passed-formed bytes b l (fresh .1 .passes)) (capacity n)),
+    )

@@ -1,0 +1,207 @@
+-- Whatever the list of calls: the calls agree with the definition of the list, the commits are paid by the charge added, and a
+-- settle that is paid for settles. Assumes nothing.
+use Prim.Native.Nat.{ℕ, zero, suc, _+_, _≤_, _<_}
+use mathlib.Core.Path.{_≡_, refl, sym, _∙_, ap, ap₂, subst}
+use mathlib.Core.Bool.{Bool, true, false, not, _&&_, cond}
+use mathlib.Core.List.{List, [], _∷_, _++_}
+use native.Mathlib.Omega.{arith}
+use lib.Dec.{leb, ltb}
+use lib.ListN.{length}
+use lib.IntN.{ℤ}
+use borrow.Author.Tests.{le-ltb, lt-ltb}
+use Rattle.lists.specs.Lists.{lists, all, sum, isEmpty}
+use Rattle.lists.specs.Laws.Alls.{all-append}
+use Rattle.refusals.specs.Outcome.{Outcome, refused, accepted, _>>=_, _>>_, require, outcomes}
+use Rattle.refusals.specs.Numbers.{badPool, placeNotPending, budgetTooLarge}
+use Rattle.refusals.specs.Laws.Outcomes.{refused≢accepted, accepted-inj}
+use Rattle.expression.specs.Laws.Bytes.{Bytes}
+use Rattle.deck.specs.Deck.{Deck}
+use Rattle.deck.specs.Layout.{Layout}
+use Rattle.deck.specs.Laws.Formed.{Formed}
+use Rattle.graph.specs.Laws.Cycles.{Acyclic}
+use Rattle.pool.specs.Updates.{charge}
+use Rattle.pool.specs.Places.{capacity}
+use Rattle.pool.specs.States.{Machine, Memory, store, goodLength}
+use Rattle.pool.specs.Laws.Good.{Fine}
+use Rattle.engine.specs.Check.{within, openingValues, passing}
+use Rattle.engine.specs.Calls as Calls
+use Rattle.engine.specs.Calls.{Answer, started, settled, spent, Reply, reply, opened}
+use Rattle.engine.specs.Laws.Opening.{fine-opened}
+use Rattle.orders.specs.Calling.{Call, input, commit, settle, Run, made, runFrom, run}
+use Rattle.orders.specs.Listed.{Turn, turn, turns, ending, Taken, taken, machineAfter, Listed, inFront, listFrom, listed, commitsOf, addedOf, commitsMade, chargeAdded, chargePending}
+use Rattle.orders.specs.Order.{Along, Accepted, yes-accepted, RefusedAsPlaced, Settles, leavesWithin, Order}
+use Rattle.orders.specs.Laws.Agreement.{handed, made-agrees}
+use Rattle.orders.specs.Laws.Taking.{answered, turnsOf, guard, Turning, turning, Taking, taking}
+
+-- one call in front of a list
+front-answers : (o : Outcome Taken) (l : Listed) → inFront o l .answers ≡ answered o ∷ l .answers
+unfolding inFront
+front-answers (refused n p) l = refl
+front-answers (accepted t) l = refl
+
+front-turns : (o : Outcome Taken) (l : Listed) → inFront o l .turns ≡ turnsOf o ++ l .turns
+unfolding inFront
+front-turns (refused n p) l = refl
+front-turns (accepted t) l = refl
+
+front-machine : (o : Outcome Taken) (l : Listed) → inFront o l .machine ≡ l .machine
+unfolding inFront
+front-machine (refused n p) l = refl
+front-machine (accepted t) l = refl
+
+module _ (d : Deck) (C : ℕ) where
+  -- a commit is refused by its place and by nothing else
+  refused-as-placed : (x : Machine) (c : Call) → RefusedAsPlaced d C x c
+  unfolding RefusedAsPlaced taken outcomes
+  refused-as-placed x (input p l) = tt
+  refused-as-placed x (commit k) = (
+    λ h. go (ltb k (length (x .pending))) (lt-ltb k (length (x .pending)) h),
+    λ h. ap (λ b. require b placeNotPending 0 >> rest) (le-ltb k (length (x .pending)) h),
+  )
+    where
+      rest : Outcome Taken
+      rest =
+          accepted (record {
+            answer = cond (turn d k x .applied) (Calls.applied (charge d (turn d k x .after .pending))) (Calls.discarded (charge d (turn d k x .after .pending)));
+            turns = turn d k x ∷ [];
+            machine = turn d k x .after;
+          })
+
+      go : (b : Bool) → b ≡ true → Accepted (require b placeNotPending 0 >> rest)
+      go true e = yes-accepted _
+      go false e = absurd (mathlib.Core.Bool.false≢true e)
+  refused-as-placed x (settle b) = tt
+
+  along : (P : Machine → Call → Type 0) → ((x : Machine) (c : Call) → P x c) → (x : Machine) (cs : List Call) → Along P d C x cs
+  unfolding Along
+  along P h x [] = tt
+  along P h x (c ∷ cs) = (h x c, along P h (machineAfter x (taken d C x c)) cs)
+
+  module _ (formed : Formed d) (acyclic : Acyclic d) where
+    settles-paid : (x : Machine) → Fine d C x → (c : Call) → Settles d C x c
+    unfolding Settles taken
+    settles-paid x f (input p l) = tt
+    settles-paid x f (commit k) = tt
+    settles-paid x f (settle b) =
+        guard (λ o. (t : Taken) → o ≡ accepted t → charge d (x .pending) ≤ b → t .answer ≡ settled (length (t .turns)))
+        (leb b 65535) budgetTooLarge _
+        (λ t e. refused≢accepted e)
+        (λ _ t e h.
+        subst (λ (t : Taken). t .answer ≡ settled (length (t .turns))) (accepted-inj e)
+        (ap (λ z. cond z (settled (length (turns d b x))) (spent (length (turns d b x)))) (turning d formed acyclic C b x f .settles h)))
+
+    -- the same with a good state at each call
+    along-fine : (P : Machine → Call → Type 0) → ((x : Machine) → Fine d C x → (c : Call) → P x c) → (x : Machine) → Fine d C x → (cs : List Call) → Along P d C x cs
+    unfolding Along
+    along-fine P h x f [] = tt
+    along-fine P h x f (c ∷ cs) = (h x f c, along-fine P h (machineAfter x (taken d C x c)) (taking d formed acyclic C x f c .fine) cs)
+
+    list-paid : (x : Machine) → Fine d C x → (cs : List Call)
+        → sum commitsOf (listFrom d C x cs .answers) + charge d (listFrom d C x cs .machine .pending) ≤ sum addedOf (listFrom d C x cs .answers) + charge d (x .pending)
+    unfolding listFrom lists
+    list-paid x f [] = omega arith
+    list-paid x f (c ∷ cs) =
+        let o = taken d C x c in
+        let t = taking d formed acyclic C x f c in
+        let rest = listFrom d C (machineAfter x o) cs in
+        omega (
+          arith,
+          ap (sum commitsOf) (front-answers o rest),
+          ap (sum addedOf) (front-answers o rest),
+          ap (λ m. charge d (m .pending)) (front-machine o rest),
+          t .paid,
+          list-paid (machineAfter x o) (t .fine) cs,
+        )
+
+    list-stays : (x : Machine) → Fine d C x → (cs : List Call) → all (leavesWithin d) (listFrom d C x cs .turns) ≡ true
+    unfolding listFrom lists
+    list-stays x f [] = refl
+    list-stays x f (c ∷ cs) =
+        let o = taken d C x c in
+        let t = taking d formed acyclic C x f c in
+        let rest = listFrom d C (machineAfter x o) cs in
+        ap (all (leavesWithin d)) (front-turns o rest) ∙ all-append (leavesWithin d) (turnsOf o) (rest .turns) (t .stays) (list-stays (machineAfter x o) (t .fine) cs)
+
+-- ---- the calls on memory
+
+pub handed-answer : (n : ℕ) (x : Machine) (o : Outcome Taken) → handed n x o .answer ≡ answered o
+unfolding handed
+handed-answer n x (refused number place) = refl
+handed-answer n x (accepted t) = refl
+
+pub handed-memory : (n : ℕ) (x : Machine) (o : Outcome Taken) → handed n x o .memory ≡ store n (machineAfter x o)
+unfolding handed machineAfter
+handed-memory n x (refused number place) = refl
+handed-memory n x (accepted t) = refl
+
+module _ (bytes : List ℕ) (l : Layout) (passes : passing bytes ≡ accepted l) (n : ℕ) (long : goodLength n ≡ true)
+    (formed : Formed (l .deck)) (acyclic : Acyclic (l .deck)) where
+  abbrev d : Deck
+  d = l .deck
+
+  abbrev C : ℕ
+  C = capacity n
+
+  run-agrees : (x : Machine) → Fine d C x → (cs : List Call)
+      → (runFrom bytes (store n x) cs .answers ≡ listFrom d C x cs .answers)
+      × (runFrom bytes (store n x) cs .memory ≡ store n (listFrom d C x cs .machine))
+  unfolding runFrom listFrom
+  run-agrees x f [] = (refl, refl)
+  run-agrees x f (c ∷ cs) =
+      let o = taken d C x c in
+      let agrees = made-agrees bytes l passes n long x f c in
+      let after = ap (λ r. r .memory) agrees ∙ handed-memory n x o in
+      let answer = ap (λ r. r .answer) agrees ∙ handed-answer n x o in
+      let rest = run-agrees (machineAfter x o) (taking d formed acyclic C x f c .fine) cs in
+      let later = listFrom d C (machineAfter x o) cs in (
+        ap₂ (λ a as′. a ∷ as′) answer (ap (λ m. runFrom bytes m cs .answers) after ∙ rest .0) ∙ sym (front-answers o later),
+        ap (λ m. runFrom bytes m cs .memory) after ∙ rest .1 ∙ ap (store n) (sym (front-machine o later)),
+      )
+
+-- ---- a fresh start
+
+-- what an accepted start says of the deck and the pool, and what it leaves
+pub record Fresh (bytes : List ℕ) (pool : List ℤ) (l : Layout) : Type 0 where
+  pub passes : passing bytes ≡ accepted l
+  pub long : goodLength (length pool) ≡ true
+  pub left : Calls.start bytes pool .memory ≡ store (length pool) (opened (l .deck))
+
+pub start-fresh : (bytes : List ℕ) (pool : List ℤ) → Calls.start bytes pool .answer ≡ accepted started → (l : Layout) × Fresh bytes pool l
+unfolding Calls.start reply outcomes
+start-fresh bytes pool h = go (passing bytes) refl (goodLength (length pool)) refl h
+  where
+    before : Memory
+    before = record { state = record { values = Rattle.pool.specs.Places.zeros 512; pending = 0 }; pool = pool }
+
+    after : Outcome Layout → Bool → Reply
+    after o b = reply before (o >>= λ l. require b badPool 0 >> accepted (record { answer = started; machine = opened (l .deck) }))
+
+    go : (o : Outcome Layout) → passing bytes ≡ o → (b : Bool) → goodLength (length pool) ≡ b → after o b .answer ≡ accepted started
+        → (l : Layout) × Fresh bytes pool l
+    go (refused n p) e b f a = refused≢accepted a
+    go (accepted l) e false f a = refused≢accepted a
+    go (accepted l) e true f a =
+        (l, record { passes = e; long = f; left = ap₂ (λ o b. after o b .memory) e f })
+
+nothing-charged : (d : Deck) → charge d (opened d .pending) ≡ 0
+unfolding opened charge lists
+nothing-charged d = refl
+
+module _ (bytes : List ℕ) (pool : List ℤ) (l : Layout) (fresh : Fresh bytes pool l) (formed : Formed (l .deck)) (acyclic : Acyclic (l .deck)) where
+  pub ordered : (cs : List Call) → Order bytes (l .deck) pool cs
+  unfolding run listed opened commitsMade chargeAdded chargePending
+  ordered cs =
+      let d = l .deck in
+      let n = length pool in
+      let C = capacity n in
+      let x = opened d in
+      let f = fine-opened d formed C in
+      let agrees = run-agrees bytes l (fresh .passes) n (fresh .long) formed acyclic x f cs in
+      record {
+        answers = ap (λ m. runFrom bytes m cs .answers) (fresh .left) ∙ agrees .0;
+        memory = ap (λ m. runFrom bytes m cs .memory) (fresh .left) ∙ agrees .1;
+        bound = omega (arith, list-paid d C formed acyclic x f cs, nothing-charged d);
+        commit-refused = along d C (RefusedAsPlaced d C) (refused-as-placed d C) x cs;
+        stays-within = list-stays d C formed acyclic x f cs;
+        settles = along-fine d C formed acyclic (Settles d C) (settles-paid d C formed acyclic) x f cs;
+      }
