@@ -49,12 +49,16 @@ module _ (d : Deck) where
   update-at-least-one p u = rw (deep, update-step (2 * R d + 2) p u) (omega arith)
 
   -- a rule's action goes to parts of the deck
+  pub others-inside : (p q : ℕ) → member q (others d p) ≡ true → q < N d
+  unfolding others
+  others-inside p q m = below-member (N d) q .1 (filter-member (λ q. not (eqb q p)) (below (N d)) q .0 m .0)
+
   receivers-inside : (p q r : ℕ) → p < N d → member q (receivers d p r) ≡ true → q < N d
-  unfolding receivers others
+  unfolding receivers
   receivers-inside p q r l m = go (ruleAt d r .everywhere) m
     where
       go : (b : Bool) → member q (cond b (others d p) (p ∷ [])) ≡ true → q < N d
-      go true m = below-member (N d) q .1 (filter-member (λ q. not (eqb q p)) (below (N d)) q .0 m .0)
+      go true m = others-inside p q m
       go false m = ⊎-elim (λ e. omega arith) (λ h. member-empty q h) (member-cases q p [] m)
 
 module _ {d : Deck} (known : KnownTargets d) (acyclic : Acyclic d) where

@@ -19,6 +19,11 @@ filter-append {A} f (x ∷ l) m = go (f x) (filter-append f l m)
     go true e = ap (λ n. x ∷ n) e
     go false e = e
 
+pub flatMap-one : {A : Type 0} (l : List A) → flatMap (λ x. x ∷ []) l ≡ l
+unfolding lists
+flatMap-one [] = refl
+flatMap-one (x ∷ l) = ap (λ m. x ∷ m) (flatMap-one l)
+
 pub filter-flatMap : {A B : Type 0} (f : B → Bool) (g : A → List B) (l : List A)
     → filter f (flatMap g l) ≡ flatMap (λ x. filter f (g x)) l
 unfolding lists

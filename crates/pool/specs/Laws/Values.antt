@@ -12,9 +12,9 @@ use lib.Seq.{getD-set-other}
 use lib.IntN.{ℤ, pos}
 use borrow.Author.Tests.{ltb-true, lt-ltb, eq-eqb}
 use Rattle.lists.specs.Lists.{lists, all, member}
-use Rattle.lists.specs.Laws.Booleans.{and-both, and-left, and-right, or-left, contradiction}
+use Rattle.lists.specs.Laws.Booleans.{and-both, and-left, and-right, or-left, or-false-right, contradiction}
 use Rattle.lists.specs.Laws.Alls.{all-head, all-tail}
-use Rattle.lists.specs.Laws.Members.{member-head, member-tail}
+use Rattle.lists.specs.Laws.Members.{member-head}
 use Rattle.deck.specs.Deck.{Deck, R, N}
 use Rattle.pool.specs.Updates.{Pair, indexOf, valueAt, assign, updates}
 use Rattle.pool.specs.Places.{isZero}
@@ -32,19 +32,12 @@ assign-length p (a ∷ l) values = assign-length p l (set values (indexOf p (a .
 -- a channel that is not among the pairs keeps its value
 pub assign-other : (p c : ℕ) (l : List Pair) (values : List ℤ) → member c (channelsIn l) ≡ false
     → valueAt (assign p l values) p c ≡ valueAt values p c
-unfolding updates
+unfolding updates lists
 assign-other p c [] values h = refl
 assign-other p c (a ∷ l) values h =
-    assign-other p c l (set values (indexOf p (a .channel)) (a .value)) (not-later c (a .channel) (channelsIn l) h)
+    assign-other p c l (set values (indexOf p (a .channel)) (a .value)) (or-false-right (eqb c (a .channel)) (member c (channelsIn l)) h)
     ∙ set-other
   where
-    not-later : (c b : ℕ) (l : List ℕ) → member c (b ∷ l) ≡ false → member c l ≡ false
-    not-later c b l h = go (member c l) refl
-      where
-        go : (t : Bool) → member c l ≡ t → t ≡ false
-        go true e = contradiction (member-tail c b l e) h
-        go false e = refl
-
     differs : indexOf p c ≡ indexOf p (a .channel) → ⊥
     differs e =
         let same : c ≡ a .channel = omega arith in
