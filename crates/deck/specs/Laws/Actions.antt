@@ -19,7 +19,7 @@ use Rattle.deck.specs.Limits.{limits}
 use Rattle.deck.specs.Deck.{Assignment, Action, targets, decks}
 use Rattle.deck.specs.Reader.{readers}
 use Rattle.deck.specs.Layout.{assignments, action, layouts}
-use Rattle.deck.specs.Encoding.{encodeExpression, encodeAssignment, encodeAction, goodLength, goodAssignment, goodAction, encodings}
+use Rattle.deck.specs.Encoding.{encodeExpression, encodeAssignment, encodeAction, goodAssignment, goodAction, encodings}
 use Rattle.deck.specs.Laws.Exact.{Exact, Any, Coded, exact-by, give-exact, here-exact, require-exact, then-exact}
 use Rattle.deck.specs.Laws.Readers.{number-exact, nil-exact, cons-exact}
 use Rattle.deck.specs.Laws.Expressions.{below-range, zero-range, expression-exact}

@@ -1,20 +1,18 @@
 -- What a well-formed deck has, in the form that the layers above use. Assumes nothing.
-use Prim.Native.Nat.{ℕ, _≤_, _<_}
-use mathlib.Core.Path.{_≡_, refl, ap, _∙_, subst}
-use mathlib.Core.Logic.{⊎-elim}
-use mathlib.Core.Bool.{Bool, true, false, _&&_, _||_}
-use mathlib.Core.List.{List, [], _∷_, map}
+use Prim.Native.Nat.{ℕ, _≤_}
+use mathlib.Core.Path.{_≡_, refl, _∙_, subst}
+use mathlib.Core.Bool.{Bool, true, false, _&&_}
+use mathlib.Core.List.{[]}
 use lib.Dec.{leb, ltb, eqb}
 use lib.ListN.{length}
-use borrow.Author.Tests.{leb-true, le-leb, ltb-true, eqb-true}
-use Rattle.lists.specs.Lists.{lists, all, member, distinct}
+use borrow.Author.Tests.{leb-true}
+use Rattle.lists.specs.Lists.{lists, all, distinct}
 use Rattle.lists.specs.Laws.Booleans.{and-left, and-right, five}
-use Rattle.lists.specs.Laws.Alls.{all-head, all-tail, all-cons, all-map, all-weaken, all-getD}
+use Rattle.lists.specs.Laws.Alls.{all-map, all-weaken, all-getD}
 use Rattle.expression.specs.Reading.{Scope}
 use Rattle.expression.specs.Encoding.{encodeNum, fits, goodNum}
-use Rattle.deck.specs.Limits.{limits}
 use Rattle.deck.specs.Deck.{Assignment, Action, Rule, Part, Deck, R, M, N, ruleAt, targets, decks}
-use Rattle.deck.specs.Layout.{ownOnly, ownAndFar, taskScope, layouts}
+use Rattle.deck.specs.Layout.{ownOnly, taskScope, layouts}
 use Rattle.deck.specs.Encoding.{inRange, isRising, goodLength, goodAssignment, goodAction, goodCondition, goodRule, goodPart, wellFormed, encodings}
 
 -- an action that can be carried out: at most four assignments, to different known channels

@@ -1,20 +1,19 @@
 -- Setting channels and committing keep a state good, and every commit lowers the pending charge. Assumes nothing.
 use Prim.Native.Nat.{ℕ, zero, suc, _+_, _≤_, _<_}
-use mathlib.Core.Path.{_≡_, refl, sym, _∙_, ap}
-use mathlib.Core.Bool.{Bool, true, false, not, _&&_, _||_, cond}
+use mathlib.Core.Path.{_≡_, refl, _∙_, ap}
+use mathlib.Core.Bool.{Bool, true, false, not, cond}
 use mathlib.Core.List.{List, [], _∷_, _++_}
 use native.Mathlib.Omega.{arith}
 use native.Mathlib.Nat.{not-suc-le-zero, le-of-suc-le-suc}
 use lib.Dec.{ltb}
-use lib.ListN.{length, getD, take, drop}
-use lib.IntN.{ℤ}
+use lib.ListN.{length, take, drop}
 use borrow.Author.Tests.{ltb-true, not-true}
-use Rattle.lists.specs.Lists.{lists, all, any, sum, distinct, isEmpty}
+use Rattle.lists.specs.Lists.{lists, all, distinct, isEmpty}
 use Rattle.lists.specs.Laws.Booleans.{and-both, and-left, and-right, four}
 use Rattle.lists.specs.Laws.Alls.{all-append, all-take, all-drop, all-at, any-none}
-use Rattle.deck.specs.Deck.{Deck, R, N, active}
+use Rattle.deck.specs.Deck.{Deck, R, N}
 use Rattle.deck.specs.Laws.Formed.{Formed}
-use Rattle.graph.specs.Laws.Cycles.{KnownTargets, Acyclic}
+use Rattle.graph.specs.Laws.Cycles.{Acyclic}
 use Rattle.graph.specs.Laws.Targets.{known-targets}
 use Rattle.charge.specs.Charge.{updateCharge, ruleCharge}
 use Rattle.charge.specs.Laws.Active.{active-sub}
@@ -25,7 +24,7 @@ use Rattle.pool.specs.Laws.Places.{short}
 use Rattle.pool.specs.Laws.Values.{channelsIn, assign-length, unused-assign}
 use Rattle.pool.specs.Laws.Good.{Fine}
 use Rattle.engine.specs.Check.{within}
-use Rattle.engine.specs.Firing.{fired, enqueue, changed, setAndFire, pick, without, Commit, committed}
+use Rattle.engine.specs.Firing.{fired, changed, setAndFire, pick, without, committed}
 use Rattle.engine.specs.Laws.Firing.{fired-known, fired-short}
 use Rattle.engine.specs.Laws.Enqueue.{one, enqueue-all, enqueue-different, enqueue-grows, enqueue-most}
 use Rattle.engine.specs.Laws.Charges.{fired-most, changed-assigned}

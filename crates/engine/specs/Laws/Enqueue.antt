@@ -1,12 +1,12 @@
 -- New updates written behind the pending ones: what is kept, and what is added at most. Assumes nothing.
 use Prim.Native.Nat.{ℕ, _+_, _≤_}
-use mathlib.Core.Path.{_≡_, refl, sym, _∙_, ap, ap₂, subst}
-use mathlib.Core.Bool.{Bool, true, false, not, _&&_, _||_, cond, false≢true}
+use mathlib.Core.Path.{_≡_, refl, _∙_, ap, ap₂}
+use mathlib.Core.Bool.{Bool, true, false, not, cond}
 use mathlib.Core.List.{List, [], _∷_, _++_}
 use native.Mathlib.Omega.{arith}
 use lib.Dec.{eqb}
 use borrow.Author.Tests.{eqb-true, eq-eqb, not-true}
-use Rattle.lists.specs.Lists.{lists, all, any, sum, eqList}
+use Rattle.lists.specs.Lists.{lists, all, any, eqList}
 use Rattle.lists.specs.Laws.Booleans.{and-both, and-left, and-right, or-false-left, or-false-right, contradiction, not-true→false}
 use Rattle.lists.specs.Laws.Alls.{all-cons, all-append, all-none, all-head, all-tail, any-none}
 use Rattle.lists.specs.Laws.Equalities.{eqZ-true, eqZ-refl, eqList-true, eqList-refl}

@@ -1,21 +1,21 @@
 -- What every update of a firing has: a known part, different known channels, at most four of them. Assumes nothing.
 use Prim.Native.Nat.{ℕ, _<_}
-use mathlib.Core.Path.{_≡_, refl, sym, _∙_, ap}
-use mathlib.Core.Bool.{Bool, true, false, not, _&&_, cond}
-use mathlib.Core.List.{List, [], _∷_, _++_, map, map-map}
-use lib.Dec.{ltb, eqb, leb}
+use mathlib.Core.Path.{_≡_, refl, _∙_, ap}
+use mathlib.Core.Bool.{Bool, true, not, _&&_, cond}
+use mathlib.Core.List.{List, [], _∷_, map, map-map}
+use lib.Dec.{ltb, leb}
 use lib.ListN.{length, length-map}
 use lib.IntN.{ℤ}
 use borrow.Author.Tests.{lt-ltb, le-leb}
-use Rattle.lists.specs.Lists.{lists, all, filter, flatMap, below, member, distinct, isEmpty}
+use Rattle.lists.specs.Lists.{lists, all, flatMap, distinct}
 use Rattle.lists.specs.Laws.Booleans.{and-both}
 use Rattle.lists.specs.Laws.Alls.{all-none, all-cons, all-append, all-cond, all-every, all-map, all-flatMap}
 use Rattle.lists.specs.Laws.Members.{all-member}
-use Rattle.deck.specs.Deck.{Deck, Action, Assignment, Rule, R, N, ruleAt, targets, active}
+use Rattle.deck.specs.Deck.{Deck, Action, Rule, R, N, ruleAt, targets, active}
 use Rattle.deck.specs.Laws.Formed.{Formed, Sound}
 use Rattle.charge.specs.Charge.{others}
 use Rattle.charge.specs.Laws.Equations.{others-inside}
-use Rattle.pool.specs.Updates.{Pair, Update, channels}
+use Rattle.pool.specs.Updates.{Update, channels}
 use Rattle.pool.specs.States.{known}
 use Rattle.pool.specs.Laws.Places.{short}
 use Rattle.engine.specs.Firing.{evaluated, sent, holds, firedHere, firedThere, fired}

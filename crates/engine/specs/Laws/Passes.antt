@@ -1,25 +1,25 @@
 -- A deck passes exactly where it is what document 01 demands. Assumes nothing.
 use Prim.Native.Nat.{ℕ, _+_, _≤_, _<_}
-use mathlib.Core.Path.{_≡_, refl, sym, ap, _∙_, subst}
+use mathlib.Core.Path.{_≡_, sym, ap, _∙_}
 use mathlib.Core.Logic.{_↔_}
-use mathlib.Core.Bool.{Bool, true, false, not}
-use mathlib.Core.List.{List, [], _∷_}
+use mathlib.Core.Bool.{true, not}
+use mathlib.Core.List.{List, []}
 use lib.ListN.{length}
-use borrow.Author.Tests.{not-true, not-false}
-use Rattle.lists.specs.Lists.{below, member}
+use borrow.Author.Tests.{not-false}
+use Rattle.lists.specs.Lists.{below}
 use Rattle.lists.specs.Laws.Filters.{filter-none}
 use Rattle.lists.specs.Laws.Below.{below-member}
-use Rattle.refusals.specs.Outcome.{Outcome, refused, accepted}
+use Rattle.refusals.specs.Outcome.{accepted}
 use Rattle.expression.specs.Laws.Bytes.{Bytes}
 use Rattle.deck.specs.Deck.{Deck, M, N, carries}
 use Rattle.deck.specs.Layout.{Layout, read}
 use Rattle.deck.specs.Encoding.{encodeChannels, encodeRules, encode, wellFormed}
 use Rattle.deck.specs.Laws.Formed.{formed}
 use Rattle.deck.specs.Laws.Reading.{read-formed, read-encoded, sections-exactly, layoutOf, read-encode}
-use Rattle.graph.specs.Graph.{Reaches, edge, cyclic}
-use Rattle.graph.specs.Laws.Cycles.{KnownTargets, no-cycle}
+use Rattle.graph.specs.Graph.{Reaches, edge}
+use Rattle.graph.specs.Laws.Cycles.{no-cycle}
 use Rattle.graph.specs.Laws.Targets.{known-targets}
-use Rattle.charge.specs.Charge.{ruleCharge, carriedCharges, aboveBound}
+use Rattle.charge.specs.Charge.{ruleCharge}
 use Rattle.charge.specs.Laws.Bound.{none-above}
 use Rattle.engine.specs.Check.{within, openingValues, outside, passing}
 use Rattle.engine.specs.Laws.Passing.{judge-clean, passing-judges, passing-clean}

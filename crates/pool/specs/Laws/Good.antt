@@ -1,25 +1,24 @@
 -- What a good state is, on values and pending updates; storing and loading keep it. Assumes nothing.
-use Prim.Native.Nat.{ℕ, zero, suc, _+_, _*_, _-_, _/_, _≤_, _<_}
-use mathlib.Core.Path.{_≡_, refl, sym, _∙_, ap, ap₂, subst}
-use mathlib.Core.Bool.{Bool, true, false, _&&_}
-use mathlib.Core.List.{List, [], _∷_, _++_, map, append-assoc}
+use Prim.Native.Nat.{ℕ, zero, suc, _+_, _*_, _-_, _/_, _≤_}
+use mathlib.Core.Path.{_≡_, refl, sym, _∙_, ap, ap₂}
+use mathlib.Core.Bool.{Bool, true, _&&_}
+use mathlib.Core.List.{List, [], _∷_, _++_, map}
 use native.Mathlib.Omega.{arith}
 use lib.Dec.{leb, eqb}
-use lib.ListN.{length, getD, take, drop, replicate, length-append, length-replicate, length-take, length-drop, take-append-drop}
-use lib.Seq.{drop-at, drop-drop, length-take-le, take-add}
+use lib.ListN.{length, getD, take, drop, length-take, length-drop, take-append-drop}
+use lib.Seq.{drop-at, take-add}
 use lib.IntN.{ℤ, pos, natAbs}
 use borrow.Author.Tests.{leb-true, le-leb, eqb-true, eq-eqb}
-use Rattle.lists.specs.Lists.{lists, all, flatMap, sum, eqZ, eqList}
+use Rattle.lists.specs.Lists.{lists, all, flatMap, eqZ}
 use Rattle.lists.specs.Laws.Booleans.{and-both, four, five}
 use Rattle.lists.specs.Laws.Alls.{all-head, all-tail, all-cons, all-replicate, all-map, all-every}
 use Rattle.lists.specs.Laws.Equalities.{eqZ-true, eqZ-refl, eqList-true}
 use Rattle.deck.specs.Deck.{Deck}
-use Rattle.charge.specs.Charge.{updateCharge}
 use Rattle.charge.specs.Laws.Equations.{update-at-least-one}
-use Rattle.pool.specs.Updates.{Pair, Update, channels, allDifferent, charge}
+use Rattle.pool.specs.Updates.{Update, channels, allDifferent, charge}
 use Rattle.pool.specs.Places.{zeros, isZero, capacity, place, poolOf, pairsOf, updateOf, wellWritten, places, updatesOf}
 use Rattle.pool.specs.States.{Machine, Memory, load, store, unusedZero, known, good}
-use Rattle.pool.specs.Laws.Places.{short, update-back, place-well, places-back, updates-back, places-length, pool-length}
+use Rattle.pool.specs.Laws.Places.{short, place-well, places-back, updates-back, places-length, pool-length}
 
 -- a good state with C places, as values and pending updates
 pub record Fine (d : Deck) (C : ℕ) (x : Machine) : Type 0 where
