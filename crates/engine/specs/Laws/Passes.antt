@@ -6,9 +6,7 @@ use mathlib.Core.Bool.{true, not}
 use mathlib.Core.List.{List, []}
 use lib.ListN.{length}
 use borrow.Author.Tests.{not-false}
-use Rattle.lists.specs.Lists.{below}
-use Rattle.lists.specs.Laws.Filters.{filter-none}
-use Rattle.lists.specs.Laws.Below.{below-member}
+use Rattle.lists.specs.Laws.Below.{none-below}
 use Rattle.refusals.specs.Outcome.{accepted}
 use Rattle.expression.specs.Laws.Bytes.{Bytes}
 use Rattle.deck.specs.Deck.{Deck, M, N, carries}
@@ -41,10 +39,8 @@ pub record Passes (bytes : List ℕ) (l : Layout) : Type 0 where
 pub none-outside : (d : Deck) → (outside d ≡ []) ↔ ((p : ℕ) → p < N d → within d p (openingValues d) ≡ true)
 unfolding outside
 none-outside d =
-    let none = filter-none (λ p. not (within d p (openingValues d))) (below (N d)) in (
-      λ h p l. not-false (within d p (openingValues d)) (none .0 h p (below-member (N d) p .0 l)),
-      λ h. none .1 (λ p m. ap not (h p (below-member (N d) p .1 m))),
-    )
+    let none = none-below (λ p. not (within d p (openingValues d))) (N d) in
+    (λ h p l. not-false (within d p (openingValues d)) (none .0 h p l), λ h. none .1 (λ p l. ap not (h p l)))
 
 module _ (bytes : List ℕ) (b : Bytes bytes) (l : Layout) where
   passing-passes : passing bytes ≡ accepted l → Passes bytes l

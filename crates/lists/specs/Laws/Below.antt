@@ -1,4 +1,4 @@
--- Laws of the numbers below n: which they are, and the first of them that passes a test. Assumes nothing.
+-- Laws of the numbers below n: which they are, and which of them pass a test. Assumes nothing.
 use Prim.Native.Nat.{ℕ, zero, suc, _+_, _≤_, _<_}
 use mathlib.Core.Path.{_≡_, refl, sym, ap, _∙_}
 use mathlib.Core.Logic.{_↔_, ⊎-elim}
@@ -7,8 +7,9 @@ use mathlib.Core.List.{List, [], _∷_, nil≢cons, head-eq-of-cons-eq}
 use native.Mathlib.Nat.{eq-or-lt-of-le}
 use native.Mathlib.Omega.{arith}
 use lib.ListN.{length}
-use Rattle.lists.specs.Lists.{keep, filter, from, below, member}
-use Rattle.lists.specs.Laws.Members.{member-empty, member-head, member-tail, member-cases}
+use Rattle.lists.specs.Lists.{any, keep, filter, from, below, member}
+use Rattle.lists.specs.Laws.Members.{member-empty, member-head, member-tail, member-cases, any-found, any-intro}
+use Rattle.lists.specs.Laws.Filters.{filter-member, filter-none}
 use Rattle.lists.specs.Laws.FlatMaps.{filter-one-by-one, flatMap-first}
 
 from-length : (a n : ℕ) → length (from a n) ≡ n
@@ -41,6 +42,25 @@ from-holds a (suc n) k l h =
 pub below-member : (n k : ℕ) → (k < n) ↔ (member k (below n) ≡ true)
 unfolding below
 below-member n k = (λ h. from-holds 0 n k (omega arith) (omega arith), λ m. omega (arith, from-within 0 n k m .1))
+
+module _ (f : ℕ → Bool) (n : ℕ) where
+  pub any-below : (any f (below n) ≡ true) ↔ ((k : ℕ) × (k < n) × (f k ≡ true))
+  any-below = (
+    λ h. let found = any-found f (below n) h in (found .0, below-member n (found .0) .1 (found .1), found .2),
+    λ h. any-intro f (below n) (h .0) (below-member n (h .0) .0 (h .1)) (h .2),
+  )
+
+  pub filter-below : (k : ℕ) → (member k (filter f (below n)) ≡ true) ↔ ((k < n) × (f k ≡ true))
+  filter-below k =
+      let passing = filter-member f (below n) k in (
+        λ m. let h = passing .0 m in (below-member n k .1 (h .0), h .1),
+        λ h. passing .1 (below-member n k .0 (h .0), h .1),
+      )
+
+  pub none-below : (filter f (below n) ≡ []) ↔ ((k : ℕ) → k < n → f k ≡ false)
+  none-below =
+      let none = filter-none f (below n) in
+      (λ e k l. none .0 e k (below-member n k .0 l), λ h. none .1 (λ k m. h k (below-member n k .1 m)))
 
 -- what is kept of one element
 kept-head : {A : Type 0} (b : Bool) (x c : A) (cs : List A) → keep b x [] ≡ c ∷ cs → (b ≡ true) × (x ≡ c)
