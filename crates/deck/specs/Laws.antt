@@ -4,7 +4,6 @@ pub mod Exact
 pub mod Readers
 pub mod Expressions
 pub mod Actions
-pub mod Tests
 pub mod Rules
 pub mod Sections
 pub mod Reading

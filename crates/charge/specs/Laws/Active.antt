@@ -7,8 +7,7 @@ use mathlib.Core.List.{List}
 use Rattle.lists.specs.Lists.{any, sum, below, member}
 use Rattle.lists.specs.Laws.Booleans.{and-both, and-left, and-right}
 use Rattle.lists.specs.Laws.Members.{Within, any-found, any-intro, any-within}
-use Rattle.lists.specs.Laws.Filters.{filter-member}
-use Rattle.lists.specs.Laws.Below.{below-member}
+use Rattle.lists.specs.Laws.Below.{filter-below}
 use Rattle.lists.specs.Laws.Sums.{sum-filter}
 use Rattle.deck.specs.Deck.{Deck, M, ruleAt, carries, active}
 
@@ -28,16 +27,16 @@ module _ (d : Deck) (p : ℕ) where
   unfolding active heard
   active-member cs r =
       let test : ℕ → Bool = λ r. carries d p r && heard cs r in
-      let passing = filter-member test (below (M d)) r in (
+      let passing = filter-below test (M d) r in (
         λ m.
             let h = passing .0 m in (
-              below-member (M d) r .1 (h .0),
+              h .0,
               and-left (carries d p r) (heard cs r) (h .1),
               any-found (λ c. member c (ruleAt d r .events)) cs (and-right (carries d p r) (heard cs r) (h .1)),
             ),
         λ a.
             passing .1 (
-              below-member (M d) r .0 (a .0),
+              a .0,
               and-both (a .1)
                   (any-intro (λ c. member c (ruleAt d r .events)) cs (a .2 .0) (a .2 .1) (a .2 .2)),
             ),

@@ -10,8 +10,8 @@ use lib.Dec.{ltb}
 use borrow.Author.Tests.{ltb-true, ltb-false}
 use Rattle.lists.specs.Lists.{filter, flatMap, below, member}
 use Rattle.lists.specs.Laws.Booleans.{and-left, and-right, not-true→false}
-use Rattle.lists.specs.Laws.Filters.{filter-none, filter-filter, filter-map}
-use Rattle.lists.specs.Laws.Below.{below-member, filter-first}
+use Rattle.lists.specs.Laws.Filters.{filter-filter, filter-map}
+use Rattle.lists.specs.Laws.Below.{below-member, none-below, filter-first}
 use Rattle.lists.specs.Laws.FlatMaps.{filter-flatMap, map-flatMap, flatMap-none, flatMap-first}
 use Rattle.deck.specs.Deck.{Deck, M, N, carries}
 use Rattle.charge.specs.Charge.{Charged, ruleCharge, carriedCharges, aboveBound}
@@ -72,11 +72,11 @@ module _ (d : Deck) where
   unfolding tooLarge
   within-bound p r c t = ltb-false 65535 (ruleCharge d p r) (sym (ap (λ b. b && ltb 65535 (ruleCharge d p r)) c) ∙ t)
 
-  none-at : (p : ℕ) → (placesAt p ≡ []) ↔ ((r : ℕ) → member r (below (M d)) ≡ true → tooLarge p r ≡ false)
+  none-at : (p : ℕ) → (placesAt p ≡ []) ↔ ((r : ℕ) → r < M d → tooLarge p r ≡ false)
   unfolding placesAt
   none-at p =
       let empty = map-eq-nil-iff (λ r. 64 * p + r) {l = filter (tooLarge p) (below (M d))} in
-      let none = filter-none (tooLarge p) (below (M d)) in
+      let none = none-below (tooLarge p) (M d) in
       (λ h. none .0 (empty .0 h), λ h. empty .1 (none .1 h))
 
   pub none-above : (aboveBound (carriedCharges d) ≡ []) ↔ AtMost d 65535
@@ -84,18 +84,18 @@ module _ (d : Deck) where
       rw above-is (
         λ h p r l m c.
             let empty = none .0 h p (below-member (N d) p .0 l) in
-            within-bound p r c (none-at p .0 empty r (below-member (M d) r .0 m)),
+            within-bound p r c (none-at p .0 empty r m),
         λ h. none .1 (λ p l. none-at p .1 (λ r m. not-true→false (tooLarge p r) (fits h p r l m))),
       )
     where
       none : (flatMap placesAt (below (N d)) ≡ []) ↔ ((p : ℕ) → member p (below (N d)) ≡ true → placesAt p ≡ [])
       none = flatMap-none placesAt (below (N d))
 
-      fits : AtMost d 65535 → (p r : ℕ) → member p (below (N d)) ≡ true → member r (below (M d)) ≡ true
+      fits : AtMost d 65535 → (p r : ℕ) → member p (below (N d)) ≡ true → r < M d
           → tooLarge p r ≡ true → ⊥
       fits h p r l m t =
           let both = too-large p r t in
-          omega (arith, both .1, h p r (below-member (N d) p .1 l) (below-member (M d) r .1 m) (both .0))
+          omega (arith, both .1, h p r (below-member (N d) p .1 l) m (both .0))
 
   -- the first place at part p is that of the first rule there
   first-at : (p x : ℕ) (xs : List ℕ) → placesAt p ≡ x ∷ xs
@@ -135,5 +135,5 @@ module _ (d : Deck) where
       lower q s m h =
           ⊎-elim
           (λ (f : q ≡ p). ap (λ k. tooLarge k s) f ∙ rule .4 s (omega (arith, rule .1)))
-          (λ (f : q < p). none-at q .0 (part .4 q f) s (below-member (M d) s .0 m))
+          (λ (f : q < p). none-at q .0 (part .4 q f) s m)
           (eq-or-lt-of-le (omega (arith, rule .1, rule .2)))

@@ -7,11 +7,10 @@ use mathlib.Core.Bool.{Bool, true, false, not, cond}
 use mathlib.Core.List.{List, [], _∷_}
 use native.Mathlib.Omega.{arith}
 use lib.Dec.{eqb}
-use Rattle.lists.specs.Lists.{sum, below, member}
+use Rattle.lists.specs.Lists.{sum, member}
 use Rattle.lists.specs.Laws.Booleans.{or-left, or-right}
 use Rattle.lists.specs.Laws.Members.{member-empty, member-cases}
-use Rattle.lists.specs.Laws.Filters.{filter-member}
-use Rattle.lists.specs.Laws.Below.{below-member}
+use Rattle.lists.specs.Laws.Below.{filter-below}
 use Rattle.lists.specs.Laws.Sums.{sum-cong}
 use Rattle.deck.specs.Deck.{Deck, R, N, ruleAt, targets, active}
 use Rattle.graph.specs.Graph.{assigns, edge}
@@ -49,12 +48,16 @@ module _ (d : Deck) where
   update-at-least-one p u = rw (deep, update-step (2 * R d + 2) p u) (omega arith)
 
   -- a rule's action goes to parts of the deck
+  pub others-inside : (p q : ℕ) → member q (others d p) ≡ true → q < N d
+  unfolding others
+  others-inside p q m = filter-below (λ q. not (eqb q p)) (N d) q .0 m .0
+
   receivers-inside : (p q r : ℕ) → p < N d → member q (receivers d p r) ≡ true → q < N d
-  unfolding receivers others
+  unfolding receivers
   receivers-inside p q r l m = go (ruleAt d r .everywhere) m
     where
       go : (b : Bool) → member q (cond b (others d p) (p ∷ [])) ≡ true → q < N d
-      go true m = below-member (N d) q .1 (filter-member (λ q. not (eqb q p)) (below (N d)) q .0 m .0)
+      go true m = others-inside p q m
       go false m = ⊎-elim (λ e. omega arith) (λ h. member-empty q h) (member-cases q p [] m)
 
 module _ {d : Deck} (known : KnownTargets d) (acyclic : Acyclic d) where

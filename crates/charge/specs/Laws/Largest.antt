@@ -9,9 +9,8 @@ use native.Mathlib.Nat.{le-refl}
 use native.Mathlib.Omega.{arith}
 use Rattle.lists.specs.Lists.{any, filter, largest, below, member}
 use Rattle.lists.specs.Laws.Booleans.{contradiction, true-or-false}
-use Rattle.lists.specs.Laws.Members.{member-empty, any-found, any-intro}
-use Rattle.lists.specs.Laws.Filters.{filter-member}
-use Rattle.lists.specs.Laws.Below.{below-member}
+use Rattle.lists.specs.Laws.Members.{member-empty}
+use Rattle.lists.specs.Laws.Below.{below-member, any-below, filter-below}
 use Rattle.lists.specs.Laws.Sums.{largest-bound, largest-found, largest-map, largest-flatMap}
 use Rattle.deck.specs.Deck.{Deck, M, N, carries}
 use Rattle.charge.specs.Charge.{ruleCharge, carriedCharges, largestCharge}
@@ -45,11 +44,7 @@ module _ (d : Deck) where
 
   in-carried : (p r : ℕ) → (member r (carriedAt p) ≡ true) ↔ ((r < M d) × (carries d p r ≡ true))
   unfolding carriedAt
-  in-carried p r =
-      let passing = filter-member (carries d p) (below (M d)) r in (
-        λ m. (below-member (M d) r .1 (passing .0 m .0), passing .0 m .1),
-        λ h. passing .1 (below-member (M d) r .0 (h .0), h .1),
-      )
+  in-carried p r = filter-below (carries d p) (M d) r
 
   -- the largest over the parts of the largest at each
   pub largest-is : largestCharge d ≡ largest (λ p. largest (ruleCharge d p) (carriedAt p)) (below (N d))
@@ -106,8 +101,7 @@ module _ (d : Deck) where
   unfolding someCarried
   none-carried t p r l m c =
       contradiction
-      (any-intro (λ p. any (carries d p) (below (M d))) (below (N d)) p (below-member (N d) p .0 l)
-      (any-intro (carries d p) (below (M d)) r (below-member (M d) r .0 m) c))
+      (any-below (λ p. any (carries d p) (below (M d))) (N d) .1 (p, l, any-below (carries d p) (M d) .1 (r, m, c)))
       t
 
   pub largest-of : LargestOf d (largestCharge d)
@@ -120,11 +114,9 @@ module _ (d : Deck) where
     where
       by : someCarried ≡ true → CarriedCharge d (largestCharge d)
       by t =
-          let part = any-found (λ p. any (carries d p) (below (M d))) (below (N d)) t in
-          let rule = any-found (carries d (part .0)) (below (M d)) (part .2) in
-          attained-by (part .0) (rule .0) (below-member (N d) (part .0) .1 (part .1))
-          (below-member (M d) (rule .0) .1 (rule .1))
-          (rule .2)
+          let part = any-below (λ p. any (carries d p) (below (M d))) (N d) .0 t in
+          let rule = any-below (carries d (part .0)) (M d) .0 (part .2) in
+          attained-by (part .0) (rule .0) (part .1) (rule .1) (rule .2)
 
       zero : someCarried ≡ false → largestCharge d ≡ 0
       zero t = omega (arith, largest-charge 0 .1 (λ p r l m c. absurd (none-carried t p r l m c)))

@@ -6,31 +6,25 @@ use mathlib.Core.List.{List, [], _∷_, _++_}
 use native.Mathlib.Nat.{suc-inj, suc-ne-zero}
 use lib.Dec.{leb, ltb, eqb}
 use lib.ListN.{length}
-use borrow.Author.Tests.{eqb-true, eqb-false, eq-eqb, ne-eqb}
 use Rattle.lists.specs.Lists.{all, flatMap, member, distinct, lists}
+use Rattle.lists.specs.Laws.Booleans.{and-both, and-left, and-right}
+use Rattle.lists.specs.Laws.Alls.{all-every}
+use Rattle.lists.specs.Laws.Equalities.{eqb-sym}
 use Rattle.refusals.specs.Numbers.{repeatedTarget}
 use Rattle.expression.specs.Syntax.{Num}
 use Rattle.expression.specs.Reading.{Scope}
 use Rattle.expression.specs.Encoding.{encodeNum, goodNum}
-use Rattle.expression.specs.Laws.Bytes.{and-both, and-left, and-right}
 use Rattle.expression.specs.Laws.Whole.{whole-num}
 use Rattle.deck.specs.Limits.{limits}
 use Rattle.deck.specs.Deck.{Assignment, Action, targets, decks}
 use Rattle.deck.specs.Reader.{readers}
 use Rattle.deck.specs.Layout.{assignments, action, layouts}
-use Rattle.deck.specs.Encoding.{encodeExpression, encodeAssignment, encodeAction, goodLength, goodAssignment, goodAction, encodings}
+use Rattle.deck.specs.Encoding.{encodeExpression, encodeAssignment, encodeAction, goodAssignment, goodAction, encodings}
 use Rattle.deck.specs.Laws.Exact.{Exact, Any, Coded, exact-by, give-exact, here-exact, require-exact, then-exact}
 use Rattle.deck.specs.Laws.Readers.{number-exact, nil-exact, cons-exact}
 use Rattle.deck.specs.Laws.Expressions.{below-range, zero-range, expression-exact}
 
 -- ---- targets that stand once
-
-eqb-sym : (a b : ℕ) → eqb a b ≡ eqb b a
-eqb-sym a b = go (eqb b a) refl
-  where
-    go : (t : Bool) → eqb b a ≡ t → eqb a b ≡ eqb b a
-    go true e = eq-eqb a b (sym (eqb-true b a e)) ∙ sym e
-    go false e = ne-eqb a b (λ q. eqb-false b a e (sym q)) ∙ sym e
 
 -- no target of the action is among ts
 abbrev Apart : List ℕ → Action → Bool
@@ -46,12 +40,13 @@ exchange false false false n = refl
 apart : (t : ℕ) (ts : List ℕ) (a : Action) → Apart (t ∷ ts) a ≡ (not (member t (targets a)) && Apart ts a)
 unfolding lists decks
 apart t ts [] = refl
-apart t ts (s ∷ a) = rw (apart t ts a, eqb-sym t (s .target)) (exchange (eqb (s .target) t) (member (s .target) ts) (member t (targets a)) (Apart ts a))
+apart t ts (s ∷ a) =
+    rw (apart t ts a, eqb-sym t (s .target))
+    (exchange (eqb (s .target) t) (member (s .target) ts) (member t (targets a)) (Apart ts a))
 
 apart-none : (a : Action) → Apart [] a ≡ true
 unfolding lists
-apart-none [] = refl
-apart-none (s ∷ a) = apart-none a
+apart-none a = all-every (λ s. not (member (s .target) [])) (λ s. refl) a
 
 -- ---- the readers
 
@@ -67,7 +62,7 @@ module _ (sc : Scope) where
   assigns-cons n ts s a p q =
       let h : (not (member (s .target) (targets a)) && Apart ts a) ≡ true = sym (apart (s .target) ts a) ∙ q .3 in
       let free = not (member (s .target) (targets a)) in
-      (ap suc (q .0), and-both (goodAssignment sc s) _ (p .0) (q .1), and-both free _ (and-left free _ h) (q .2), and-both (not (member (s .target) ts)) _ (p .1) (and-right free _ h))
+      (ap suc (q .0), and-both (p .0) (q .1), and-both (and-left free _ h) (q .2), and-both (p .1) (and-right free _ h))
 
   assigns-parts : (n : ℕ) (ts : List ℕ) (s : Assignment) (a : Action) → Assigns (suc n) ts (s ∷ a)
       → ((goodAssignment sc s ≡ true) × (not (member (s .target) ts) ≡ true)) × Assigns n (s .target ∷ ts) a
@@ -80,7 +75,7 @@ module _ (sc : Scope) where
           suc-inj (q .0),
           and-right (goodAssignment sc s) _ (q .1),
           and-right free _ (q .2),
-          apart (s .target) ts a ∙ and-both free _ (and-left free _ (q .2)) (and-right new _ (q .3)),
+          apart (s .target) ts a ∙ and-both (and-left free _ (q .2)) (and-right new _ (q .3)),
         ),
       )
 
@@ -101,8 +96,8 @@ module _ (sc : Scope) where
       (λ at a w _ p.
       let t : ℕ = p .0 in
       let e : Num = p .4 .1 .0 in
-      let good = and-both (ltb t (sc .owns)) _ (sym (below-range (sc .owns) t) ∙ p .3) (p .4 .1 .3 .0) in
-      (record { target = t; value = e }, p .4 .1 .1, p .2 ∙ ap (λ v. t ∷ v) (p .4 .1 .2), (and-both _ (goodLength (encodeNum e)) good (p .4 .1 .3 .1), p .4 .0), p .4 .1 .4))
+      let good = and-both (sym (below-range (sc .owns) t) ∙ p .3) (p .4 .1 .3 .0) in
+      (record { target = t; value = e }, p .4 .1 .1, p .2 ∙ ap (λ v. t ∷ v) (p .4 .1 .2), (and-both good (p .4 .1 .3 .1), p .4 .0), p .4 .1 .4))
       (λ at a w q.
       let s : Assignment = q .0 in
       let known : Bool = ltb (s .target) (sc .owns) in
@@ -120,7 +115,7 @@ module _ (sc : Scope) where
       exact-by (then-exact (number-exact 0 (suc (limits .assignments))) λ n. assignments-exact n [])
       (λ at a w _ p.
       let few : leb (length a) (limits .assignments) ≡ true = rw (p .4 .0 .0) (sym (zero-range (limits .assignments) (p .0)) ∙ p .3) in
-      (and-both _ (distinct (targets a)) (and-both _ _ few (p .4 .0 .1)) (p .4 .0 .2), p .2 ∙ rw (p .4 .1, p .4 .0 .0)))
+      (and-both (and-both few (p .4 .0 .1)) (p .4 .0 .2), p .2 ∙ rw (p .4 .1, p .4 .0 .0)))
       (λ at a w q.
       let few : Bool = leb (length a) (limits .assignments) in
       let good = and-left (few && all (goodAssignment sc) a) _ (q .0) in (

@@ -8,8 +8,9 @@ use native.Mathlib.Omega.{arith}
 use native.Mathlib.Nat.{add-zero}
 use native.Mathlib.Numerals.{add-one}
 use lib.ListN.{length, length-append}
+use Rattle.lists.specs.Laws.Alls.{all-left, all-right}
 use Rattle.refusals.specs.Outcome.{Outcome, refused, accepted}
-use Rattle.expression.specs.Laws.Bytes.{Bytes, all-left, all-right}
+use Rattle.expression.specs.Laws.Bytes.{Bytes}
 use Rattle.deck.specs.Reader.{Got, Reader, andThen, _>>=_, _>>_, give, fault, here, require, byte, end, readers}
 
 -- what a reader accepted, if it did, has a property

@@ -5,8 +5,8 @@ use mathlib.Core.Bool.{Bool, true, _&&_}
 use mathlib.Core.List.{List, [], _∷_, _++_, append-nil}
 use lib.Dec.{leb, ltb, leb·zero, leb·suc-suc}
 use lib.ListN.{length}
+use Rattle.lists.specs.Laws.Alls.{all-left, all-right}
 use Rattle.expression.specs.Reading.{Read, got, nothing}
-use Rattle.expression.specs.Laws.Bytes.{all-left, all-right}
 use Rattle.expression.specs.Laws.Holds.{none, holds}
 use Rattle.expression.specs.Laws.Whole.{Whole}
 use Rattle.deck.specs.Limits.{limits}

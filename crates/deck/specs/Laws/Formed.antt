@@ -1,20 +1,18 @@
 -- What a well-formed deck has, in the form that the layers above use. Assumes nothing.
-use Prim.Native.Nat.{ℕ, _≤_, _<_}
-use mathlib.Core.Path.{_≡_, refl, ap, _∙_, subst}
-use mathlib.Core.Logic.{⊎-elim}
-use mathlib.Core.Bool.{Bool, true, false, _&&_, _||_}
-use mathlib.Core.List.{List, [], _∷_, map}
+use Prim.Native.Nat.{ℕ, _≤_}
+use mathlib.Core.Path.{_≡_, refl, _∙_, subst}
+use mathlib.Core.Bool.{Bool, true, false, _&&_}
+use mathlib.Core.List.{[]}
 use lib.Dec.{leb, ltb, eqb}
 use lib.ListN.{length}
-use borrow.Author.Tests.{leb-true, le-leb, ltb-true, eqb-true}
-use Rattle.lists.specs.Lists.{lists, all, member, distinct}
-use Rattle.lists.specs.Laws.Booleans.{and-left, and-right, or-cases}
-use Rattle.lists.specs.Laws.Alls.{all-head, all-tail, all-cons, all-map, all-weaken, all-getD}
+use borrow.Author.Tests.{leb-true}
+use Rattle.lists.specs.Lists.{lists, all, distinct}
+use Rattle.lists.specs.Laws.Booleans.{and-left, and-right, five}
+use Rattle.lists.specs.Laws.Alls.{all-map, all-weaken, all-getD}
 use Rattle.expression.specs.Reading.{Scope}
 use Rattle.expression.specs.Encoding.{encodeNum, fits, goodNum}
-use Rattle.deck.specs.Limits.{limits}
 use Rattle.deck.specs.Deck.{Assignment, Action, Rule, Part, Deck, R, M, N, ruleAt, targets, decks}
-use Rattle.deck.specs.Layout.{ownOnly, ownAndFar, taskScope, layouts}
+use Rattle.deck.specs.Layout.{ownOnly, taskScope, layouts}
 use Rattle.deck.specs.Encoding.{inRange, isRising, goodLength, goodAssignment, goodAction, goodCondition, goodRule, goodPart, wellFormed, encodings}
 
 -- an action that can be carried out: at most four assignments, to different known channels
@@ -64,24 +62,12 @@ module _ (R : ℕ) where
   abbrev goodTask : Rule → Bool
   goodTask r = goodAction (taskScope R (r .everywhere)) (r .action)
 
-  module _ (r : Rule) (h : goodRule R r ≡ true) where
-    upToEvents : Bool
-    upToEvents = inRange 1 8 (length (r .events)) && isRising 0 R (r .events)
-
-    upToCondition : Bool
-    unfolding upToEvents
-    upToCondition = upToEvents && goodDefault r && goodCondition (taskScope R (r .everywhere)) (r .condition)
-
-    default-good : goodDefault r ≡ true
-    unfolding goodRule upToEvents upToCondition
-    default-good =
-        and-right upToEvents (goodDefault r)
-        (and-left (upToEvents && goodDefault r) (goodCondition (taskScope R (r .everywhere)) (r .condition))
-        (and-left upToCondition (goodTask r) h))
-
-    task-good : goodTask r ≡ true
-    unfolding goodRule upToEvents upToCondition
-    task-good = and-right upToCondition (goodTask r) h
+  both-good : (r : Rule) → goodRule R r ≡ true → (goodDefault r ≡ true) × (goodTask r ≡ true)
+  unfolding goodRule
+  both-good r h =
+      let tests = five (inRange 1 8 (length (r .events))) (isRising 0 R (r .events)) (goodDefault r)
+      (goodCondition (taskScope R (r .everywhere)) (r .condition)) (goodTask r) h in
+      (tests .2, tests .4)
 
 -- either scope knows the R own channels
 owns-task : (R : ℕ) (everywhere : Bool) → taskScope R everywhere .owns ≡ R
@@ -92,42 +78,31 @@ owns-task R false = refl
 opening-long : (R M : ℕ) (p : Part) → goodPart R M p ≡ true → eqb (length (p .opening)) R ≡ true
 unfolding goodPart
 opening-long R M p h =
-    let t1 : Bool = eqb (length (p .opening)) R in
-    let t2 : Bool = t1 && all fits (p .opening) in
-    let t3 : Bool = t2 && leb (length (p .carried)) M in
-    let t4 : Bool = t3 && isRising 0 M (p .carried) in
-    let h4 = and-left t4 (goodCondition (ownOnly R) (p .limit)) h in
-    and-left t1 (all fits (p .opening)) (and-left t2 (leb (length (p .carried)) M) (and-left t3 (isRising 0 M (p .carried)) h4))
+    five (eqb (length (p .opening)) R) (all fits (p .opening)) (leb (length (p .carried)) M) (isRising 0 M (p .carried))
+    (goodCondition (ownOnly R) (p .limit)) h .0
 
 pub formed : (d : Deck) → wellFormed d ≡ true → Formed d
 unfolding wellFormed inRange ruleAt layouts
 formed d h =
-    let t1 : Bool = inRange 1 32 (R d) in
-    let t2 : Bool = t1 && all (inRange 33 126) (d .labels) in
-    let t3 : Bool = t2 && leb (M d) 64 in
-    let t4 : Bool = t3 && all (goodRule (R d)) (d .rules) in
-    let t5 : Bool = t4 && inRange 1 16 (N d) in
-    let h5 = and-left t5 (all (goodPart (R d) (M d)) (d .parts)) h in
-    let h4 = and-left t4 (inRange 1 16 (N d)) h5 in
-    let h3 = and-left t3 (all (goodRule (R d)) (d .rules)) h4 in
-    let h2 = and-left t2 (leb (M d) 64) h3 in
-    let h1 = and-left t1 (all (inRange 33 126) (d .labels)) h2 in
-    let rules = and-right t3 (all (goodRule (R d)) (d .rules)) h4 in
+    let channels : Bool = inRange 1 32 (R d) in
+    let labels : Bool = all (inRange 33 126) (d .labels) in
+    let tests = five (channels && labels) (leb (M d) 64) (all (goodRule (R d)) (d .rules)) (inRange 1 16 (N d))
+    (all (goodPart (R d) (M d)) (d .parts)) h in
     record {
-      channels = leb-true (R d) 32 (and-right (leb 1 (R d)) (leb (R d) 32) h1);
-      rules = leb-true (M d) 64 (and-right t2 (leb (M d) 64) h3);
-      parts = leb-true (N d) 16 (and-right (leb 1 (N d)) (leb (N d) 16) (and-right t4 (inRange 1 16 (N d)) h5));
+      channels = leb-true (R d) 32 (and-right (leb 1 (R d)) (leb (R d) 32) (and-left channels labels (tests .0)));
+      rules = leb-true (M d) 64 (tests .1);
+      parts = leb-true (N d) 16 (and-right (leb 1 (N d)) (leb (N d) 16) (tests .3));
       openings = all-weaken (λ p. eqb (length (p .opening)) (R d)) (goodPart (R d) (M d)) (opening-long (R d) (M d)) (d .parts)
-          (and-right t5 (all (goodPart (R d) (M d)) (d .parts)) h);
+          (tests .4);
       default = λ r. sound (ownOnly (R d)) (ruleAt d r .default)
           (all-getD (goodDefault (R d)) (d .rules) r _
-          (all-weaken (goodDefault (R d)) (goodRule (R d)) (default-good (R d)) (d .rules) rules)
+          (all-weaken (goodDefault (R d)) (goodRule (R d)) (λ r g. both-good (R d) r g .0) (d .rules) (tests .2))
           (empty-good (ownOnly (R d))));
       action = λ r.
           let scope = taskScope (R d) (ruleAt d r .everywhere) in
           subst (λ (n : ℕ). Sound n (ruleAt d r .action)) (owns-task (R d) (ruleAt d r .everywhere))
           (sound scope (ruleAt d r .action)
           (all-getD (goodTask (R d)) (d .rules) r _
-          (all-weaken (goodTask (R d)) (goodRule (R d)) (task-good (R d)) (d .rules) rules)
+          (all-weaken (goodTask (R d)) (goodRule (R d)) (λ r g. both-good (R d) r g .1) (d .rules) (tests .2))
           (empty-good (taskScope (R d) false))));
     }

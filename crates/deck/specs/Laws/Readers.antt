@@ -7,10 +7,13 @@ use native.Mathlib.Nat.{suc-inj, suc-ne-zero}
 use lib.Dec.{leb, ltb, lit<}
 use lib.ListN.{length, getD}
 use Rattle.lists.specs.Lists.{all, flatMap, lists}
+use Rattle.lists.specs.Laws.Booleans.{and-both, and-left, and-right}
+use Rattle.lists.specs.Laws.Alls.{all-every}
+use Rattle.lists.specs.Laws.FlatMaps.{flatMap-one}
 use Rattle.refusals.specs.Numbers.{outOfRange}
 use Rattle.expression.specs.Reading.{word, signed}
 use Rattle.expression.specs.Encoding.{encodeValue, fits}
-use Rattle.expression.specs.Laws.Bytes.{byte-below, and-both, and-left, and-right}
+use Rattle.expression.specs.Laws.Bytes.{byte-below}
 use Rattle.expression.specs.Laws.Value.{FourBytes, four-bytes, encode-word, word-fits}
 use Rattle.deck.specs.Reader.{Reader, give, byte, number, times, rising, value, readers}
 use Rattle.deck.specs.Encoding.{isRising, encodings}
@@ -63,30 +66,20 @@ module _ {A : Type 0} {r : Reader A} {enc : A → List ℕ} {ok : A → Bool} (x
   times-exact (suc n) =
       cons-exact enc _ (λ y ys. (length ys ≡ n) × (all ok ys ≡ true)) _
       (λ q. suc-ne-zero _ (sym (q .0)))
-      (λ y ys p q. (ap suc (q .0), and-both (ok y) _ p (q .1)))
+      (λ y ys p q. (ap suc (q .0), and-both p (q .1)))
       (λ y ys q. (and-left (ok y) _ (q .1), (suc-inj (q .0), and-right (ok y) _ (q .1))))
       (then-exact x λ y. then-exact (times-exact n) λ ys. give-exact (y ∷ ys))
 
 -- a list of bytes is its own encoding
-flatMap-one : (s : List ℕ) → flatMap (λ b. b ∷ []) s ≡ s
-unfolding lists
-flatMap-one [] = refl
-flatMap-one (b ∷ s) = ap (λ t. b ∷ t) (flatMap-one s)
-
 pub bytes-coded : {r : Reader (List ℕ)} {Ok : List ℕ → Type 0} → Exact Any r (Coded (flatMap (λ b. b ∷ [])) Ok)
     → Exact Any r (Coded (λ s. s) Ok)
 bytes-coded x = exact-by x (λ at s w _ p. (p .0, p .1 ∙ flatMap-one s)) (λ at s w q. (q .0, q .1 ∙ sym (flatMap-one s)))
-
-all-true : (s : List ℕ) → all (λ _. true) s ≡ true
-unfolding lists
-all-true [] = refl
-all-true (b ∷ s) = all-true s
 
 pub bytes-exact : (n : ℕ) → Exact Any (times n byte) (Coded (λ s. s) (λ s. length s ≡ n))
 bytes-exact n =
     exact-by (bytes-coded (times-exact {ok = λ _. true} (exact-by byte-exact (λ at b w _ p. (refl, p .1)) (λ at b w q. (tt, q .1))) n))
     (λ at s w _ p. (p .0 .0, p .1))
-    (λ at s w q. ((q .0, all-true s), q .1))
+    (λ at s w q. ((q .0, all-every (λ _. true) (λ _. refl) s), q .1))
 
 rising-from : (n lo hi : ℕ)
     → Exact Any (rising n lo hi) (Coded (flatMap (λ c. c ∷ [])) (λ cs. (length cs ≡ n) × (isRising lo hi cs ≡ true)))
@@ -95,7 +88,7 @@ rising-from zero lo hi = nil-exact _ _ (refl, refl) (λ c cs q. suc-ne-zero _ (q
 rising-from (suc n) lo hi =
     cons-exact _ _ (λ c cs. (length cs ≡ n) × (isRising (suc c) hi cs ≡ true)) _
     (λ q. suc-ne-zero _ (sym (q .0)))
-    (λ c cs p q. (ap suc (q .0), and-both (leb lo c && ltb c hi) _ p (q .1)))
+    (λ c cs p q. (ap suc (q .0), and-both p (q .1)))
     (λ c cs q. (and-left (leb lo c && ltb c hi) _ (q .1), (suc-inj (q .0), and-right (leb lo c && ltb c hi) _ (q .1))))
     (then-exact (number-exact lo hi) λ c. then-exact (rising-from n (suc c) hi) λ cs. give-exact (c ∷ cs))
 

@@ -8,15 +8,14 @@ use lib.Dec.{leb, ltb, eqb}
 use lib.ListN.{length}
 use borrow.Author.Tests.{ltb-true, eqb-true, eq-eqb}
 use Rattle.lists.specs.Lists.{all, flatMap}
+use Rattle.lists.specs.Laws.Booleans.{and-both, and-left, and-right, five, from-five}
 use Rattle.expression.specs.Encoding.{encodeValue, encodeTruth, fits, goodTruth}
-use Rattle.expression.specs.Laws.Bytes.{and-both, and-left, and-right}
 use Rattle.expression.specs.Laws.Whole.{whole-truth}
 use Rattle.deck.specs.Limits.{limits}
 use Rattle.deck.specs.Deck.{Rule, Part}
 use Rattle.deck.specs.Reader.{readers}
 use Rattle.deck.specs.Layout.{ownOnly, taskScope, rule, part, layouts}
 use Rattle.deck.specs.Encoding.{encodeExpression, encodeAction, kindByte, encodeRule, encodePart, inRange, isRising, goodAction, goodCondition, goodRule, goodPart}
-use Rattle.deck.specs.Laws.Tests.{five, from-five}
 use Rattle.deck.specs.Laws.Exact.{Exact, Any, Coded, exact-by, give-exact, then-exact}
 use Rattle.deck.specs.Laws.Readers.{number-exact, times-exact, rising-exact, value-exact}
 use Rattle.deck.specs.Laws.Expressions.{range, below-range, zero-range, expression-exact}
@@ -78,7 +77,7 @@ rule-exact R =
     let is : kindByte (eqb (kind .0) 1) ≡ kind .0 = kind-byte (kind .0) (ltb-true (kind .0) 2 (sym (below-range 2 (kind .0)) ∙ kind .3)) in
     rw (act .4 .0) (
       from-five (inRange 1 (limits .events) (length (events .0))) (isRising 0 R (events .0)) (goodAction (ownOnly R) (default .0)) (goodCondition scope (condition .0)) (goodAction scope (act .0))
-          (rw (events .3 .0) (sym (range 1 (limits .events) (p .0)) ∙ p .3), events .3 .1, default .3, and-both _ _ (condition .3 .0) (condition .3 .1), act .3),
+          (rw (events .3 .0) (sym (range 1 (limits .events) (p .0)) ∙ p .3), events .3 .1, default .3, and-both (condition .3 .0) (condition .3 .1), act .3),
       rw (encode-rule (record { events = events .0; default = default .0; everywhere = eqb (kind .0) 1; condition = condition .0; action = act .0 }), is, events .3 .0)
           (rw (p .2, events .2, default .2, kind .2, condition .2, act .2, act .4 .1, append-nil (encodeAction (act .0)))),
     ))
@@ -136,7 +135,7 @@ part-exact R M =
     let limit = carried .4 in
     rw (limit .4 .0) (
       from-five (eqb (length (p .0)) R) (all fits (p .0)) (leb (length (carried .0)) M) (isRising 0 M (carried .0)) (goodCondition (ownOnly R) (limit .0))
-          (eq-eqb (length (p .0)) R (p .3 .0), p .3 .1, rw (carried .3 .0) (sym (zero-range M (count .0)) ∙ count .3), carried .3 .1, and-both _ _ (limit .3 .0) (limit .3 .1)),
+          (eq-eqb (length (p .0)) R (p .3 .0), p .3 .1, rw (carried .3 .0) (sym (zero-range M (count .0)) ∙ count .3), carried .3 .1, and-both (limit .3 .0) (limit .3 .1)),
       rw (encode-part (record { opening = p .0; carried = carried .0; limit = limit .0 }), carried .3 .0)
           (rw (p .2, count .2, carried .2, limit .2, limit .4 .1, append-nil (encodeExpression (encodeTruth (limit .0))))),
     ))

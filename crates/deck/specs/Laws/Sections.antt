@@ -7,13 +7,12 @@ use native.Mathlib.Omega.{arith}
 use lib.Dec.{leb}
 use lib.ListN.{length}
 use Rattle.lists.specs.Lists.{all, flatMap}
-use Rattle.expression.specs.Laws.Bytes.{and-both, and-left, and-right}
+use Rattle.lists.specs.Laws.Booleans.{and-both, and-left, and-right, five, from-five}
 use Rattle.deck.specs.Limits.{limits}
 use Rattle.deck.specs.Deck.{Deck, decks}
 use Rattle.deck.specs.Reader.{number, times, readers}
 use Rattle.deck.specs.Layout.{Layout, sections, layouts}
 use Rattle.deck.specs.Encoding.{encodeRule, encodePart, encodeChannels, encodeRules, encodeParts, encode, inRange, goodRule, goodPart, wellFormed}
-use Rattle.deck.specs.Laws.Tests.{five, from-five}
 use Rattle.deck.specs.Laws.Exact.{Exact, Any, Nothing, Coded, exact-by, here-exact, end-exact, then-exact}
 use Rattle.deck.specs.Laws.Readers.{number-exact, times-exact, bytes-coded}
 use Rattle.deck.specs.Laws.Expressions.{range, zero-range}
@@ -67,7 +66,7 @@ sections-exact =
       formed =
           rw (labels .3 .0, rules .3 .0, parts .3 .0)
           (from-five (inRange 1 (limits .channels) (p .0) && all (inRange 33 126) (labels .0)) (leb (m .0) (limits .rules)) (all (goodRule (p .0)) (rules .0)) (inRange 1 (limits .parts) (n .0)) (all (goodPart (p .0) (m .0)) (parts .0))
-          (and-both _ _ front (labels .3 .1), sym (zero-range (limits .rules) (m .0)) ∙ m .3, rules .3 .1, sym (range 1 (limits .parts) (n .0)) ∙ n .3, parts .3 .1));
+          (and-both front (labels .3 .1), sym (zero-range (limits .rules) (m .0)) ∙ m .3, rules .3 .1, sym (range 1 (limits .parts) (n .0)) ∙ n .3, parts .3 .1));
       bytes =
           rw (encode-deck d, labels .3 .0, rules .3 .0, parts .3 .0)
           (rw (p .2, labels .2, m .2, rules .2, n .2, parts .2, parts .4 .1, append-nil (flatMap encodePart (parts .0))));

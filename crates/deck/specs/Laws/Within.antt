@@ -9,10 +9,10 @@ use native.Mathlib.Nat.{not-suc-le-zero, le-trans}
 use lib.Dec.{leb, ltb}
 use lib.ListN.{length}
 use borrow.Author.Tests.{ltb-true}
+use Rattle.lists.specs.Laws.Booleans.{and-right}
 use Rattle.refusals.specs.Outcome.{Outcome, refused, accepted}
 use Rattle.refusals.specs.Numbers.{outOfRange}
 use Rattle.expression.specs.Reading.{word, signed}
-use Rattle.expression.specs.Laws.Bytes.{and-right}
 use Rattle.deck.specs.Reader.{Got, Reader, andThen, _>>=_, _>>_, give, fault, here, require, byte, end, number, times, rising, value, readers}
 
 -- s was read, and s ++ t: both were refused alike, or both accepted alike, with t left as well. At most `takes` bytes were

@@ -1,20 +1,19 @@
 -- Setting channels and committing keep a state good, and every commit lowers the pending charge. Assumes nothing.
 use Prim.Native.Nat.{ℕ, zero, suc, _+_, _≤_, _<_}
-use mathlib.Core.Path.{_≡_, refl, sym, _∙_, ap}
-use mathlib.Core.Bool.{Bool, true, false, not, _&&_, _||_, cond}
+use mathlib.Core.Path.{_≡_, refl, _∙_, ap}
+use mathlib.Core.Bool.{Bool, true, false, not, cond}
 use mathlib.Core.List.{List, [], _∷_, _++_}
 use native.Mathlib.Omega.{arith}
 use native.Mathlib.Nat.{not-suc-le-zero, le-of-suc-le-suc}
 use lib.Dec.{ltb}
-use lib.ListN.{length, getD, take, drop}
-use lib.IntN.{ℤ}
+use lib.ListN.{length, take, drop}
 use borrow.Author.Tests.{ltb-true, not-true}
-use Rattle.lists.specs.Lists.{lists, all, any, sum, distinct, isEmpty}
-use Rattle.lists.specs.Laws.Booleans.{and-both, and-left, and-right}
-use Rattle.lists.specs.Laws.Alls.{all-append, all-take, all-drop, all-at}
-use Rattle.deck.specs.Deck.{Deck, R, N, active}
+use Rattle.lists.specs.Lists.{lists, all, distinct, isEmpty}
+use Rattle.lists.specs.Laws.Booleans.{and-both, and-left, and-right, four}
+use Rattle.lists.specs.Laws.Alls.{all-append, all-take, all-drop, all-at, any-none}
+use Rattle.deck.specs.Deck.{Deck, R, N}
 use Rattle.deck.specs.Laws.Formed.{Formed}
-use Rattle.graph.specs.Laws.Cycles.{KnownTargets, Acyclic}
+use Rattle.graph.specs.Laws.Cycles.{Acyclic}
 use Rattle.graph.specs.Laws.Targets.{known-targets}
 use Rattle.charge.specs.Charge.{updateCharge, ruleCharge}
 use Rattle.charge.specs.Laws.Active.{active-sub}
@@ -25,7 +24,7 @@ use Rattle.pool.specs.Laws.Places.{short}
 use Rattle.pool.specs.Laws.Values.{channelsIn, assign-length, unused-assign}
 use Rattle.pool.specs.Laws.Good.{Fine}
 use Rattle.engine.specs.Check.{within}
-use Rattle.engine.specs.Firing.{fired, enqueue, changed, setAndFire, pick, without, Commit, committed}
+use Rattle.engine.specs.Firing.{fired, changed, setAndFire, pick, without, committed}
 use Rattle.engine.specs.Laws.Firing.{fired-known, fired-short}
 use Rattle.engine.specs.Laws.Enqueue.{one, enqueue-all, enqueue-different, enqueue-grows, enqueue-most}
 use Rattle.engine.specs.Laws.Charges.{fired-most, changed-assigned}
@@ -37,23 +36,10 @@ unfolding without
 without-all test k us h = all-append test (take k us) (drop (suc k) us) (all-take test k us h) (all-drop test (suc k) us h)
 
 without-among : (w : Update) (k : ℕ) (us : List Update) → isAmong w us ≡ false → isAmong w (without k us) ≡ false
-unfolding without isAmong lists
-without-among w k [] h = nothing k
-  where
-    nothing : (k : ℕ) → any (eqUpdate w) (take k [] ++ drop (suc k) []) ≡ false
-    nothing zero = refl
-    nothing (suc k) = refl
-without-among w zero (u ∷ us) h = later (eqUpdate w u) h
-  where
-    later : (b : Bool) → (b || any (eqUpdate w) us) ≡ false → any (eqUpdate w) us ≡ false
-    later true h = absurd (mathlib.Core.Bool.true≢false h)
-    later false h = h
-without-among w (suc k) (u ∷ us) h = go (eqUpdate w u) h (λ g. without-among w k us g)
-  where
-    go : (b : Bool) → (b || any (eqUpdate w) us) ≡ false → (any (eqUpdate w) us ≡ false → any (eqUpdate w) (take k us ++ drop (suc k) us) ≡ false)
-        → (b || any (eqUpdate w) (take k us ++ drop (suc k) us)) ≡ false
-    go true h more = h
-    go false h more = more h
+unfolding isAmong
+without-among w k us h =
+    any-none (eqUpdate w) (without k us) .1
+    (without-all (λ u. not (eqUpdate w u)) k us (any-none (eqUpdate w) us .0 h))
 
 pub without-different : (k : ℕ) (us : List Update) → allDifferent us ≡ true → allDifferent (without k us) ≡ true
 unfolding without allDifferent
@@ -84,16 +70,12 @@ pub record Known (d : Deck) (u : Update) : Type 0 where
 pub known-has : (d : Deck) (u : Update) → known d u ≡ true → Known d u
 unfolding known
 known-has d u h =
-    let t1 : Bool = ltb (u .part) (N d) in
-    let t2 : Bool = t1 && not (isEmpty (u .pairs)) in
-    let t3 : Bool = t2 && all (λ c. ltb c (R d)) (channels u) in
-    let h3 = and-left t3 (distinct (channels u)) h in
-    let h2 = and-left t2 (all (λ c. ltb c (R d)) (channels u)) h3 in
+    let tests = four (ltb (u .part) (N d)) (not (isEmpty (u .pairs))) (all (λ c. ltb c (R d)) (channels u)) (distinct (channels u)) h in
     record {
-      part = ltb-true (u .part) (N d) (and-left t1 (not (isEmpty (u .pairs))) h2);
-      some = not-true (isEmpty (u .pairs)) (and-right t1 (not (isEmpty (u .pairs))) h2);
-      inside = and-right t2 (all (λ c. ltb c (R d)) (channels u)) h3;
-      different = and-right t3 (distinct (channels u)) h;
+      part = ltb-true (u .part) (N d) (tests .0);
+      some = not-true (isEmpty (u .pairs)) (tests .1);
+      inside = tests .2;
+      different = tests .3;
     }
 
 pub pick-known : (d : Deck) (C : ℕ) (x : Machine) (k : ℕ) → Fine d C x → k < length (x .pending) → Known d (pick k (x .pending))

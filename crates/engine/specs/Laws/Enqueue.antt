@@ -1,14 +1,14 @@
 -- New updates written behind the pending ones: what is kept, and what is added at most. Assumes nothing.
 use Prim.Native.Nat.{ℕ, _+_, _≤_}
-use mathlib.Core.Path.{_≡_, refl, sym, _∙_, ap, ap₂, subst}
-use mathlib.Core.Bool.{Bool, true, false, not, _&&_, _||_, cond, false≢true}
+use mathlib.Core.Path.{_≡_, refl, _∙_, ap, ap₂}
+use mathlib.Core.Bool.{Bool, true, false, not, cond}
 use mathlib.Core.List.{List, [], _∷_, _++_}
 use native.Mathlib.Omega.{arith}
 use lib.Dec.{eqb}
 use borrow.Author.Tests.{eqb-true, eq-eqb, not-true}
-use Rattle.lists.specs.Lists.{lists, all, any, sum, eqList}
-use Rattle.lists.specs.Laws.Booleans.{and-both, and-left, and-right, or-left, or-right, contradiction, not-true→false}
-use Rattle.lists.specs.Laws.Alls.{all-cons, all-append, all-none, all-head, all-tail}
+use Rattle.lists.specs.Lists.{lists, all, any, eqList}
+use Rattle.lists.specs.Laws.Booleans.{and-both, and-left, and-right, or-false-left, or-false-right, contradiction, not-true→false}
+use Rattle.lists.specs.Laws.Alls.{all-cons, all-append, all-none, all-head, all-tail, any-none}
 use Rattle.lists.specs.Laws.Equalities.{eqZ-true, eqZ-refl, eqList-true, eqList-refl}
 use Rattle.lists.specs.Laws.Sums.{sum-append}
 use Rattle.deck.specs.Deck.{Deck}
@@ -55,23 +55,20 @@ unfolding enqueue
 enqueue-none us = refl
 
 among-behind : (w u : Update) (us : List Update) → isAmong w us ≡ false → eqUpdate w u ≡ false → isAmong w (us ++ u ∷ []) ≡ false
-unfolding isAmong lists
-among-behind w u [] h e = ap (λ b. b || false) e
-among-behind w u (x ∷ us) h e = go (eqUpdate w x) h (λ g. among-behind w u us g e)
-  where
-    go : (b : Bool) → (b || any (eqUpdate w) us) ≡ false → (any (eqUpdate w) us ≡ false → any (eqUpdate w) (us ++ u ∷ []) ≡ false)
-        → (b || any (eqUpdate w) (us ++ u ∷ [])) ≡ false
-    go true h more = h
-    go false h more = more h
+unfolding isAmong
+among-behind w u us h e =
+    let differs : Update → Bool = λ x. not (eqUpdate w x) in
+    any-none (eqUpdate w) (us ++ u ∷ []) .1
+    (all-append differs us (u ∷ []) (any-none (eqUpdate w) us .0 h) (all-cons differs u [] (ap not e) (all-none differs)))
 
 -- no first, and none later
 among-head : (u w : Update) (us : List Update) → isAmong u (w ∷ us) ≡ false → eqUpdate u w ≡ false
 unfolding isAmong lists
-among-head u w us h = not-true→false (eqUpdate u w) (λ y. contradiction (or-left (any (eqUpdate u) us) y) h)
+among-head u w us h = or-false-left (eqUpdate u w) (any (eqUpdate u) us) h
 
 among-tail : (u w : Update) (us : List Update) → isAmong u (w ∷ us) ≡ false → isAmong u us ≡ false
 unfolding isAmong lists
-among-tail u w us h = not-true→false (any (eqUpdate u) us) (λ y. contradiction (or-right (eqUpdate u w) y) h)
+among-tail u w us h = or-false-right (eqUpdate u w) (any (eqUpdate u) us) h
 
 update-sym : (u w : Update) → eqUpdate u w ≡ false → eqUpdate w u ≡ false
 update-sym u w h =

@@ -1,39 +1,29 @@
 -- What every update of a firing has: a known part, different known channels, at most four of them. Assumes nothing.
 use Prim.Native.Nat.{ℕ, _<_}
-use mathlib.Core.Path.{_≡_, refl, sym, _∙_, ap}
-use mathlib.Core.Bool.{Bool, true, false, not, _&&_, cond}
-use mathlib.Core.List.{List, [], _∷_, _++_, map}
-use lib.Dec.{ltb, eqb, leb}
-use lib.ListN.{length}
+use mathlib.Core.Path.{_≡_, refl, _∙_, ap}
+use mathlib.Core.Bool.{Bool, true, not, _&&_, cond}
+use mathlib.Core.List.{List, [], _∷_, map, map-map}
+use lib.Dec.{ltb, leb}
+use lib.ListN.{length, length-map}
 use lib.IntN.{ℤ}
 use borrow.Author.Tests.{lt-ltb, le-leb}
-use Rattle.lists.specs.Lists.{lists, all, filter, flatMap, below, member, distinct, isEmpty}
+use Rattle.lists.specs.Lists.{lists, all, flatMap, distinct}
 use Rattle.lists.specs.Laws.Booleans.{and-both}
 use Rattle.lists.specs.Laws.Alls.{all-none, all-cons, all-append, all-cond, all-every, all-map, all-flatMap}
 use Rattle.lists.specs.Laws.Members.{all-member}
-use Rattle.lists.specs.Laws.Filters.{filter-member}
-use Rattle.lists.specs.Laws.Below.{below-member}
-use Rattle.deck.specs.Deck.{Deck, Action, Assignment, Rule, R, N, ruleAt, targets, active}
+use Rattle.deck.specs.Deck.{Deck, Action, Rule, R, N, ruleAt, targets, active}
 use Rattle.deck.specs.Laws.Formed.{Formed, Sound}
 use Rattle.charge.specs.Charge.{others}
-use Rattle.pool.specs.Updates.{Pair, Update, channels}
+use Rattle.charge.specs.Laws.Equations.{others-inside}
+use Rattle.pool.specs.Updates.{Update, channels}
 use Rattle.pool.specs.States.{known}
 use Rattle.pool.specs.Laws.Places.{short}
 use Rattle.engine.specs.Firing.{evaluated, sent, holds, firedHere, firedThere, fired}
 
-pub others-inside : (d : Deck) (p q : ℕ) → member q (others d p) ≡ true → q < N d
-unfolding others
-others-inside d p q m = below-member (N d) q .1 (filter-member (λ q. not (eqb q p)) (below (N d)) q .0 m .0)
-
 -- an update has the channels of the action that it came from
 pub sent-channels : (values : List ℤ) (p q : ℕ) (a : Action) → map (λ x. x .channel) (map (evaluated values p q) a) ≡ targets a
 unfolding targets evaluated
-sent-channels values p q [] = refl
-sent-channels values p q (s ∷ a) = ap (λ l. s .target ∷ l) (sent-channels values p q a)
-
-pub sent-length : (values : List ℤ) (p q : ℕ) (a : Action) → length (map (evaluated values p q) a) ≡ length a
-sent-length values p q [] = refl
-sent-length values p q (s ∷ a) = ap Prim.Native.Nat.suc (sent-length values p q a)
+sent-channels values p q a = map-map (λ x. x .channel) (evaluated values p q) a
 
 module _ (d : Deck) (values : List ℤ) (p : ℕ) where
   -- A test that holds for whatever an action sends holds for whatever a firing adds
@@ -89,7 +79,7 @@ module _ (d : Deck) (values : List ℤ) (p : ℕ) where
   sent-short q [] s = refl
   sent-short q (x ∷ a) s =
       all-cons short (record { part = q; pairs = map (evaluated values p q) (x ∷ a) }) []
-      (ap (λ n. leb n 4) (sent-length values p q (x ∷ a)) ∙ le-leb (length (x ∷ a)) 4 (s .few))
+      (ap (λ n. leb n 4) (length-map (x ∷ a) (evaluated values p q)) ∙ le-leb (length (x ∷ a)) 4 (s .few))
       refl
 
   module _ (f : Formed d) (lp : p < N d) where

@@ -1,25 +1,23 @@
 -- A deck passes exactly where it is what document 01 demands. Assumes nothing.
 use Prim.Native.Nat.{ℕ, _+_, _≤_, _<_}
-use mathlib.Core.Path.{_≡_, refl, sym, ap, _∙_, subst}
+use mathlib.Core.Path.{_≡_, sym, ap, _∙_}
 use mathlib.Core.Logic.{_↔_}
-use mathlib.Core.Bool.{Bool, true, false, not}
-use mathlib.Core.List.{List, [], _∷_}
+use mathlib.Core.Bool.{true, not}
+use mathlib.Core.List.{List, []}
 use lib.ListN.{length}
-use borrow.Author.Tests.{not-true, not-false}
-use Rattle.lists.specs.Lists.{below, member}
-use Rattle.lists.specs.Laws.Filters.{filter-none}
-use Rattle.lists.specs.Laws.Below.{below-member}
-use Rattle.refusals.specs.Outcome.{Outcome, refused, accepted}
+use borrow.Author.Tests.{not-false}
+use Rattle.lists.specs.Laws.Below.{none-below}
+use Rattle.refusals.specs.Outcome.{accepted}
 use Rattle.expression.specs.Laws.Bytes.{Bytes}
 use Rattle.deck.specs.Deck.{Deck, M, N, carries}
 use Rattle.deck.specs.Layout.{Layout, read}
 use Rattle.deck.specs.Encoding.{encodeChannels, encodeRules, encode, wellFormed}
 use Rattle.deck.specs.Laws.Formed.{formed}
 use Rattle.deck.specs.Laws.Reading.{read-formed, read-encoded, sections-exactly, layoutOf, read-encode}
-use Rattle.graph.specs.Graph.{Reaches, edge, cyclic}
-use Rattle.graph.specs.Laws.Cycles.{KnownTargets, no-cycle}
+use Rattle.graph.specs.Graph.{Reaches, edge}
+use Rattle.graph.specs.Laws.Cycles.{no-cycle}
 use Rattle.graph.specs.Laws.Targets.{known-targets}
-use Rattle.charge.specs.Charge.{ruleCharge, carriedCharges, aboveBound}
+use Rattle.charge.specs.Charge.{ruleCharge}
 use Rattle.charge.specs.Laws.Bound.{none-above}
 use Rattle.engine.specs.Check.{within, openingValues, outside, passing}
 use Rattle.engine.specs.Laws.Passing.{judge-clean, passing-judges, passing-clean}
@@ -41,10 +39,8 @@ pub record Passes (bytes : List ℕ) (l : Layout) : Type 0 where
 pub none-outside : (d : Deck) → (outside d ≡ []) ↔ ((p : ℕ) → p < N d → within d p (openingValues d) ≡ true)
 unfolding outside
 none-outside d =
-    let none = filter-none (λ p. not (within d p (openingValues d))) (below (N d)) in (
-      λ h p l. not-false (within d p (openingValues d)) (none .0 h p (below-member (N d) p .0 l)),
-      λ h. none .1 (λ p m. ap not (h p (below-member (N d) p .1 m))),
-    )
+    let none = none-below (λ p. not (within d p (openingValues d))) (N d) in
+    (λ h p l. not-false (within d p (openingValues d)) (none .0 h p l), λ h. none .1 (λ p l. ap not (h p l)))
 
 module _ (bytes : List ℕ) (b : Bytes bytes) (l : Layout) where
   passing-passes : passing bytes ≡ accepted l → Passes bytes l

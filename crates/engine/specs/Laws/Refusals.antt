@@ -8,7 +8,8 @@ use native.Mathlib.Omega.{arith}
 use borrow.Author.Tests.{not-true, not-false}
 use Rattle.lists.specs.Laws.Booleans.{contradiction}
 use Rattle.lists.specs.Laws.Below.{filter-first}
-use Rattle.refusals.specs.Outcome.{Outcome, refused, accepted}
+use Rattle.refusals.specs.Outcome.{refused, accepted}
+use Rattle.refusals.specs.Laws.Outcomes.{refused≢accepted, number-inj, place-inj}
 use Rattle.refusals.specs.Numbers.{opensOutside, cyclicGraph, overcharged}
 use Rattle.expression.specs.Laws.Bytes.{Bytes}
 use Rattle.deck.specs.Deck.{Deck, R, N}
@@ -21,7 +22,7 @@ use Rattle.graph.specs.Laws.Targets.{known-targets}
 use Rattle.charge.specs.Charge.{carriedCharges, aboveBound}
 use Rattle.charge.specs.Laws.Bound.{FirstAbove, first-above}
 use Rattle.engine.specs.Check.{within, openingValues, outside, passing}
-use Rattle.engine.specs.Laws.Passing.{judge, Judged, clean, found-6, found-7, found-8, judged, passing-judges, refused≢accepted, number-inj, place-inj}
+use Rattle.engine.specs.Laws.Passing.{judge, Judged, clean, found-6, found-7, found-8, judged, passing-judges}
 use Rattle.engine.specs.Laws.Passes.{Passes, none-outside, passes-exactly}
 
 -- every part opens within its limit

@@ -5,10 +5,8 @@ use mathlib.Core.Path.{_≡_}
 use mathlib.Core.Logic.{_↔_}
 use mathlib.Core.Bool.{true}
 use mathlib.Core.List.{List, [], _∷_}
-use Rattle.lists.specs.Lists.{below}
 use Rattle.lists.specs.Laws.Booleans.{contradiction, not-true→false}
-use Rattle.lists.specs.Laws.Filters.{filter-none}
-use Rattle.lists.specs.Laws.Below.{below-member, filter-first}
+use Rattle.lists.specs.Laws.Below.{none-below, filter-first}
 use Rattle.deck.specs.Deck.{Deck, R}
 use Rattle.graph.specs.Graph.{Reaches, one, more, reachesItself, assigns, edge, cyclic}
 use Rattle.graph.specs.Laws.Edges.{edge-found}
@@ -36,8 +34,8 @@ module _ {d : Deck} (known : KnownTargets d) where
   pub no-cycle : (cyclic d ≡ []) ↔ Acyclic d
   unfolding cyclic
   no-cycle =
-      let none = filter-none (reachesItself (R d) (edge d)) (below (R d)) in (
-        λ h a p. contradiction (itself a .1 p) (none .0 h a (below-member (R d) a .0 (reaches-inside p))),
+      let none = none-below (reachesItself (R d) (edge d)) (R d) in (
+        λ h a p. contradiction (itself a .1 p) (none .0 h a (reaches-inside p)),
         λ h. none .1 (λ a m. not-true→false (reachesItself (R d) (edge d) a) (λ t. h a (itself a .0 t))),
       )
 

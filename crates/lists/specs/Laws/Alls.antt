@@ -1,12 +1,14 @@
--- Laws of `all`. Assumes nothing.
-use mathlib.Core.Path.{_≡_, refl, sym, ap, _∙_}
-use mathlib.Core.Bool.{Bool, true, false, _&&_, cond}
+-- Laws of `all`, and of `any` that fails. Assumes nothing.
+use mathlib.Core.Path.{_≡_, refl, ap}
+use mathlib.Core.Logic.{_↔_}
+use mathlib.Core.Bool.{Bool, true, false, not, _&&_, cond}
 use mathlib.Core.List.{List, [], _∷_, _++_, map}
 use Prim.Native.Nat.{ℕ, zero, suc, _<_}
 use native.Mathlib.Nat.{not-suc-le-zero, le-of-suc-le-suc}
 use lib.ListN.{length, getD, take, drop, replicate}
-use Rattle.lists.specs.Lists.{lists, all, flatMap}
-use Rattle.lists.specs.Laws.Booleans.{and-both, and-left, and-right}
+use borrow.Author.Tests.{not-true}
+use Rattle.lists.specs.Lists.{lists, all, any, flatMap}
+use Rattle.lists.specs.Laws.Booleans.{and-both, and-left, and-right, or-false-both, or-false-left, or-false-right}
 
 module _ {A : Type 0} (f : A → Bool) where
   pub all-head : (x : A) (l : List A) → all f (x ∷ l) ≡ true → f x ≡ true
@@ -29,6 +31,16 @@ module _ {A : Type 0} (f : A → Bool) where
   unfolding lists
   all-append [] m p q = q
   all-append (x ∷ l) m p q = all-cons x (l ++ m) (all-head x l p) (all-append l m (all-tail x l p) q)
+
+  pub all-left : (l m : List A) → all f (l ++ m) ≡ true → all f l ≡ true
+  unfolding lists
+  all-left [] m h = refl
+  all-left (x ∷ l) m h = all-cons x l (all-head x (l ++ m) h) (all-left l m (all-tail x (l ++ m) h))
+
+  pub all-right : (l m : List A) → all f (l ++ m) ≡ true → all f m ≡ true
+  unfolding lists
+  all-right [] m h = h
+  all-right (x ∷ l) m h = all-right l m (all-tail x (l ++ m) h)
 
   pub all-cond : (b : Bool) (l m : List A) → all f l ≡ true → all f m ≡ true → all f (cond b l m) ≡ true
   all-cond true l m p q = p
@@ -74,6 +86,23 @@ module _ {A : Type 0} (f : A → Bool) where
   all-at [] i x h m = absurd (not-suc-le-zero m)
   all-at (y ∷ l) zero x h m = all-head y l h
   all-at (y ∷ l) (suc i) x h m = all-at l i x (all-tail y l h) (le-of-suc-le-suc m)
+
+-- no element passes exactly if every element fails
+module _ {A : Type 0} (f : A → Bool) where
+  every-fails : (l : List A) → any f l ≡ false → all (λ x. not (f x)) l ≡ true
+  unfolding lists
+  every-fails [] h = refl
+  every-fails (x ∷ l) h =
+      and-both (ap not (or-false-left (f x) (any f l) h)) (every-fails l (or-false-right (f x) (any f l) h))
+
+  none-passes : (l : List A) → all (λ x. not (f x)) l ≡ true → any f l ≡ false
+  unfolding lists
+  none-passes [] h = refl
+  none-passes (x ∷ l) h =
+      or-false-both (not-true (f x) (all-head (λ x. not (f x)) x l h)) (none-passes l (all-tail (λ x. not (f x)) x l h))
+
+  pub any-none : (l : List A) → (any f l ≡ false) ↔ (all (λ x. not (f x)) l ≡ true)
+  any-none l = (every-fails l, none-passes l)
 
 module _ {A B : Type 0} (f : B → Bool) where
   pub all-map : (g : A → B) (l : List A) → all f (map g l) ≡ all (λ x. f (g x)) l

@@ -1,16 +1,16 @@
--- Laws of the numbers below n: which they are, and the first of them that passes a test. Assumes nothing.
+-- Laws of the numbers below n: which they are, and which of them pass a test. Assumes nothing.
 use Prim.Native.Nat.{ℕ, zero, suc, _+_, _≤_, _<_}
 use mathlib.Core.Path.{_≡_, refl, sym, ap, _∙_}
 use mathlib.Core.Logic.{_↔_, ⊎-elim}
 use mathlib.Core.Bool.{Bool, true, false}
-use mathlib.Core.List.{List, _∷_, nil≢cons, head-eq-of-cons-eq}
+use mathlib.Core.List.{List, [], _∷_, nil≢cons, head-eq-of-cons-eq}
 use native.Mathlib.Nat.{eq-or-lt-of-le}
 use native.Mathlib.Omega.{arith}
 use lib.ListN.{length}
-use Rattle.lists.specs.Lists.{filter, from, below, member}
-use Rattle.lists.specs.Laws.Booleans.{true-or-false}
-use Rattle.lists.specs.Laws.Members.{member-empty, member-head, member-tail, member-cases}
-use Rattle.lists.specs.Laws.Filters.{filter-pass, filter-fail}
+use Rattle.lists.specs.Lists.{any, keep, filter, from, below, member}
+use Rattle.lists.specs.Laws.Members.{member-empty, member-head, member-tail, member-cases, any-found, any-intro}
+use Rattle.lists.specs.Laws.Filters.{filter-member, filter-none}
+use Rattle.lists.specs.Laws.FlatMaps.{filter-one-by-one, flatMap-first}
 
 from-length : (a n : ℕ) → length (from a n) ≡ n
 unfolding from
@@ -43,33 +43,43 @@ pub below-member : (n k : ℕ) → (k < n) ↔ (member k (below n) ≡ true)
 unfolding below
 below-member n k = (λ h. from-holds 0 n k (omega arith) (omega arith), λ m. omega (arith, from-within 0 n k m .1))
 
--- c is the first of the n numbers from a on that passes f
-abbrev FirstFrom : (ℕ → Bool) → ℕ → ℕ → ℕ → Type 0
-FirstFrom f a n c = (f c ≡ true) × (a ≤ c) × (c < a + n) × ((b : ℕ) → a ≤ b → b < c → f b ≡ false)
+module _ (f : ℕ → Bool) (n : ℕ) where
+  pub any-below : (any f (below n) ≡ true) ↔ ((k : ℕ) × (k < n) × (f k ≡ true))
+  any-below = (
+    λ h. let found = any-found f (below n) h in (found .0, below-member n (found .0) .1 (found .1), found .2),
+    λ h. any-intro f (below n) (h .0) (below-member n (h .0) .0 (h .1)) (h .2),
+  )
 
-first-from : (f : ℕ → Bool) (a n c : ℕ) (cs : List ℕ) → filter f (from a n) ≡ c ∷ cs → FirstFrom f a n c
-unfolding from filter
-first-from f a zero c cs e = absurd (nil≢cons e)
-first-from f a (suc n) c cs e =
-    ⊎-elim (λ t. here t (head-eq-of-cons-eq (sym (filter-pass f a (from (suc a) n) t) ∙ e)))
-    (λ t. later t (first-from f (suc a) n c cs (sym (filter-fail f a (from (suc a) n) t) ∙ e)))
-    (true-or-false (f a))
-  where
-    here : f a ≡ true → a ≡ c → FirstFrom f a (suc n) c
-    here t e = (ap f (sym e) ∙ t, omega arith, omega arith, λ b l m. absurd (omega arith))
+  pub filter-below : (k : ℕ) → (member k (filter f (below n)) ≡ true) ↔ ((k < n) × (f k ≡ true))
+  filter-below k =
+      let passing = filter-member f (below n) k in (
+        λ m. let h = passing .0 m in (below-member n k .1 (h .0), h .1),
+        λ h. passing .1 (below-member n k .0 (h .0), h .1),
+      )
 
-    later : f a ≡ false → FirstFrom f (suc a) n c → FirstFrom f a (suc n) c
-    later t h = (
-      h .0,
-      omega (arith, h .1),
-      omega (arith, h .2),
-      λ b l m.
-          ⊎-elim (λ e. ap f (sym e) ∙ t) (λ k. h .3 b k m) (eq-or-lt-of-le l),
-    )
+  pub none-below : (filter f (below n) ≡ []) ↔ ((k : ℕ) → k < n → f k ≡ false)
+  none-below =
+      let none = filter-none f (below n) in
+      (λ e k l. none .0 e k (below-member n k .0 l), λ h. none .1 (λ k m. h k (below-member n k .1 m)))
 
+-- what is kept of one element
+kept-head : {A : Type 0} (b : Bool) (x c : A) (cs : List A) → keep b x [] ≡ c ∷ cs → (b ≡ true) × (x ≡ c)
+unfolding keep
+kept-head true x c cs e = (refl, head-eq-of-cons-eq e)
+kept-head false x c cs e = absurd (nil≢cons e)
+
+kept-none : {A : Type 0} (b : Bool) (x : A) → keep b x [] ≡ [] → b ≡ false
+unfolding keep
+kept-none true x e = absurd (nil≢cons (sym e))
+kept-none false x e = refl
+
+-- the first number that passes a test
 pub filter-first : (f : ℕ → Bool) (n c : ℕ) (cs : List ℕ) → filter f (below n) ≡ c ∷ cs
     → (f c ≡ true) × (c < n) × ((b : ℕ) → b < c → f b ≡ false)
-unfolding below
 filter-first f n c cs e =
-    let h = first-from f 0 n c cs e in
-    (h .0, omega (arith, h .2), λ b m. h .3 b (omega arith) m)
+    let first = flatMap-first (λ x. keep (f x) x []) n c cs (sym (filter-one-by-one f (below n)) ∙ e) in
+    let head = kept-head (f (first .0)) (first .0) c (first .1) (first .2) in (
+      ap f (sym (head .1)) ∙ head .0,
+      omega (arith, first .3, head .1),
+      λ b m. kept-none (f b) b (first .4 b (omega (arith, head .1))),
+    )

@@ -19,6 +19,22 @@ filter-append {A} f (x ∷ l) m = go (f x) (filter-append f l m)
     go true e = ap (λ n. x ∷ n) e
     go false e = e
 
+pub flatMap-one : {A : Type 0} (l : List A) → flatMap (λ x. x ∷ []) l ≡ l
+unfolding lists
+flatMap-one [] = refl
+flatMap-one (x ∷ l) = ap (λ m. x ∷ m) (flatMap-one l)
+
+-- a filter as what is kept of each element
+pub filter-one-by-one : {A : Type 0} (f : A → Bool) (l : List A) → filter f l ≡ flatMap (λ x. keep (f x) x []) l
+unfolding lists
+filter-one-by-one f [] = refl
+filter-one-by-one {A} f (x ∷ l) = go (f x) (filter-one-by-one f l)
+  where
+    go : (b : Bool) → filter f l ≡ flatMap (λ x. keep (f x) x []) l
+        → keep b x (filter f l) ≡ keep b x [] ++ flatMap (λ x. keep (f x) x []) l
+    go true e = ap (λ m. x ∷ m) e
+    go false e = e
+
 pub filter-flatMap : {A B : Type 0} (f : B → Bool) (g : A → List B) (l : List A)
     → filter f (flatMap g l) ≡ flatMap (λ x. filter f (g x)) l
 unfolding lists

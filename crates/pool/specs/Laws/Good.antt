@@ -1,25 +1,24 @@
 -- What a good state is, on values and pending updates; storing and loading keep it. Assumes nothing.
-use Prim.Native.Nat.{ℕ, zero, suc, _+_, _*_, _-_, _/_, _≤_, _<_}
-use mathlib.Core.Path.{_≡_, refl, sym, _∙_, ap, ap₂, subst}
-use mathlib.Core.Bool.{Bool, true, false, _&&_}
-use mathlib.Core.List.{List, [], _∷_, _++_, map, append-assoc}
+use Prim.Native.Nat.{ℕ, zero, suc, _+_, _*_, _-_, _/_, _≤_}
+use mathlib.Core.Path.{_≡_, refl, sym, _∙_, ap, ap₂}
+use mathlib.Core.Bool.{Bool, true, _&&_}
+use mathlib.Core.List.{List, [], _∷_, _++_, map}
 use native.Mathlib.Omega.{arith}
 use lib.Dec.{leb, eqb}
-use lib.ListN.{length, getD, take, drop, replicate, length-append, length-replicate, length-take, length-drop, take-append-drop}
-use lib.Seq.{drop-at, drop-drop, length-take-le, take-add}
+use lib.ListN.{length, getD, take, drop, length-take, length-drop, take-append-drop}
+use lib.Seq.{drop-at, take-add}
 use lib.IntN.{ℤ, pos, natAbs}
 use borrow.Author.Tests.{leb-true, le-leb, eqb-true, eq-eqb}
-use Rattle.lists.specs.Lists.{lists, all, flatMap, sum, eqZ, eqList}
-use Rattle.lists.specs.Laws.Booleans.{and-both, and-left, and-right}
+use Rattle.lists.specs.Lists.{lists, all, flatMap, eqZ}
+use Rattle.lists.specs.Laws.Booleans.{and-both, four, five}
 use Rattle.lists.specs.Laws.Alls.{all-head, all-tail, all-cons, all-replicate, all-map, all-every}
 use Rattle.lists.specs.Laws.Equalities.{eqZ-true, eqZ-refl, eqList-true}
 use Rattle.deck.specs.Deck.{Deck}
-use Rattle.charge.specs.Charge.{updateCharge}
 use Rattle.charge.specs.Laws.Equations.{update-at-least-one}
-use Rattle.pool.specs.Updates.{Pair, Update, channels, allDifferent, charge}
+use Rattle.pool.specs.Updates.{Update, channels, allDifferent, charge}
 use Rattle.pool.specs.Places.{zeros, isZero, capacity, place, poolOf, pairsOf, updateOf, wellWritten, places, updatesOf}
 use Rattle.pool.specs.States.{Machine, Memory, load, store, unusedZero, known, good}
-use Rattle.pool.specs.Laws.Places.{short, update-back, place-well, places-back, updates-back, places-length, pool-length}
+use Rattle.pool.specs.Laws.Places.{short, place-well, places-back, updates-back, places-length, pool-length}
 
 -- a good state with C places, as values and pending updates
 pub record Fine (d : Deck) (C : ℕ) (x : Machine) : Type 0 where
@@ -116,7 +115,7 @@ zeros-of : (l : List ℤ) → all isZero l ≡ true → l ≡ zeros (length l)
 unfolding zeros isZero lists
 zeros-of [] h = refl
 zeros-of (v ∷ l) h =
-    ap₂ (λ a b. a ∷ b) (eqZ-true v (pos 0) (and-left (eqZ v (pos 0)) (all isZero l) h)) (zeros-of l (and-right (eqZ v (pos 0)) (all isZero l) h))
+    ap₂ (λ a b. a ∷ b) (eqZ-true v (pos 0) (all-head isZero v l h)) (zeros-of l (all-tail isZero v l h))
 
 updates-length : (n : ℕ) (pool : List ℤ) → length (updatesOf n pool) ≡ n
 unfolding updatesOf places
@@ -156,30 +155,24 @@ pub record Tests (d : Deck) (m : Memory) : Type 0 where
 pub good-tests : (d : Deck) (m : Memory) → good d m ≡ true → Tests d m
 unfolding good
 good-tests d m h =
-    let t1 : Bool = eqb (length (m .state .values)) 512 in
-    let t2 : Bool = t1 && unusedZero d 0 (m .state .values) in
-    let t3 : Bool = t2 && leb (m .state .pending) (capacity (length (m .pool))) in
-    let t4 : Bool = t3 && all wellWritten (places (m .state .pending) (m .pool)) in
-    let t5 : Bool = t4 && all isZero (drop (10 * m .state .pending) (m .pool)) in
-    let t6 : Bool = t5 && all (known d) (updatesOf (m .state .pending) (m .pool)) in
-    let t7 : Bool = t6 && allDifferent (updatesOf (m .state .pending) (m .pool)) in
-    let t8 : Bool = t7 && leb (charge d (updatesOf (m .state .pending) (m .pool))) (capacity (length (m .pool))) in
-    let h7 : t7 ≡ true = and-left t7 (leb (charge d (updatesOf (m .state .pending) (m .pool))) (capacity (length (m .pool)))) h in
-    let h6 : t6 ≡ true = and-left t6 (allDifferent (updatesOf (m .state .pending) (m .pool))) h7 in
-    let h5 : t5 ≡ true = and-left t5 (all (known d) (updatesOf (m .state .pending) (m .pool))) h6 in
-    let h4 : t4 ≡ true = and-left t4 (all isZero (drop (10 * m .state .pending) (m .pool))) h5 in
-    let h3 : t3 ≡ true = and-left t3 (all wellWritten (places (m .state .pending) (m .pool))) h4 in
-    let h2 : t2 ≡ true = and-left t2 (leb (m .state .pending) (capacity (length (m .pool)))) h3 in
-    let h1 : t1 ≡ true = and-left t1 (unusedZero d 0 (m .state .values)) h2 in
+    let us = updatesOf (m .state .pending) (m .pool) in
+    let long : Bool = eqb (length (m .state .values)) 512 in
+    let unused : Bool = unusedZero d 0 (m .state .values) in
+    let few : Bool = leb (m .state .pending) (capacity (length (m .pool))) in
+    let written : Bool = all wellWritten (places (m .state .pending) (m .pool)) in
+    let behind : Bool = all isZero (drop (10 * m .state .pending) (m .pool)) in
+    let inPool : Bool = long && unused && few && written && behind in
+    let ofUpdates = four inPool (all (known d) us) (allDifferent us) (leb (charge d us) (capacity (length (m .pool)))) h in
+    let ofPool = five long unused few written behind (ofUpdates .0) in
     record {
-      long = h1;
-      unused = and-right t1 (unusedZero d 0 (m .state .values)) h2;
-      few = and-right t2 (leb (m .state .pending) (capacity (length (m .pool)))) h3;
-      written = and-right t3 (all wellWritten (places (m .state .pending) (m .pool))) h4;
-      behind = and-right t4 (all isZero (drop (10 * m .state .pending) (m .pool))) h5;
-      known = and-right t5 (all (known d) (updatesOf (m .state .pending) (m .pool))) h6;
-      different = and-right t6 (allDifferent (updatesOf (m .state .pending) (m .pool))) h7;
-      bounded = and-right t7 (leb (charge d (updatesOf (m .state .pending) (m .pool))) (capacity (length (m .pool)))) h;
+      long = ofPool .0;
+      unused = ofPool .1;
+      few = ofPool .2;
+      written = ofPool .3;
+      behind = ofPool .4;
+      known = ofUpdates .1;
+      different = ofUpdates .2;
+      bounded = ofUpdates .3;
     }
 
 module _ (d : Deck) (m : Memory) (h : good d m ≡ true) where

@@ -1,20 +1,19 @@
 -- Setting channels of a part: what changes in the value table, and what stays. Assumes nothing.
 use Prim.Native.Nat.{ℕ, zero, suc, _+_, _*_, _/_, _%_, _<_, _≤_}
-use mathlib.Core.Path.{_≡_, refl, sym, _∙_, ap, subst}
-use mathlib.Core.Logic.{⊎-elim}
+use mathlib.Core.Path.{_≡_, refl, sym, _∙_, ap}
 use mathlib.Core.Bool.{Bool, true, false, _&&_, _||_}
-use mathlib.Core.List.{List, [], _∷_, _++_, map}
+use mathlib.Core.List.{List, [], _∷_, map}
 use native.Mathlib.Omega.{arith}
 use native.Mathlib.Nat.{add-zero}
 use lib.Dec.{ltb, eqb}
-use lib.ListN.{length, getD, set, length-set}
+use lib.ListN.{length, set, length-set}
 use lib.Seq.{getD-set-other}
 use lib.IntN.{ℤ, pos}
-use borrow.Author.Tests.{ltb-true, lt-ltb, eq-eqb}
+use borrow.Author.Tests.{ltb-true, lt-ltb}
 use Rattle.lists.specs.Lists.{lists, all, member}
-use Rattle.lists.specs.Laws.Booleans.{and-both, and-left, and-right, or-left, contradiction}
+use Rattle.lists.specs.Laws.Booleans.{and-both, and-left, and-right, or-left, or-false-right, contradiction}
 use Rattle.lists.specs.Laws.Alls.{all-head, all-tail}
-use Rattle.lists.specs.Laws.Members.{member-head, member-tail}
+use Rattle.lists.specs.Laws.Members.{member-head}
 use Rattle.deck.specs.Deck.{Deck, R, N}
 use Rattle.pool.specs.Updates.{Pair, indexOf, valueAt, assign, updates}
 use Rattle.pool.specs.Places.{isZero}
@@ -32,19 +31,12 @@ assign-length p (a ∷ l) values = assign-length p l (set values (indexOf p (a .
 -- a channel that is not among the pairs keeps its value
 pub assign-other : (p c : ℕ) (l : List Pair) (values : List ℤ) → member c (channelsIn l) ≡ false
     → valueAt (assign p l values) p c ≡ valueAt values p c
-unfolding updates
+unfolding updates lists
 assign-other p c [] values h = refl
 assign-other p c (a ∷ l) values h =
-    assign-other p c l (set values (indexOf p (a .channel)) (a .value)) (not-later c (a .channel) (channelsIn l) h)
+    assign-other p c l (set values (indexOf p (a .channel)) (a .value)) (or-false-right (eqb c (a .channel)) (member c (channelsIn l)) h)
     ∙ set-other
   where
-    not-later : (c b : ℕ) (l : List ℕ) → member c (b ∷ l) ≡ false → member c l ≡ false
-    not-later c b l h = go (member c l) refl
-      where
-        go : (t : Bool) → member c l ≡ t → t ≡ false
-        go true e = contradiction (member-tail c b l e) h
-        go false e = refl
-
     differs : indexOf p c ≡ indexOf p (a .channel) → ⊥
     differs e =
         let same : c ≡ a .channel = omega arith in
