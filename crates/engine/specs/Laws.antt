@@ -2,3 +2,4 @@
 pub mod Opening
 pub mod Firing
 pub mod Enqueue
+pub mod Settling

@@ -3,4 +3,5 @@ pub mod Syntax
 pub mod Values
 pub mod Reading
 pub mod Encoding
+pub mod Laws
 pub mod Cases

@@ -2,4 +2,5 @@
 pub mod Calling
 pub mod Listed
 pub mod Calculus
+pub mod Laws
 pub mod Cases

@@ -1,0 +1,2 @@
+-- Laws of expressions.
+pub mod Agreement
