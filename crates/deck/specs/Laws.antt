@@ -1,2 +1,3 @@
 -- Laws of decks.
 pub mod Formed
+pub mod Expressions

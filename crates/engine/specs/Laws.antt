@@ -3,3 +3,4 @@ pub mod Opening
 pub mod Firing
 pub mod Enqueue
 pub mod Settling
+pub mod Among

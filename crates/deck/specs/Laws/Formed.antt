@@ -84,7 +84,7 @@ module _ (R : ℕ) where
     task-good = and-right upToCondition (goodTask r) h
 
 -- either scope knows the R own channels
-owns-task : (R : ℕ) (everywhere : Bool) → taskScope R everywhere .owns ≡ R
+pub owns-task : (R : ℕ) (everywhere : Bool) → taskScope R everywhere .owns ≡ R
 unfolding layouts
 owns-task R true = refl
 owns-task R false = refl
