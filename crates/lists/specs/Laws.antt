@@ -9,3 +9,4 @@ pub mod FlatMaps
 pub mod Alls
 pub mod Equalities
 pub mod Anys
+pub mod Statements

@@ -1,2 +1,5 @@
 -- Laws of the published calculus and of lists of calls.
 pub mod Partial
+pub mod Active
+pub mod Fired
+pub mod Discovered

@@ -1,18 +1,13 @@
 -- Laws of `any`: over joined, mapped and filtered lists, and where one element alone can pass. Assumes nothing.
 use Prim.Native.Nat.{ℕ}
 use mathlib.Core.Path.{_≡_, refl, sym, ap, ap₂, _∙_}
-use mathlib.Core.Logic.{_↔_, _⊎_, inl, inr, ⊎-elim}
 use mathlib.Core.Bool.{Bool, true, false, _&&_, _||_, cond, or-assoc}
 use mathlib.Core.List.{List, [], _∷_, _++_, map}
 use lib.Dec.{eqb}
 use borrow.Author.Tests.{eqb-true, eqb-false}
 use Rattle.lists.specs.Lists.{lists, any, keep, filter, flatMap, member}
-use Rattle.lists.specs.Laws.Booleans.{or-left, or-right, or-cases, not-true→false, contradiction}
+use Rattle.lists.specs.Laws.Booleans.{not-true→false, contradiction}
 use Rattle.lists.specs.Laws.Members.{any-found, any-intro}
-
--- one of two tests holds
-pub or-iff : (a b : Bool) → ((a || b) ≡ true) ↔ ((a ≡ true) ⊎ (b ≡ true))
-or-iff a b = (or-cases a, ⊎-elim (or-left b) (or-right a))
 
 module _ {A : Type 0} (f : A → Bool) where
   pub any-append : (l m : List A) → any f (l ++ m) ≡ (any f l || any f m)
