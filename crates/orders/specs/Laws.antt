@@ -3,3 +3,5 @@ pub mod Partial
 pub mod Active
 pub mod Fired
 pub mod Discovered
+pub mod Nodes
+pub mod Steps
