@@ -5,3 +5,5 @@ pub mod Fired
 pub mod Discovered
 pub mod Nodes
 pub mod Steps
+pub mod Known
+pub mod Reaches

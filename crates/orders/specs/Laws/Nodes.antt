@@ -28,9 +28,10 @@ same-iff : {A : Type 0} (a b : Bool) → a ≡ b → (b ≡ true) ↔ A → (a �
 same-iff a b e i = (λ h. i .0 (sym e ∙ h), λ x. e ∙ i .1 x)
 
 either-iff : (a b c : Bool) → ((a || (b || c)) ≡ true) ↔ ((a ≡ true) ⊎ ((b ≡ true) ⊎ (c ≡ true)))
-either-iff a b c =
-    (λ h. ⊎-elim (λ x. inl x) (λ x. inr (or-iff b c .0 x)) (or-iff a (b || c) .0 h),
-    λ h. or-iff a (b || c) .1 (⊎-elim (λ x. inl x) (λ x. inr (or-iff b c .1 x)) h))
+either-iff a b c = (
+  λ h. ⊎-elim (λ x. inl x) (λ x. inr (or-iff b c .0 x)) (or-iff a (b || c) .0 h),
+  λ h. or-iff a (b || c) .1 (⊎-elim (λ x. inl x) (λ x. inr (or-iff b c .1 x)) h),
+)
 
 module _ (d : Deck) (formed : Formed d) (scoped : Scoped d) (p : ℕ) (inside : p < N d) (l : List Pair) (values : List ℤ)
     (known : all (λ c. ltb c (R d)) (channelsIn l) ≡ true) where

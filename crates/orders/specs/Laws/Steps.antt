@@ -84,20 +84,23 @@ module _ (k : ℕ) (us : List Update) (l : k < length us) (different : allDiffer
       → (isAmong (at (u .part) w) (without k us) ≡ true) ↔ ((isAmong (at (u .part) w) us ≡ true) × (w ≡ u .pairs → ⊥))
   taken-here w =
       let this : Update = at (u .part) w in
-      let e = without-among this k us l different in
-      (λ h.
-      let both = sym e ∙ h in
-      (and-left (isAmong this us) (not (eqUpdate this u)) both,
-      λ same. contradiction (ap (λ w. eqUpdate (at (u .part) w) u) same ∙ update-refl u) (not-true (eqUpdate this u) (and-right (isAmong this us) (not (eqUpdate this u)) both))),
-      λ h. e ∙ and-both (h .0) (ap not (not-true→false (eqUpdate this u) (λ t. h .1 (ap (λ w. w .pairs) (update-true this u t))))))
+      let e = without-among this k us l different in (
+        λ h.
+            let both = sym e ∙ h in (
+              and-left (isAmong this us) (not (eqUpdate this u)) both,
+              λ same. contradiction (ap (λ w. eqUpdate (at (u .part) w) u) same ∙ update-refl u) (not-true (eqUpdate this u) (and-right (isAmong this us) (not (eqUpdate this u)) both)),
+            ),
+        λ h. e ∙ and-both (h .0) (ap not (not-true→false (eqUpdate this u) (λ t. h .1 (ap (λ w. w .pairs) (update-true this u t))))),
+      )
 
   taken-there : (q : ℕ) → (q ≡ u .part → ⊥) → (w : List Pair) → (isAmong (at q w) (without k us) ≡ true) ↔ (isAmong (at q w) us ≡ true)
   unfolding eqUpdate
   taken-there q other w =
       let this : Update = at q w in
-      let e = without-among this k us l different in
-      (λ h. and-left (isAmong this us) (not (eqUpdate this u)) (sym e ∙ h),
-      λ h. e ∙ and-both h (ap (λ b. not (b && eqList eqPair w (u .pairs))) (ne-eqb q (u .part) other)))
+      let e = without-among this k us l different in (
+        λ h. and-left (isAmong this us) (not (eqUpdate this u)) (sym e ∙ h),
+        λ h. e ∙ and-both h (ap (λ b. not (b && eqList eqPair w (u .pairs))) (ne-eqb q (u .part) other)),
+      )
 
 -- with update k applied, and with it discarded
 pub record Committing (d : Deck) (k : ℕ) (x : Machine) : Type 1 where
