@@ -4,3 +4,4 @@ pub mod Firing
 pub mod Enqueue
 pub mod Settling
 pub mod Among
+pub mod Inputs

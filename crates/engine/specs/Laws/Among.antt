@@ -1,17 +1,17 @@
 -- Which updates are pending after some are written behind or one is taken out, and at which place one stands. Assumes nothing.
 use Prim.Native.Nat.{ℕ, zero, suc, _<_}
-use mathlib.Core.Path.{_≡_, refl, sym, _∙_, ap, ap₂}
+use mathlib.Core.Path.{_≡_, refl, sym, _∙_, ap}
 use mathlib.Core.Logic.{⊎-elim}
-use mathlib.Core.Bool.{Bool, true, false, not, _&&_, _||_, cond, or-assoc, or-false, false≢true}
+use mathlib.Core.Bool.{Bool, true, false, not, _&&_, _||_, cond, and-true, or-assoc, or-false, false≢true}
 use mathlib.Core.List.{List, [], _∷_, _++_}
 use native.Mathlib.Omega.{arith}
 use lib.ListN.{length}
 use borrow.Author.Tests.{not-true}
-use Rattle.lists.specs.Lists.{lists, all, any}
+use Rattle.lists.specs.Lists.{lists, all}
 use Rattle.lists.specs.Laws.Booleans.{and-left, and-right, or-left, or-right, or-cases, not-true→false, contradiction}
 use Rattle.lists.specs.Laws.Alls.{all-head, all-tail}
 use Rattle.lists.specs.Laws.Anys.{any-append}
-use Rattle.pool.specs.Updates.{Pair, Update, eqUpdate, isAmong, allDifferent}
+use Rattle.pool.specs.Updates.{Update, eqUpdate, isAmong, allDifferent}
 use Rattle.engine.specs.Firing.{enqueue, pick, without}
 use Rattle.engine.specs.Laws.Enqueue.{update-true, update-refl, behind}
 
@@ -65,11 +65,7 @@ without-among w zero (u ∷ us) l h = go (eqUpdate w u) refl
 
     go : (b : Bool) → eqUpdate w u ≡ b → isAmong w us ≡ ((b || isAmong w us) && not b)
     go true e = first-differs w u us new e
-    go false e = go2 (isAmong w us)
-      where
-        go2 : (b : Bool) → b ≡ (b && true)
-        go2 true = refl
-        go2 false = refl
+    go false e = sym (and-true (isAmong w us))
 without-among w (suc k) (u ∷ us) l h =
     go (eqUpdate w u) refl (without-among w k us (omega arith) (and-right (not (isAmong u us)) (allDifferent us) h))
   where

@@ -1,9 +1,8 @@
 -- A settle is so many commits of place 0, one after the other, and it stops no earlier and no later than it should. Assumes
 -- nothing.
 use Prim.Native.Nat.{ℕ, zero, suc, _≤_, _<_}
-use mathlib.Core.Path.{_≡_, refl, sym, _∙_, ap}
+use mathlib.Core.Path.{_≡_, refl}
 use mathlib.Core.Bool.{Bool, true, false, cond}
-use mathlib.Core.List.{List}
 use native.Mathlib.Omega.{arith}
 use Rattle.lists.specs.Lists.{isEmpty}
 use Rattle.deck.specs.Deck.{Deck}

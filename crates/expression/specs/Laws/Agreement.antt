@@ -1,7 +1,7 @@
 -- What an expression comes to depends on the values of the channels in its scope alone. Assumes nothing.
 use Prim.Native.Nat.{ℕ, _<_}
 use mathlib.Core.Path.{_≡_, refl, ap, ap₂}
-use mathlib.Core.Bool.{Bool, true, not}
+use mathlib.Core.Bool.{true, not}
 use lib.IntN.{ℤ}
 use borrow.Author.Tests.{ltb-true}
 use Rattle.lists.specs.Laws.Booleans.{and-left, and-right}

@@ -1,6 +1,6 @@
 -- The values that are set, as a state of the calculus, and the rules that are then active. Assumes nothing.
-use Prim.Native.Nat.{ℕ, _+_, _*_, _<_, _≤_}
-use mathlib.Core.Path.{_≡_, refl, sym, _∙_, ap, fun-ext}
+use Prim.Native.Nat.{ℕ, _<_, _≤_}
+use mathlib.Core.Path.{_≡_, refl, _∙_, ap, fun-ext}
 use mathlib.Core.Bool.{Bool, true, false, not, _&&_, cond}
 use mathlib.Core.List.{List, [], _∷_, map}
 use native.Mathlib.Omega.{arith}
@@ -16,8 +16,8 @@ use Rattle.lists.specs.Laws.Members.{any-found, any-intro, all-member}
 use Rattle.lists.specs.Laws.Filters.{filter-member, filter-filter, filter-map}
 use Rattle.lists.specs.Laws.Below.{below-member}
 use Rattle.lists.specs.Laws.Equalities.{eqZ-refl}
-use Rattle.deck.specs.Deck.{Deck, Rule, R, M, ruleAt, carries, active}
-use Rattle.pool.specs.Updates.{Pair, indexOf, valueAt, assign, updates}
+use Rattle.deck.specs.Deck.{Deck, R, M, ruleAt, carries, active}
+use Rattle.pool.specs.Updates.{Pair, indexOf, valueAt, assign}
 use Rattle.pool.specs.Laws.Values.{channelsIn, assign-other}
 use Rattle.pool.specs.Laws.Assigned.{set-value}
 use Rattle.engine.specs.Firing.{changed}

@@ -10,15 +10,14 @@ use Rattle.lists.specs.Laws.Alls.{all-head, all-tail}
 use Rattle.lists.specs.Laws.Anys.{any-append, any-filter, any-cond, any-none, any-map, any-only}
 use Rattle.expression.specs.Reading.{Scope}
 use Rattle.expression.specs.Encoding.{goodNum}
-use Rattle.expression.specs.Values.{numValue}
 use Rattle.expression.specs.Laws.Agreement.{num-agree, truth-agree}
-use Rattle.deck.specs.Deck.{Deck, Assignment, Action, Rule, R, N, ruleAt}
+use Rattle.deck.specs.Deck.{Deck, Action, Rule, R, N, ruleAt}
 use Rattle.deck.specs.Layout.{taskScope}
 use Rattle.deck.specs.Laws.Expressions.{Scoped, allIn, task-fars}
 use Rattle.charge.specs.Charge.{others}
-use Rattle.pool.specs.Updates.{Pair, Update, valueAt, eqPair, eqUpdate, isAmong}
+use Rattle.pool.specs.Updates.{Pair, valueAt, eqPair, eqUpdate, isAmong}
 use Rattle.engine.specs.Firing.{evaluated, sent, holds, firedHere, firedThere}
-use Rattle.orders.specs.Calculus.{State, Agree, Task, evaluate, satisfies, partialNum, partialTruth, partialTask, discovered}
+use Rattle.orders.specs.Calculus.{State, Agree, evaluate, satisfies, partialNum, partialTruth, partialTask, discovered}
 use Rattle.orders.specs.Laws.Partial.{partial-num, partial-truth}
 use Rattle.orders.specs.Laws.Fired.{at, makes, sent-among, sent-elsewhere, cond-elsewhere, updates-among, firedBy, firedBy-among, in-others}
 

@@ -1,12 +1,12 @@
 -- Default and local updates, sent tasks and limits depend on the values of known channels alone. Assumes nothing.
-use Prim.Native.Nat.{ℕ, _<_, _≤_}
+use Prim.Native.Nat.{ℕ, _≤_}
 use mathlib.Core.Path.{_≡_, refl, sym, _∙_, ap, ap₂, fun-ext}
 use mathlib.Core.Bool.{Bool, true, false, not, _&&_}
 use mathlib.Core.List.{List, [], _∷_, map}
 use native.Mathlib.Omega.{arith}
 use lib.Dec.{ltb}
 use borrow.Author.Tests.{ltb-true}
-use Rattle.lists.specs.Lists.{all, any, filter, member, isEmpty, eqZ}
+use Rattle.lists.specs.Lists.{all, filter, member, isEmpty, eqZ}
 use Rattle.lists.specs.Laws.Booleans.{and-left, and-right}
 use Rattle.lists.specs.Laws.Alls.{all-head, all-tail}
 use Rattle.lists.specs.Laws.Members.{all-member}
@@ -15,7 +15,6 @@ use Rattle.expression.specs.Syntax.{Num, literal, own, far, two, negation}
 use Rattle.expression.specs.Syntax.{Truth, constant, opposite, both, compared}
 use Rattle.expression.specs.Reading.{Scope}
 use Rattle.expression.specs.Encoding.{goodNum, goodTruth}
-use Rattle.expression.specs.Values.{numValue, truthValue}
 use Rattle.expression.specs.Laws.Agreement.{num-agree, truth-agree}
 use Rattle.deck.specs.Deck.{Deck, Assignment, Action, Rule, R, ruleAt, partAt}
 use Rattle.deck.specs.Layout.{ownOnly, taskScope}
@@ -23,7 +22,7 @@ use Rattle.deck.specs.Laws.Formed.{owns-task}
 use Rattle.deck.specs.Laws.Expressions.{Scoped, allIn, task-fars}
 use Rattle.pool.specs.Updates.{Pair}
 use Rattle.pool.specs.Laws.Values.{channelsIn}
-use Rattle.orders.specs.Calculus.{State, Agree, Task, evaluate, updatesFrom, satisfies, activeRules, defUpds, localUpds, partialNum, partialTruth, partialTask, extTasks, changedBy, programOf}
+use Rattle.orders.specs.Calculus.{State, Agree, evaluate, updatesFrom, satisfies, activeRules, defUpds, localUpds, partialNum, partialTruth, partialTask, extTasks, changedBy, programOf}
 use Rattle.orders.specs.Laws.Active.{numbers, active-rules}
 use Rattle.orders.specs.Laws.Fired.{local}
 

@@ -1,8 +1,8 @@
 -- Setting values and firing, node by node: the state and the pool of the node that acts, and of every other. Assumes nothing.
-use Prim.Native.Nat.{ℕ, _<_, _≤_}
-use mathlib.Core.Path.{_≡_, refl, sym, _∙_, ap, ap₂}
+use Prim.Native.Nat.{ℕ, _<_}
+use mathlib.Core.Path.{_≡_, sym, _∙_, ap, ap₂}
 use mathlib.Core.Logic.{_⊎_, _↔_, inl, inr, ⊎-elim}
-use mathlib.Core.Bool.{Bool, true, false, _||_}
+use mathlib.Core.Bool.{Bool, true, _||_}
 use mathlib.Core.List.{List, map}
 use native.Mathlib.Omega.{arith}
 use lib.Dec.{ltb}
@@ -18,7 +18,7 @@ use Rattle.pool.specs.Laws.Values.{channelsIn}
 use Rattle.pool.specs.Laws.Assigned.{assign-part}
 use Rattle.engine.specs.Firing.{fired, enqueue, changed}
 use Rattle.engine.specs.Laws.Among.{enqueue-among}
-use Rattle.orders.specs.Calculus.{State, Agree, In, Task, overridden, changedBy, activeRules, updatesFrom, defUpds, localUpds, extTasks, partialTask, discovered, programOf}
+use Rattle.orders.specs.Calculus.{Agree, In, Task, overridden, changedBy, activeRules, updatesFrom, defUpds, localUpds, extTasks, partialTask, discovered, programOf}
 use Rattle.orders.specs.Laws.Active.{assign-overridden, numbers, active-rules, active-changed}
 use Rattle.orders.specs.Laws.Fired.{at, firedBy, local, fired-here}
 use Rattle.orders.specs.Laws.Discovered.{fired-there}

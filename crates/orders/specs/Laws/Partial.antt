@@ -1,6 +1,6 @@
 -- Partial evaluation: a task that a node sent comes to the same at the receiver. Assumes nothing.
 use mathlib.Core.Path.{_≡_, refl, ap, ap₂}
-use mathlib.Core.Bool.{Bool, not}
+use mathlib.Core.Bool.{not}
 use Rattle.expression.specs.Syntax.{Num, literal, own, far, two, negation}
 use Rattle.expression.specs.Syntax.{Truth, constant, opposite, both, compared}
 use Rattle.expression.specs.Values.{arith, join, compare, numValue, truthValue}

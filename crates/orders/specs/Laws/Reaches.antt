@@ -1,6 +1,6 @@
 -- The calculus is determined by the update that it executes, and so every such step of it is a commit. Assumes nothing.
 use Prim.Native.Nat.{ℕ, _<_}
-use mathlib.Core.Path.{_≡_, refl, sym, _∙_, ap, ap₂, subst}
+use mathlib.Core.Path.{_≡_, refl, sym, _∙_, ap, subst}
 use mathlib.Core.Logic.{_⊎_, _↔_, inl, inr, ⊎-elim}
 use mathlib.Core.Bool.{Bool, true, false}
 use mathlib.Core.List.{List, []}
@@ -9,16 +9,16 @@ use lib.ListN.{length}
 use borrow.Author.Tests.{eqb-true, eqb-false}
 use Rattle.lists.specs.Lists.{all}
 use Rattle.lists.specs.Laws.Booleans.{contradiction}
-use Rattle.deck.specs.Deck.{Deck, Rule, R, N}
+use Rattle.deck.specs.Deck.{Deck, R, N}
 use Rattle.deck.specs.Laws.Formed.{Formed}
 use Rattle.deck.specs.Laws.Expressions.{Scoped}
-use Rattle.pool.specs.Updates.{Pair, Update, isAmong}
+use Rattle.pool.specs.Updates.{Pair, isAmong}
 use Rattle.pool.specs.States.{Machine, known}
 use Rattle.pool.specs.Laws.Values.{channelsIn}
 use Rattle.pool.specs.Laws.Good.{Fine}
-use Rattle.engine.specs.Firing.{Commit, pick, committed}
+use Rattle.engine.specs.Firing.{pick, committed}
 use Rattle.engine.specs.Laws.Among.{all-pick, among-pick}
-use Rattle.orders.specs.Calculus.{State, Agree, In, Task, satisfies, overridden, defUpds, localUpds, extTasks, changedBy, Program, Node, Label, executes, enters, tasksOf, sentTasks, New, Without, Exec, ExecFail, Acts, exec, exec-fail, input, Discovers, discovered, System, programOf, Step, systemOf}
+use Rattle.orders.specs.Calculus.{Agree, In, Task, overridden, defUpds, localUpds, extTasks, changedBy, Program, Node, executes, tasksOf, sentTasks, New, Exec, ExecFail, Acts, exec, exec-fail, Discovers, discovered, System, programOf, Step, systemOf}
 use Rattle.orders.specs.Laws.Fired.{at}
 use Rattle.orders.specs.Laws.Known.{limit-same, defUpds-same, localUpds-same, extTasks-same, changedBy-same}
 use Rattle.orders.specs.Laws.Steps.{known-channels, Committing, commit-step, sending}

@@ -6,7 +6,6 @@ use mathlib.Core.Bool.{Bool, true, false, not, _&&_, cond, false≢true}
 use mathlib.Core.List.{List, []}
 use lib.Dec.{ltb}
 use lib.ListN.{length}
-use lib.IntN.{ℤ}
 use borrow.Author.Tests.{ltb-true, ne-eqb, not-true}
 use Rattle.lists.specs.Lists.{lists, all, distinct, isEmpty, eqList}
 use Rattle.lists.specs.Laws.Booleans.{and-both, and-left, and-right, not-true→false, contradiction}
@@ -18,10 +17,10 @@ use Rattle.pool.specs.States.{Machine, known}
 use Rattle.pool.specs.Laws.Values.{channelsIn}
 use Rattle.pool.specs.Laws.Good.{Fine}
 use Rattle.engine.specs.Check.{within}
-use Rattle.engine.specs.Firing.{Commit, setAndFire, pick, without, committed}
+use Rattle.engine.specs.Firing.{setAndFire, pick, without, committed}
 use Rattle.engine.specs.Laws.Enqueue.{update-true, update-refl}
 use Rattle.engine.specs.Laws.Among.{pick-among, without-among, all-pick}
-use Rattle.orders.specs.Calculus.{Task, satisfies, updatesFrom, discovered, overridden, Node, Label, executes, enters, tasksOf, sentTasks, Without, Exec, ExecFail, Input, exec, exec-fail, input, Discovers, System, programOf, Step, systemOf}
+use Rattle.orders.specs.Calculus.{Task, satisfies, updatesFrom, discovered, overridden, executes, enters, tasksOf, sentTasks, exec, exec-fail, input, programOf, Step, systemOf}
 use Rattle.orders.specs.Laws.Fired.{at}
 use Rattle.orders.specs.Laws.Nodes.{state-here, state-there, pool-here, pool-there}
 
