@@ -9,3 +9,4 @@ pub mod Sections
 pub mod Reading
 pub mod Within
 pub mod Prefix
+pub mod Scoped

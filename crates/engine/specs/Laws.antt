@@ -8,3 +8,6 @@ pub mod Passing
 pub mod Passes
 pub mod Checks
 pub mod Refusals
+pub mod Settling
+pub mod Among
+pub mod Inputs

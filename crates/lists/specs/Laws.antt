@@ -8,3 +8,5 @@ pub mod Sums
 pub mod FlatMaps
 pub mod Alls
 pub mod Equalities
+pub mod Anys
+pub mod Statements

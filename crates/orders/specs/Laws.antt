@@ -4,3 +4,11 @@ pub mod Taking
 pub mod Listing
 pub mod Kept
 pub mod Order
+pub mod Partial
+pub mod Active
+pub mod Fired
+pub mod Discovered
+pub mod Nodes
+pub mod Steps
+pub mod Known
+pub mod Reaches

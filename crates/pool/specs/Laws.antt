@@ -2,3 +2,4 @@
 pub mod Places
 pub mod Good
 pub mod Values
+pub mod Assigned

@@ -70,7 +70,7 @@ module _ (R : ℕ) where
       (tests .2, tests .4)
 
 -- either scope knows the R own channels
-owns-task : (R : ℕ) (everywhere : Bool) → taskScope R everywhere .owns ≡ R
+pub owns-task : (R : ℕ) (everywhere : Bool) → taskScope R everywhere .owns ≡ R
 unfolding layouts
 owns-task R true = refl
 owns-task R false = refl

@@ -1,0 +1,177 @@
+-- The calculus is determined by the update that it executes, and so every such step of it is a commit. Assumes nothing.
+use Prim.Native.Nat.{ℕ, _<_}
+use mathlib.Core.Path.{_≡_, refl, sym, _∙_, ap, subst}
+use mathlib.Core.Logic.{_⊎_, _↔_, inl, inr, ⊎-elim}
+use mathlib.Core.Bool.{Bool, true, false}
+use mathlib.Core.List.{List, []}
+use lib.Dec.{ltb, eqb}
+use lib.ListN.{length}
+use borrow.Author.Tests.{eqb-true, eqb-false}
+use Rattle.lists.specs.Lists.{all}
+use Rattle.lists.specs.Laws.Booleans.{contradiction}
+use Rattle.deck.specs.Deck.{Deck, R, N}
+use Rattle.deck.specs.Laws.Formed.{Formed}
+use Rattle.deck.specs.Laws.Scoped.{Scoped}
+use Rattle.pool.specs.Updates.{Pair, isAmong}
+use Rattle.pool.specs.States.{Machine, known}
+use Rattle.pool.specs.Laws.Values.{channelsIn}
+use Rattle.pool.specs.Laws.Good.{Fine}
+use Rattle.engine.specs.Firing.{pick, committed}
+use Rattle.engine.specs.Laws.Among.{all-pick, among-pick}
+use Rattle.orders.specs.Calculus.{Agree, In, Task, overridden, defUpds, localUpds, extTasks, changedBy, Program, Node, executes, tasksOf, sentTasks, New, Exec, ExecFail, Acts, exec, exec-fail, Discovers, discovered, System, programOf, Step, systemOf}
+use Rattle.orders.specs.Laws.Fired.{at}
+use Rattle.orders.specs.Laws.Known.{limit-same, defUpds-same, localUpds-same, extTasks-same, changedBy-same}
+use Rattle.orders.specs.Laws.Steps.{known-channels, Committing, commit-step, sending}
+
+-- what executes an update: (EXEC) or (EXEC-FAIL)
+executed : (P : Program) (n n′ : Node) (upd : List Pair) (ts : List Task) → Acts P n (executes upd ts) n′
+    → (Exec P n upd n′ × (ts ≡ sentTasks P n upd n′)) ⊎ (ExecFail P n upd n′ × (ts ≡ []))
+executed P n n′ upd ts (exec e) = inl (e, refl)
+executed P n n′ upd ts (exec-fail e) = inr (e, refl)
+
+-- two nodes of n channels that cannot be told apart
+pub record Alike (n : ℕ) (a b : Node) : Type 0 where
+  pub state : Agree n (a .state) (b .state)
+  pub pool : (u : List Pair) → a .pool u ↔ b .pool u
+
+module _ (d : Deck) (scoped : Scoped d) (p : ℕ) (n a b : Node) (upd : List Pair)
+    (few : all (λ c. ltb c (R d)) (channelsIn upd) ≡ true) where
+  abbrev P : Program
+  P = programOf d p
+
+  module _ (same : Agree (R d) (a .state) (b .state)) where
+    X-same : changedBy upd (n .state) (a .state) ≡ changedBy upd (n .state) (b .state)
+    X-same = changedBy-same (R d) upd (n .state) (a .state) (b .state) few same
+
+    new-same : (u : List Pair) → New P n upd a u → New P n upd b u
+    new-same u (inl h) =
+        inl (subst (λ us. In u us)
+        (defUpds-same d scoped (a .state) (b .state) same p (changedBy upd (n .state) (a .state)) ∙ ap (λ X. defUpds (P .rules) X (b .state)) X-same) h)
+    new-same u (inr h) =
+        inr (subst (λ us. In u us)
+        (localUpds-same d scoped (a .state) (b .state) same p (changedBy upd (n .state) (a .state)) ∙ ap (λ X. localUpds (P .rules) X (b .state)) X-same) h)
+
+    sent-same : sentTasks P n upd a ≡ sentTasks P n upd b
+    sent-same =
+        extTasks-same d scoped (a .state) (b .state) same p (changedBy upd (n .state) (a .state)) ∙ ap (λ X. extTasks (P .rules) X (b .state)) X-same
+
+module _ (d : Deck) (scoped : Scoped d) (p : ℕ) (n a b : Node) (upd : List Pair)
+    (few : all (λ c. ltb c (R d)) (channelsIn upd) ≡ true) where
+  abbrev Q : Program
+  Q = programOf d p
+
+  exec-state : Exec Q n upd a → Exec Q n upd b → Agree (R d) (a .state) (b .state)
+  unfolding programOf
+  exec-state e f c lc = e .state c lc ∙ sym (f .state c lc)
+
+  exec-pool : Exec Q n upd a → Exec Q n upd b → (u : List Pair) → a .pool u → b .pool u
+  exec-pool e f u h =
+      f .pool u .1 (⊎-elim (λ w. inl w) (λ w. inr (new-same d scoped p n a b upd few (exec-state e f) u w)) (e .pool u .0 h))
+
+  -- the state that fails is the one that is kept
+  fails-kept : {A : Type 0} → Exec Q n upd a → ExecFail Q n upd b → A
+  unfolding programOf
+  fails-kept e f =
+      contradiction (e .invariant) (limit-same d scoped (a .state) (overridden (n .state) upd) (e .state) p ∙ f .fails)
+
+  fail-pool : ExecFail Q n upd a → ExecFail Q n upd b → (u : List Pair) → a .pool u → b .pool u
+  fail-pool e f u h = f .pool u .1 (e .pool u .0 h)
+
+  fail-state : ExecFail Q n upd a → ExecFail Q n upd b → Agree (R d) (a .state) (b .state)
+  unfolding programOf
+  fail-state e f c lc = e .state c lc ∙ sym (f .state c lc)
+
+-- two executions of one update at one node end alike and send the same tasks
+pub acts-determined : (d : Deck) → Scoped d → (p : ℕ) (n a b : Node) (upd : List Pair) (ts us : List Task)
+    → all (λ c. ltb c (R d)) (channelsIn upd) ≡ true
+    → Acts (programOf d p) n (executes upd ts) a → Acts (programOf d p) n (executes upd us) b → Alike (R d) a b × (ts ≡ us)
+acts-determined d scoped p n a b upd ts us few x y = go (executed _ n a upd ts x) (executed _ n b upd us y)
+  where
+    P : Program
+    P = programOf d p
+
+    go : (Exec P n upd a × (ts ≡ sentTasks P n upd a)) ⊎ (ExecFail P n upd a × (ts ≡ []))
+        → (Exec P n upd b × (us ≡ sentTasks P n upd b)) ⊎ (ExecFail P n upd b × (us ≡ [])) → Alike (R d) a b × (ts ≡ us)
+    go (inl (e, i)) (inl (f, j)) =
+        let there = exec-state d scoped p n a b upd few e f in (
+          record { state = there; pool = λ u. (exec-pool d scoped p n a b upd few e f u, exec-pool d scoped p n b a upd few f e u) },
+          i ∙ sent-same d scoped p n a b upd few there ∙ sym j,
+        )
+    go (inl (e, i)) (inr (f, j)) = fails-kept d scoped p n a b upd few e f
+    go (inr (e, i)) (inl (f, j)) = fails-kept d scoped p n b a upd few f e
+    go (inr (e, i)) (inr (f, j)) = (
+      record {
+        state = fail-state d scoped p n a b upd few e f;
+        pool = λ u. (fail-pool d scoped p n a b upd few e f u, fail-pool d scoped p n b a upd few f e u);
+      },
+      i ∙ sym j,
+    )
+
+-- two nodes that discover the same tasks end alike
+discovers-determined : (d : Deck) (q : ℕ) (n a b : Node) (ts us : List Task) → ts ≡ us
+    → Discovers (programOf d q) n ts a → Discovers (programOf d q) n us b → Alike (R d) a b
+unfolding programOf
+discovers-determined d q n a b ts us e x y =
+    record {
+      state = λ c lc. x .state c lc ∙ sym (y .state c lc);
+      pool = λ u. (
+        λ h. y .pool u .1 (⊎-elim (λ w. inl w) (λ w. inr (subst (λ l. In u (discovered l (n .state))) e w)) (x .pool u .0 h)),
+        λ h. x .pool u .1 (⊎-elim (λ w. inl w) (λ w. inr (subst (λ l. In u (discovered l (n .state))) (sym e) w)) (y .pool u .0 h)),
+      );
+    }
+
+pub step-determined : (d : Deck) → Scoped d → (S : System) (p : ℕ) (upd : List Pair) (ts us : List Task) (A B : System)
+    → all (λ c. ltb c (R d)) (channelsIn upd) ≡ true
+    → Step d S p (executes upd ts) A → Step d S p (executes upd us) B → (q : ℕ) → q < N d → Alike (R d) (A q) (B q)
+unfolding tasksOf
+step-determined d scoped S p upd ts us A B few x y q lq = go (eqb q p) refl
+  where
+    both : Alike (R d) (A p) (B p) × (ts ≡ us)
+    both = acts-determined d scoped p (S p) (A p) (B p) upd ts us few (x .acts) (y .acts)
+
+    go : (t : Bool) → eqb q p ≡ t → Alike (R d) (A q) (B q)
+    go true e = subst (λ r. Alike (R d) (A r) (B r)) (sym (eqb-true q p e)) (both .0)
+    go false e =
+        let other = eqb-false q p e in
+        discovers-determined d q (S q) (A q) (B q) ts us (both .1) (x .others q lq other) (y .others q lq other)
+
+-- S is what the commit of a place leaves, and that place holds update upd of part p
+pub record Reached (d : Deck) (x : Machine) (p : ℕ) (upd : List Pair) (S : System) : Type 0 where
+  pub place : ℕ
+  pub inside : place < length (x .pending)
+  pub update : pick place (x .pending) ≡ at p upd
+  pub state : (q : ℕ) → q < N d → Agree (R d) (S q .state) (systemOf (committed d place x .machine) q .state)
+  pub pool : (q : ℕ) → q < N d → (v : List Pair) → S q .pool v ↔ systemOf (committed d place x .machine) q .pool v
+
+picked : (d : Deck) (x : Machine) (p : ℕ) (upd : List Pair) (ts : List Task) (S : System) → Step d (systemOf x) p (executes upd ts) S
+    → isAmong (at p upd) (x .pending) ≡ true
+unfolding systemOf
+picked d x p upd ts S step =
+    ⊎-elim (λ e. e .0 .picked) (λ e. e .0 .picked) (executed (programOf d p) (systemOf x p) (S p) upd ts (step .acts))
+
+-- whether it is applied or discarded, the commit of a place executes some tasks
+commits : (d : Deck) (k : ℕ) (x : Machine) → Committing d k x
+    → (ts : List Task) × Step d (systemOf x) (pick k (x .pending) .part) (executes (pick k (x .pending) .pairs) ts) (systemOf (committed d k x .machine))
+commits d k x c = go (committed d k x .applied) refl
+  where
+    go : (b : Bool) → committed d k x .applied ≡ b
+        → (ts : List Task) × Step d (systemOf x) (pick k (x .pending) .part) (executes (pick k (x .pending) .pairs) ts) (systemOf (committed d k x .machine))
+    go true e = (sending d (pick k (x .pending) .part) (pick k (x .pending) .pairs) x (committed d k x .machine), c .applied e)
+    go false e = ([], c .discarded e)
+
+pub commit-reaches : (d : Deck) → Formed d → Scoped d → (C : ℕ) (x : Machine) → Fine d C x
+    → (p : ℕ) (upd : List Pair) (ts : List Task) (S : System) → Step d (systemOf x) p (executes upd ts) S → Reached d x p upd S
+commit-reaches d formed scoped C x fine p upd ts S step =
+    let found = among-pick (at p upd) (x .pending) (picked d x p upd ts S step) in
+    let k = found .0 in
+    let made = commits d k x (commit-step d formed scoped C x fine k (found .1)) in
+    let few = known-channels d (at p upd) (subst (λ u. known d u ≡ true) (found .2) (all-pick (known d) k (x .pending) (found .1) (fine .known))) in
+    let there = subst (λ u. Step d (systemOf x) (u .part) (executes (u .pairs) (made .0)) (systemOf (committed d k x .machine))) (found .2) (made .1) in
+    let alike = step-determined d scoped (systemOf x) p upd ts (made .0) S (systemOf (committed d k x .machine)) few step there in
+    record {
+      place = k;
+      inside = found .1;
+      update = found .2;
+      state = λ q lq. alike q lq .state;
+      pool = λ q lq. alike q lq .pool;
+    }
