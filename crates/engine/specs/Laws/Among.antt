@@ -84,12 +84,6 @@ without-among w (suc k) (u ∷ us) l h =
 
 -- ---- by place
 
-pub all-pick : (test : Update → Bool) (k : ℕ) (us : List Update) → k < length us → all test us ≡ true → test (pick k us) ≡ true
-unfolding pick
-all-pick test k [] l h = absurd (omega arith)
-all-pick test zero (u ∷ us) l h = all-head test u us h
-all-pick test (suc k) (u ∷ us) l h = all-pick test k us (omega arith) (all-tail test u us h)
-
 pub among-pick : (w : Update) (us : List Update) → isAmong w us ≡ true → (k : ℕ) × (k < length us) × (pick k us ≡ w)
 unfolding pick isAmong lists
 among-pick w [] h = absurd (false≢true h)

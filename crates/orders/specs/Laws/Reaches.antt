@@ -12,16 +12,17 @@ use Rattle.lists.specs.Laws.Booleans.{contradiction}
 use Rattle.deck.specs.Deck.{Deck, R, N}
 use Rattle.deck.specs.Laws.Formed.{Formed}
 use Rattle.deck.specs.Laws.Scoped.{Scoped}
-use Rattle.pool.specs.Updates.{Pair, isAmong}
-use Rattle.pool.specs.States.{Machine, known}
+use Rattle.pool.specs.Updates.{Pair, channels, isAmong}
+use Rattle.pool.specs.States.{Machine}
 use Rattle.pool.specs.Laws.Values.{channelsIn}
 use Rattle.pool.specs.Laws.Good.{Fine}
 use Rattle.engine.specs.Firing.{pick, committed}
-use Rattle.engine.specs.Laws.Among.{all-pick, among-pick}
+use Rattle.engine.specs.Laws.Among.{among-pick}
+use Rattle.engine.specs.Laws.Commits.{pick-known}
 use Rattle.orders.specs.Calculus.{Agree, In, Task, overridden, defUpds, localUpds, extTasks, changedBy, Program, Node, executes, tasksOf, sentTasks, New, Exec, ExecFail, Acts, exec, exec-fail, Discovers, discovered, System, programOf, Step, systemOf}
 use Rattle.orders.specs.Laws.Fired.{at}
 use Rattle.orders.specs.Laws.Known.{limit-same, defUpds-same, localUpds-same, extTasks-same, changedBy-same}
-use Rattle.orders.specs.Laws.Steps.{known-channels, Committing, commit-step, sending}
+use Rattle.orders.specs.Laws.Steps.{Committing, commit-step, sending}
 
 -- what executes an update: (EXEC) or (EXEC-FAIL)
 executed : (P : Program) (n n′ : Node) (upd : List Pair) (ts : List Task) → Acts P n (executes upd ts) n′
@@ -161,11 +162,12 @@ commits d k x c = go (committed d k x .applied) refl
 
 pub commit-reaches : (d : Deck) → Formed d → Scoped d → (C : ℕ) (x : Machine) → Fine d C x
     → (p : ℕ) (upd : List Pair) (ts : List Task) (S : System) → Step d (systemOf x) p (executes upd ts) S → Reached d x p upd S
+unfolding channels
 commit-reaches d formed scoped C x fine p upd ts S step =
     let found = among-pick (at p upd) (x .pending) (picked d x p upd ts S step) in
     let k = found .0 in
     let made = commits d k x (commit-step d formed scoped C x fine k (found .1)) in
-    let few = known-channels d (at p upd) (subst (λ u. known d u ≡ true) (found .2) (all-pick (known d) k (x .pending) (found .1) (fine .known))) in
+    let few = subst (λ u. all (λ c. ltb c (R d)) (channelsIn (u .pairs)) ≡ true) (found .2) (pick-known d C x k fine (found .1) .inside) in
     let there = subst (λ u. Step d (systemOf x) (u .part) (executes (u .pairs) (made .0)) (systemOf (committed d k x .machine))) (found .2) (made .1) in
     let alike = step-determined d scoped (systemOf x) p upd ts (made .0) S (systemOf (committed d k x .machine)) few step there in
     record {

@@ -13,14 +13,15 @@ use Rattle.deck.specs.Deck.{Deck, R, N, partAt}
 use Rattle.deck.specs.Laws.Formed.{Formed}
 use Rattle.deck.specs.Laws.Scoped.{Scoped}
 use Rattle.pool.specs.Updates.{Pair, Update, channels, valueAt, assign, eqPair, eqUpdate, isAmong, allDifferent}
-use Rattle.pool.specs.States.{Machine, known}
+use Rattle.pool.specs.States.{Machine}
 use Rattle.pool.specs.Laws.Values.{channelsIn}
 use Rattle.pool.specs.Laws.Good.{Fine}
 use Rattle.engine.specs.Check.{within}
 use Rattle.engine.specs.Firing.{setAndFire, pick, without, committed}
 use Rattle.engine.specs.Laws.Enqueue.{update-true, update-refl}
-use Rattle.engine.specs.Laws.Among.{pick-among, without-among, all-pick}
-use Rattle.orders.specs.Calculus.{Task, satisfies, updatesFrom, discovered, overridden, executes, enters, tasksOf, sentTasks, exec, exec-fail, input, programOf, Step, systemOf}
+use Rattle.engine.specs.Laws.Among.{pick-among, without-among}
+use Rattle.engine.specs.Laws.Commits.{pick-known}
+use Rattle.orders.specs.Calculus.{Task, satisfies, updatesFrom, discovered, overridden, executes, enters, tasksOf, sentTasks, Exec, ExecFail, exec, exec-fail, input, programOf, Step, systemOf}
 use Rattle.orders.specs.Laws.Fired.{at}
 use Rattle.orders.specs.Laws.Nodes.{state-here, state-there, pool-here, pool-there}
 
@@ -53,27 +54,6 @@ input-step d formed scoped p inside pairs x long few =
 
 -- ---- commits
 
--- a known update is on a known part and has known channels
-module _ (d : Deck) (u : Update) (h : known d u ≡ true) where
-  abbrev t1 : Bool
-  t1 = ltb (u .part) (N d) && not (isEmpty (u .pairs))
-
-  abbrev t2 : Bool
-  t2 = t1 && all (λ c. ltb c (R d)) (channels u)
-
-  up-to : t2 ≡ true
-  unfolding known
-  up-to = and-left t2 (distinct (channels u)) h
-
-  pub known-part : u .part < N d
-  known-part =
-      ltb-true (u .part) (N d)
-      (and-left (ltb (u .part) (N d)) (not (isEmpty (u .pairs))) (and-left t1 (all (λ c. ltb c (R d)) (channels u)) up-to))
-
-  pub known-channels : all (λ c. ltb c (R d)) (channelsIn (u .pairs)) ≡ true
-  unfolding channels
-  known-channels = and-right t1 (all (λ c. ltb c (R d)) (channels u)) up-to
-
 -- the pool of a part without update k
 module _ (k : ℕ) (us : List Update) (l : k < length us) (different : allDifferent us ≡ true) where
   abbrev u : Update
@@ -101,8 +81,15 @@ module _ (k : ℕ) (us : List Update) (l : k < length us) (different : allDiffer
         λ h. e ∙ and-both h (ap (λ b. not (b && eqList eqPair w (u .pairs))) (ne-eqb q (u .part) other)),
       )
 
--- with update k applied, and with it discarded
+-- Update k is taken: applied is (EXEC), and discarded is (EXEC-FAIL)
 pub record Committing (d : Deck) (k : ℕ) (x : Machine) : Type 1 where
+  pub executed : committed d k x .applied ≡ true
+      → Exec (programOf d (pick k (x .pending) .part)) (systemOf x (pick k (x .pending) .part)) (pick k (x .pending) .pairs)
+      (systemOf (committed d k x .machine) (pick k (x .pending) .part))
+  pub failed : committed d k x .applied ≡ false
+      → ExecFail (programOf d (pick k (x .pending) .part)) (systemOf x (pick k (x .pending) .part)) (pick k (x .pending) .pairs)
+      (systemOf (committed d k x .machine) (pick k (x .pending) .part))
+  -- and all other parts discover what it sends, in the same step
   pub applied : committed d k x .applied ≡ true
       → Step d (systemOf x) (pick k (x .pending) .part)
       (executes (pick k (x .pending) .pairs) (sending d (pick k (x .pending) .part) (pick k (x .pending) .pairs) x (committed d k x .machine)))
@@ -121,32 +108,36 @@ module _ (d : Deck) (formed : Formed d) (scoped : Scoped d) (C : ℕ) (x : Machi
   abbrev taken : Machine
   taken = record { values = x .values; pending = without k (x .pending) }
 
-  up-known : known d up ≡ true
-  up-known = all-pick (known d) k (x .pending) l (fine .known)
-
   inside : p < N d
-  inside = known-part d up up-known
+  inside = pick-known d C x k fine l .part
 
   below : all (λ c. ltb c (R d)) (channelsIn (up .pairs)) ≡ true
-  below = known-channels d up up-known
+  unfolding channels
+  below = pick-known d C x k fine l .inside
 
   -- the table after and the state after are the same
   state-same : valueAt (assign p (up .pairs) (x .values)) p ≡ overridden (valueAt (x .values) p) (up .pairs)
   state-same = fun-ext (state-here d formed scoped p inside (up .pairs) (x .values) below (fine .long))
 
+  exec-premises : within d p (assign p (up .pairs) (x .values)) ≡ true
+      → Exec (programOf d p) (systemOf x p) (up .pairs) (systemOf (setAndFire d p (up .pairs) taken) p)
+  unfolding systemOf setAndFire satisfies within programOf
+  exec-premises h =
+      record {
+        picked = pick-among k (x .pending) l;
+        state = λ c lc. state-here d formed scoped p inside (up .pairs) (x .values) below (fine .long) c;
+        invariant = h;
+        pool = λ w. left-iff (pool-here d formed scoped p inside (up .pairs) (x .values) below (without k (x .pending)) w)
+            (taken-here k (x .pending) l (fine .different) w);
+      }
+
   exec-step : within d p (assign p (up .pairs) (x .values)) ≡ true
       → Step d (systemOf x) p (executes (up .pairs) (sending d p (up .pairs) x (setAndFire d p (up .pairs) taken))) (systemOf (setAndFire d p (up .pairs) taken))
-  unfolding systemOf setAndFire tasksOf satisfies within programOf
+  unfolding systemOf setAndFire tasksOf programOf
   exec-step h =
       record {
         inside = inside;
-        acts = exec (record {
-          picked = pick-among k (x .pending) l;
-          state = λ c lc. state-here d formed scoped p inside (up .pairs) (x .values) below (fine .long) c;
-          invariant = h;
-          pool = λ w. left-iff (pool-here d formed scoped p inside (up .pairs) (x .values) below (without k (x .pending)) w)
-              (taken-here k (x .pending) l (fine .different) w);
-        });
+        acts = exec (exec-premises h);
         others = λ q lq other. record {
           state = state-there d formed scoped p inside (up .pairs) (x .values) below q other;
           pool = λ w. left-iff (pool-there d formed scoped p inside (up .pairs) (x .values) below (without k (x .pending)) q lq other w)
@@ -154,17 +145,23 @@ module _ (d : Deck) (formed : Formed d) (scoped : Scoped d) (C : ℕ) (x : Machi
         };
       }
 
+  fail-premises : within d p (assign p (up .pairs) (x .values)) ≡ false
+      → ExecFail (programOf d p) (systemOf x p) (up .pairs) (systemOf taken p)
+  unfolding systemOf satisfies within programOf
+  fail-premises h =
+      record {
+        picked = pick-among k (x .pending) l;
+        fails = ap (λ s. satisfies s (partAt d p .limit)) (sym state-same) ∙ h;
+        state = λ c lc. refl;
+        pool = taken-here k (x .pending) l (fine .different);
+      }
+
   fail-step : within d p (assign p (up .pairs) (x .values)) ≡ false → Step d (systemOf x) p (executes (up .pairs) []) (systemOf taken)
-  unfolding systemOf tasksOf satisfies within programOf discovered updatesFrom lists
+  unfolding systemOf tasksOf programOf discovered updatesFrom lists
   fail-step h =
       record {
         inside = inside;
-        acts = exec-fail (record {
-          picked = pick-among k (x .pending) l;
-          fails = ap (λ s. satisfies s (partAt d p .limit)) (sym state-same) ∙ h;
-          state = λ c lc. refl;
-          pool = taken-here k (x .pending) l (fine .different);
-        });
+        acts = exec-fail (fail-premises h);
         others = λ q lq other. record {
           state = λ c lc. refl;
           pool = λ w.
@@ -177,6 +174,12 @@ module _ (d : Deck) (formed : Formed d) (scoped : Scoped d) (C : ℕ) (x : Machi
   unfolding committed
   commit-step =
       record {
+        executed = λ h.
+            subst (λ y. Exec (programOf d p) (systemOf x p) (up .pairs) (systemOf y p))
+            (sym (ap (λ b. cond b (setAndFire d p (up .pairs) taken) taken) h)) (exec-premises h);
+        failed = λ h.
+            subst (λ y. ExecFail (programOf d p) (systemOf x p) (up .pairs) (systemOf y p))
+            (sym (ap (λ b. cond b (setAndFire d p (up .pairs) taken) taken) h)) (fail-premises h);
         applied = λ h.
             subst (λ y. Step d (systemOf x) p (executes (up .pairs) (sending d p (up .pairs) x y)) (systemOf y))
             (sym (ap (λ b. cond b (setAndFire d p (up .pairs) taken) taken) h)) (exec-step h);

@@ -27,6 +27,7 @@ use Rattle.pool.specs.Laws.Good.{Fine, count-bounded}
 use Rattle.engine.specs.Check.{within}
 use Rattle.engine.specs.Firing.{setAndFire, pick, without, Commit, committed}
 use Rattle.engine.specs.Calls.{Answer, added, applied, discarded, settled, spent, goodInput, channelsOf}
+use Rattle.engine.specs.Laws.Inputs.{input-known}
 use Rattle.engine.specs.Laws.Commits.{Known, pick-known, set-fine, set-grows, commit-falls, commit-fine}
 use Rattle.orders.specs.Calling.{Call, input, commit, settle}
 use Rattle.orders.specs.Listed.{Turn, turn, turns, ending, Taken, taken, machineAfter, commitsOf, addedOf, listing}
@@ -46,28 +47,6 @@ pub guard : (P : Outcome Taken → Type 0) (b : Bool) (number : ℕ) (o : Outcom
 unfolding outcomes
 guard P true number o h g = g refl
 guard P false number o h g = h
-
--- ---- lists of pairs
-
--- the channels of a good list of pairs are known
-channel-known : (r : ℕ) (c : ℤ) → (leZ (pos 0) c && ltZ c (pos r)) ≡ true → ltb (natAbs c) r ≡ true
-channel-known r (pos k) h = and-right (leZ (pos 0) (pos k)) (ltb k r) h
-channel-known r (negsuc k) h = contradiction (and-left (leZ (pos 0) (negsuc k)) (ltZ (negsuc k) (pos r)) h) refl
-
-pairs-known : (r : ℕ) (l : List ℤ) → all (λ c. leZ (pos 0) c && ltZ c (pos r)) (channelsOf l) ≡ true → all (λ c. ltb c r) (channelsIn (pairsOf l)) ≡ true
-unfolding channelsOf pools lists
-pairs-known r [] h = refl
-pairs-known r (c ∷ []) h = refl
-pairs-known r (c ∷ v ∷ l) h =
-    let t : ℤ → Bool = λ c. leZ (pos 0) c && ltZ c (pos r) in
-    all-cons (λ c. ltb c r) (natAbs c) (channelsIn (pairsOf l)) (channel-known r c (all-head t c (channelsOf l) h)) (pairs-known r l (all-tail t c (channelsOf l) h))
-
-pub input-known : (d : Deck) (l : List ℤ) → goodInput d l ≡ true → all (λ c. ltb c (R d)) (channelsIn (pairsOf l)) ≡ true
-unfolding goodInput
-input-known d l h =
-    let t1 : Bool = leb 2 (length l) && leb (length l) 64 && eqb (length l % 2) 0 in
-    let t2 : Bool = all (λ c. leZ (pos 0) c && ltZ c (pos (R d))) (channelsOf l) in
-    pairs-known (R d) l (and-right t1 t2 (and-left (t1 && t2) (distinct (map natAbs (channelsOf l))) h))
 
 -- ---- turns
 
