@@ -31,9 +31,9 @@ pub record Passes (bytes : List ℕ) (l : Layout) : Type 0 where
       × (l .partsAt ≡ length (encodeChannels (l .deck)) + length (encodeRules (l .deck)))
   -- "The opening state must meet each part's limit"
   pub opens : (p : ℕ) → p < N (l .deck) → within (l .deck) p (openingValues (l .deck)) ≡ true
-  -- "The deck is refused if a channel can reach itself by one or more edges"
+  -- "The deck is refused if a channel can reach itself by one or more edges": none can
   pub acyclic : (c : ℕ) → Reaches (edge (l .deck)) c c → ⊥
-  -- "A carried rule's charge is above 65,535"
+  -- 8, "A carried rule's charge is above 65,535", does not hold
   pub charged : (p r : ℕ) → p < N (l .deck) → r < M (l .deck) → carries (l .deck) p r ≡ true → ruleCharge (l .deck) p r ≤ 65535
 
 pub none-outside : (d : Deck) → (outside d ≡ []) ↔ ((p : ℕ) → p < N d → within d p (openingValues d) ≡ true)
