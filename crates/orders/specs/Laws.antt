@@ -12,3 +12,4 @@ pub mod Nodes
 pub mod Steps
 pub mod Known
 pub mod Reaches
+pub mod Published

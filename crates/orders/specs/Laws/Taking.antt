@@ -43,7 +43,7 @@ turnsOf (refused n p) = []
 turnsOf (accepted t) = t .turns
 
 -- a property of outcomes that a refusal has and, where the test holds, the rest has too
-pub guard : (P : Outcome Taken → Type 0) (b : Bool) (number : ℕ) (o : Outcome Taken) → P (refused number 0) → (b ≡ true → P o) → P (require b number 0 >> o)
+pub guard {ℓ} : (P : Outcome Taken → Type ℓ) (b : Bool) (number : ℕ) (o : Outcome Taken) → P (refused number 0) → (b ≡ true → P o) → P (require b number 0 >> o)
 unfolding outcomes
 guard P true number o h g = g refl
 guard P false number o h g = h
