@@ -4,5 +4,6 @@ pub mod Deck
 pub mod Reader
 pub mod Layout
 pub mod Encoding
+pub mod Marks
 pub mod Laws
 pub mod Cases

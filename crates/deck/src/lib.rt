@@ -1,12 +1,26 @@
 // The deck's type. Its associated constants are the largest numbers of document 01, "The deck", and the lengths that follow.
 ghost use mathlib.Core.Path.{_≡_};
+ghost use mathlib.Core.Bool.{Bool, true, false};
+ghost use Prim.Native.Nat.{_+_, _*_, _≤_, _<_};
+ghost use lib.ListN.{length, take, drop};
+ghost use Rattle.lists.specs.Bits.{maskOf};
 ghost use Rattle.deck.specs.Limits.{limits};
+ghost use Rattle.deck.specs.Deck.{targets};
+ghost use Rattle.deck.specs.Reader.{number, times, rising, value};
+ghost use Rattle.deck.specs.Layout.{action};
+ghost use Rattle.deck.specs.Marks.{Reads, scopeOf, markedRule, markedPart, ruleRow, partRow, expressionFor};
 
 // The counts R, M and N of a deck.
 pub struct Deck {
     pub channels: usize,
     pub rules: usize,
     pub parts: usize,
+}
+
+// What reading comes to: the place after what was read, or the first fault.
+pub enum Step {
+    Next(usize),
+    Fault { number: u32, place: usize },
 }
 
 // The largest numbers, as specs/Limits.antt has them for the definitions.
@@ -79,4 +93,67 @@ impl Deck {
             deck: Deck::BYTES,
         }
     }
+}
+
+// A byte that was read, and the place after it.
+pub struct Byte {
+    pub value: usize,
+    pub step: Step,
+}
+
+// A set of small numbers, and the place after the list that named them.
+pub struct Set {
+    pub mask: u64,
+    pub step: Step,
+}
+
+fn wide(x: u8) -> usize
+    ensures { λ r. ⌜ r ≡ x ⌝ }
+{
+    x as usize
+}
+
+// A byte from lo to below hi.
+fn number_at(s: &[u8], at: usize, lo: usize, hi: usize) -> Byte
+    ensures { λ r. ⌜ Reads (now (s .entry)) (number lo hi (drop at (now (s .entry))) at) (λ v. r .value ≡ v) (r .step) ⌝ }
+{
+    if s.len() <= at {
+        return Byte { value: 0, step: Step::Fault { number: refusals::DECK_ENDS, place: at } };
+    }
+    let b = wide(s[at]);
+    if b < lo {
+        return Byte { value: 0, step: Step::Fault { number: refusals::OUT_OF_RANGE, place: at } };
+    }
+    if hi <= b {
+        return Byte { value: 0, step: Step::Fault { number: refusals::OUT_OF_RANGE, place: at } };
+    }
+    Byte { value: b, step: Step::Next(at + 1) }
+}
+
+// So many strictly rising numbers below hi, as a set.
+fn rising_at(s: &[u8], at: usize, count: usize, hi: usize) -> Set
+    requires { ⌜ hi ≤ 64 ⌝ }
+    ensures { λ r. ⌜ Reads (now (s .entry)) (rising count 0 hi (drop at (now (s .entry))) at) (λ cs. r .mask ≡ maskOf cs) (r .step) ⌝ }
+{
+    let mut mask: u64 = 0;
+    let mut place = at;
+    let mut low: usize = 0;
+    let mut i: usize = 0;
+    while i < count {
+        let b = number_at(s, place, low, hi);
+        let c = b.value;
+        let step = b.step;
+        match step {
+            Step::Next(next) => {
+                mask = mask | (1u64 << c);
+                low = c + 1;
+                place = next;
+            }
+            Step::Fault { number, place: p } => {
+                return Set { mask: 0, step: Step::Fault { number: number, place: p } };
+            }
+        }
+        i += 1;
+    }
+    Set { mask: mask, step: Step::Next(place) }
 }
