@@ -1,6 +1,7 @@
 // The deck's type. Its associated constants are the largest numbers of document 01, "The deck", and the lengths that follow.
 ghost use mathlib.Core.Path.{_≡_};
 ghost use mathlib.Core.Bool.{Bool, true, false};
+ghost use mathlib.Core.List.{_++_};
 ghost use Prim.Native.Nat.{_+_, _*_, _≤_, _<_};
 ghost use lib.ListN.{length, take, drop};
 ghost use Rattle.lists.specs.Bits.{maskOf};
@@ -118,16 +119,37 @@ fn number_at(s: &[u8], at: usize, lo: usize, hi: usize) -> Byte
     ensures { λ r. ⌜ Reads (now (s .entry)) (number lo hi (drop at (now (s .entry))) at) (λ v. r .value ≡ v) (r .step) ⌝ }
 {
     if s.len() <= at {
-        return Byte { value: 0, step: Step::Fault { number: refusals::DECK_ENDS, place: at } };
+        return Byte {
+            value: 0,
+            step: Step::Fault {
+                number: refusals::DECK_ENDS,
+                place: at,
+            },
+        };
     }
     let b = wide(s[at]);
     if b < lo {
-        return Byte { value: 0, step: Step::Fault { number: refusals::OUT_OF_RANGE, place: at } };
+        return Byte {
+            value: 0,
+            step: Step::Fault {
+                number: refusals::OUT_OF_RANGE,
+                place: at,
+            },
+        };
     }
     if hi <= b {
-        return Byte { value: 0, step: Step::Fault { number: refusals::OUT_OF_RANGE, place: at } };
+        return Byte {
+            value: 0,
+            step: Step::Fault {
+                number: refusals::OUT_OF_RANGE,
+                place: at,
+            },
+        };
     }
-    Byte { value: b, step: Step::Next(at + 1) }
+    Byte {
+        value: b,
+        step: Step::Next(at + 1),
+    }
 }
 
 // So many strictly rising numbers below hi, as a set.
@@ -150,10 +172,73 @@ fn rising_at(s: &[u8], at: usize, count: usize, hi: usize) -> Set
                 place = next;
             }
             Step::Fault { number, place: p } => {
-                return Set { mask: 0, step: Step::Fault { number: number, place: p } };
+                return Set {
+                    mask: 0,
+                    step: Step::Fault {
+                        number: number,
+                        place: p,
+                    },
+                };
             }
         }
         i += 1;
     }
-    Set { mask: mask, step: Step::Next(place) }
+    Set {
+        mask: mask,
+        step: Step::Next(place),
+    }
+}
+
+// So many labels.
+fn labels_at(s: &[u8], at: usize, count: usize) -> Step
+    ensures { λ r. ⌜ Reads (now (s .entry)) (times count (number 33 127) (drop at (now (s .entry))) at) (λ _. Unit {0}) r ⌝ }
+{
+    let mut place = at;
+    let mut i: usize = 0;
+    while i < count {
+        let b = number_at(s, place, 33, 127);
+        let step = b.step;
+        match step {
+            Step::Next(next) => {
+                place = next;
+            }
+            Step::Fault { number, place: p } => {
+                return Step::Fault {
+                    number: number,
+                    place: p,
+                };
+            }
+        }
+        i += 1;
+    }
+    Step::Next(place)
+}
+
+// So many opening values, of four bytes each: whatever the bytes are, only their number matters.
+fn values_at(s: &[u8], at: usize, count: usize) -> Step
+    requires { ⌜ (at ≤ length (now s)) × (count ≤ 32) ⌝ }
+    ensures { λ r. ⌜ Reads (now (s .entry)) (times count value (drop at (now (s .entry))) at) (λ _. Unit {0}) r ⌝ }
+{
+    let left = s.len() - at;
+    if left < 4 * count {
+        return Step::Fault {
+            number: refusals::DECK_ENDS,
+            place: s.len(),
+        };
+    }
+    Step::Next(at + 4 * count)
+}
+
+// A row written to the front of the tail of a table.
+fn write_row(tail: &mut [u64], row: &[u64])
+    requires { ⌜ length (now row) ≤ length (now tail) ⌝ }
+    ensures { λ _. ⌜ now (tail .exit) ≡ now (row .entry) ++ drop (length (now (row .entry))) (now (tail .entry)) ⌝ }
+{
+    let n = row.len();
+    let mut i: usize = 0;
+    while i < n {
+        let x = row[i];
+        tail[i] = x;
+        i += 1;
+    }
 }
