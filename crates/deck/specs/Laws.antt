@@ -10,3 +10,5 @@ pub mod Reading
 pub mod Within
 pub mod Prefix
 pub mod Scoped
+pub mod Marks
+pub mod Points

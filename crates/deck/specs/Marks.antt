@@ -3,7 +3,7 @@
 use Prim.Native.Nat.{ℕ, zero, suc, _+_, _≤_}
 use mathlib.Core.Path.{_≡_}
 use mathlib.Core.Bool.{Bool, true, false}
-use mathlib.Core.List.{List, [], _∷_}
+use mathlib.Core.List.{List, [], _∷_, map}
 use lib.Dec.{eqb}
 use lib.ListN.{length, drop}
 use Rattle.lists.specs.Bits.{maskOf}
@@ -95,6 +95,15 @@ markedSections = do
   end
   give (record { labels = labels; rulesAt = rulesAt; rules = rules; partsAt = partsAt; parts = parts })
 
+-- the offsets forgotten, but for those of the counts
+unfoldable pub unmarked : Marked → Layout
+unmarked m =
+    record {
+      deck = record { labels = m .labels; rules = map (λ r. r .rule) (m .rules); parts = map (λ p. p .part) (m .parts) };
+      rulesAt = m .rulesAt;
+      partsAt = m .partsAt;
+    }
+
 -- ---- tables
 
 -- a row of eight numbers for each rule: its events and the targets of its two actions as sets, its kind, and its offsets
@@ -120,3 +129,8 @@ partRow m = maskOf (m .part .carried) ∷ m .openingAt ∷ m .limitAt ∷ 0 ∷ 
 abbrev pub Reads : {A : Type 0} → List ℕ → Outcome (Got A) → (A → Type 0) → Step → Type 0
 Reads {A} s o P (Next n) = (a : A) × (o ≡ accepted (record { value = a; rest = drop n s; at = n })) × (n ≤ length s) × P a
 Reads s o P (Fault number place) = o ≡ refused number place
+
+-- to open all definitions of this file, on an `unfolding` line
+unfoldable pub marks : Unit {0}
+unfolding expressionFor scopeOf markedRule markedPart markedSections unmarked ruleRow partRow
+marks = tt

@@ -1,0 +1,89 @@
+-- The reading with offsets is the reading, and what an offset points at is what was read there. Assumes nothing.
+use Prim.Native.Nat.{ℕ, zero, suc, _+_, _≤_}
+use mathlib.Core.Path.{_≡_, refl, sym, _∙_, ap, ap₂}
+use mathlib.Core.Bool.{Bool, true, false}
+use mathlib.Core.List.{List, [], _∷_, map}
+use lib.Dec.{eqb}
+use lib.ListN.{drop}
+use Rattle.refusals.specs.Outcome.{Outcome, refused, accepted}
+use Rattle.expression.specs.Reading.{wholeTruth}
+use Rattle.deck.specs.Limits.{limits}
+use Rattle.deck.specs.Deck.{Rule, Part, Deck}
+use Rattle.deck.specs.Reader.{Got, Reader, andThen, give, number, times, rising, value, end, readers}
+use Rattle.deck.specs.Layout.{expression, ownOnly, taskScope, action, rule, part, Layout, sections, valueOf, read, layouts}
+use Rattle.deck.specs.Marks.{MarkedRule, markedRule, MarkedPart, markedPart, Marked, markedSections, unmarked, marks}
+
+-- ---- forgetting the offsets
+
+-- a reader's outcome with f of its value
+abbrev pub mapGot : {A B : Type 0} → (A → B) → Outcome (Got A) → Outcome (Got B)
+mapGot f (refused n p) = refused n p
+mapGot f (accepted g) = accepted (record { value = f (g .value); rest = g .rest; at = g .at })
+
+-- one reading, and then two that agree
+step : {A B C : Type 0} (h : C → B) (o : Outcome (Got A)) (f : A → Reader B) (g : A → Reader C)
+    → ((a : A) (s : List ℕ) (at : ℕ) → f a s at ≡ mapGot h (g a s at)) → andThen o f ≡ mapGot h (andThen o g)
+unfolding andThen
+step h (refused n p) f g e = refl
+step h (accepted x) f g e = e (x .value) (x .rest) (x .at)
+
+rule-marked : (R : ℕ) (s : List ℕ) (at : ℕ) → rule R s at ≡ mapGot (λ m. m .rule) (markedRule R s at)
+unfolding rule markedRule readers
+rule-marked R s at =
+    step (λ m. m .rule) (number 1 9 s at) _ _
+    (λ n s at.
+    step (λ m. m .rule) (rising n 0 R s at) _ _
+    (λ events s at.
+    step (λ m. m .rule) (action (ownOnly R) s at) _ _
+    (λ default s at.
+    step (λ m. m .rule) (number 0 2 s at) _ _
+    (λ kind s at.
+    step (λ m. m .rule) (expression (wholeTruth (taskScope R (eqb kind 1))) s at) _ _
+    (λ condition s at. step (λ m. m .rule) (action (taskScope R (eqb kind 1)) s at) _ _ (λ act s at. refl))))))
+
+part-marked : (R M : ℕ) (s : List ℕ) (at : ℕ) → part R M s at ≡ mapGot (λ m. m .part) (markedPart R M s at)
+unfolding part markedPart readers
+part-marked R M s at =
+    step (λ m. m .part) (times R value s at) _ _
+    (λ opening s at.
+    step (λ m. m .part) (number 0 (suc M) s at) _ _
+    (λ n s at.
+    step (λ m. m .part) (rising n 0 M s at) _ _
+    (λ carried s at. step (λ m. m .part) (expression (wholeTruth (ownOnly R)) s at) _ _ (λ limit s at. refl))))
+
+-- two readers that agree, one after the other
+both-steps : {A B C D : Type 0} (h : B → A) (k : D → C) (o : Outcome (Got A)) (p : Outcome (Got B)) (f : A → Reader C) (g : B → Reader D)
+    → o ≡ mapGot h p → ((b : B) (s : List ℕ) (at : ℕ) → f (h b) s at ≡ mapGot k (g b s at)) → andThen o f ≡ mapGot k (andThen p g)
+unfolding andThen
+both-steps h k o (refused n p) f g e agree = ap (λ o. andThen o f) e
+both-steps h k o (accepted x) f g e agree = ap (λ o. andThen o f) e ∙ agree (x .value) (x .rest) (x .at)
+
+times-marked : {A B : Type 0} (h : B → A) (r : Reader A) (q : Reader B) → ((s : List ℕ) (at : ℕ) → r s at ≡ mapGot h (q s at))
+    → (n : ℕ) (s : List ℕ) (at : ℕ) → times n r s at ≡ mapGot (map h) (times n q s at)
+unfolding readers
+times-marked h r q e zero s at = refl
+times-marked h r q e (suc n) s at =
+    both-steps h (map h) (r s at) (q s at) _ _ (e s at)
+    (λ b s at. both-steps (map h) (map h) (times n r s at) (times n q s at) _ _ (times-marked h r q e n s at) (λ bs s at. refl))
+
+pub sections-marked : (s : List ℕ) (at : ℕ) → sections s at ≡ mapGot unmarked (markedSections s at)
+unfolding sections markedSections readers unmarked
+sections-marked s at =
+    step unmarked (number 1 33 s at) _ _
+    (λ R s at.
+    step unmarked (times R (number 33 127) s at) _ _
+    (λ labels s at.
+    step unmarked (number 0 65 s at) _ _
+    (λ M s at.
+    both-steps (map (λ r. r .rule)) unmarked (times M (rule R) s at) (times M (markedRule R) s at) _ _
+    (times-marked (λ r. r .rule) (rule R) (markedRule R) (rule-marked R) M s at)
+    (λ rules s at.
+    step unmarked (number 1 17 s at) _ _
+    (λ N s at.
+    both-steps (map (λ p. p .part)) unmarked (times N (part R M) s at) (times N (markedPart R M) s at) _ _
+    (times-marked (λ p. p .part) (part R M) (markedPart R M) (part-marked R M) N s at)
+    (λ parts s at. step unmarked (end s at) _ _ (λ _ s at. refl)))))))
+
+pub read-marked : (s : List ℕ) → read s ≡ valueOf (mapGot unmarked (markedSections s 0))
+unfolding read
+read-marked s = ap valueOf (sections-marked s 0)
