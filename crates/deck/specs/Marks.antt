@@ -1,22 +1,28 @@
 -- The reading of a deck once more, with the offsets of what is looked up later, and the tables that a pass over the bytes
 -- fills. Assumes nothing.
-use Prim.Native.Nat.{ℕ, zero, suc, _+_, _≤_}
+use Prim.Native.Nat.{ℕ, zero, suc, _+_, _*_, _-_, _≤_, _<_}
 use mathlib.Core.Path.{_≡_}
-use mathlib.Core.Bool.{Bool, true, false}
-use mathlib.Core.List.{List, [], _∷_, map}
+use mathlib.Core.Bool.{Bool, true, false, not}
+use mathlib.Core.List.{List, [], _∷_, _++_, map}
 use lib.Dec.{eqb}
-use lib.ListN.{length, drop}
-use Rattle.lists.specs.Bits.{maskOf}
+use lib.ListN.{length, getD, take, drop}
+use Rattle.lists.specs.Lists.{member, flatMap}
+use Rattle.lists.specs.Bits.{bit, maskOf}
 use Rattle.refusals.specs.Outcome.{Outcome, refused, accepted}
+use Rattle.refusals.specs.Numbers.{repeatedTarget}
 use Rattle.expression.specs.Syntax.{Num, Truth}
 use Rattle.expression.specs.Reading.{Scope, Read, wholeNum, wholeTruth}
+use Rattle.expression.specs.Answers.{isGot}
 use Rattle.deck.specs.Limits.{limits}
 use Rattle.deck.specs.Deck.{Assignment, Action, Rule, Part, Deck, targets}
-use Rattle.deck.specs.Reader.{Got, Reader, _>>=_, _>>_, give, here, byte, end, number, times, rising, value}
+use Rattle.deck.specs.Reader.{Got, Reader, _>>=_, _>>_, give, here, require, byte, end, number, times, rising, value}
 use Rattle.deck.specs.Layout.{expression, ownOnly, taskScope, action, Layout}
 use Rattle.deck.specs.Encoding.{kindByte}
 use Rattle.deck.specs.declared.Step.{Step}
 use Rattle.deck.specs.declared.Step.the-variants.{Next, Fault}
+use Rattle.deck.specs.declared.Front.{Front}
+use Rattle.deck.specs.declared.Loaded.{Loaded}
+use Rattle.deck.specs.declared.Loaded.the-variants.{Whole, Wrong}
 
 -- an expression of one kind: a truth, or else a number
 abbrev pub Kind : Bool → Type 0
@@ -31,19 +37,30 @@ expressionFor false sc = expression (wholeNum sc)
 unfoldable pub scopeOf : ℕ → ℕ → Scope
 scopeOf owns fars = record { owns = owns; fars = fars }
 
--- a rule, with the offsets of its default action's count, its condition's length byte and its action's count
-pub record MarkedRule : Type 0 where
-  pub rule : Rule
-  pub defaultAt : ℕ
+-- one assignment to a channel that is not among ts
+unfoldable pub assignment : Scope → List ℕ → Reader Assignment
+assignment sc ts = do
+  at ← here
+  t ← number 0 (sc .owns)
+  require (not (member t ts)) repeatedTarget at
+  e ← expression (wholeNum sc)
+  give (record { target = t; value = e })
+
+-- whether bytes are a whole truth, or else a whole number
+abbrev pub isWhole : Bool → Scope → List ℕ → Bool
+isWhole true sc bytes = isGot (wholeTruth sc bytes)
+isWhole false sc bytes = isGot (wholeNum sc bytes)
+
+-- a rule's kind, condition and action, with the offsets of its condition's length byte and its action's count
+pub record MarkedTask : Type 0 where
+  pub everywhere : Bool
+  pub condition : Truth
   pub conditionAt : ℕ
+  pub action : Action
   pub actionAt : ℕ
 
-unfoldable pub markedRule : ℕ → Reader MarkedRule
-markedRule R = do
-  n ← number 1 (suc (limits .events))
-  events ← rising n 0 R
-  defaultAt ← here
-  default ← action (ownOnly R)
+unfoldable pub markedTask : ℕ → Reader MarkedTask
+markedTask R = do
   kind ← number 0 2
   let everywhere = eqb kind 1
   let scope = taskScope R everywhere
@@ -51,12 +68,34 @@ markedRule R = do
   condition ← expression (wholeTruth scope)
   actionAt ← here
   act ← action scope
-  give (record {
-    rule = record { events = events; default = default; everywhere = everywhere; condition = condition; action = act };
-    defaultAt = defaultAt;
-    conditionAt = conditionAt;
-    actionAt = actionAt;
-  })
+  give (record { everywhere = everywhere; condition = condition; conditionAt = conditionAt; action = act; actionAt = actionAt })
+
+-- a rule, with the offset of its default action's count too
+pub record MarkedRule : Type 0 where
+  pub events : List ℕ
+  pub default : Action
+  pub defaultAt : ℕ
+  pub task : MarkedTask
+
+unfoldable pub markedRule : ℕ → Reader MarkedRule
+markedRule R = do
+  n ← number 1 (suc (limits .events))
+  events ← rising n 0 R
+  defaultAt ← here
+  default ← action (ownOnly R)
+  task ← markedTask R
+  give (record { events = events; default = default; defaultAt = defaultAt; task = task })
+
+-- the offsets forgotten
+unfoldable pub ruleOf : MarkedRule → Rule
+ruleOf m =
+    record {
+      events = m .events;
+      default = m .default;
+      everywhere = m .task .everywhere;
+      condition = m .task .condition;
+      action = m .task .action;
+    }
 
 -- a part, with the offsets of its first opening value and its limit's length byte
 pub record MarkedPart : Type 0 where
@@ -74,33 +113,45 @@ markedPart R M = do
   limit ← expression (wholeTruth (ownOnly R))
   give (record { part = record { opening = opening; carried = carried; limit = limit }; openingAt = openingAt; limitAt = limitAt })
 
--- the sections, with the offsets of the last two counts
-pub record Marked : Type 0 where
+-- the first two sections: their counts, and the offset of the second one
+pub record MarkedFront : Type 0 where
+  pub channels : ℕ
   pub labels : List ℕ
   pub rulesAt : ℕ
+  pub count : ℕ
   pub rules : List MarkedRule
-  pub partsAt : ℕ
-  pub parts : List MarkedPart
 
-unfoldable pub markedSections : Reader Marked
-markedSections = do
+unfoldable pub markedFront : Reader MarkedFront
+markedFront = do
   R ← number 1 (suc (limits .channels))
   labels ← times R (number 33 127)
   rulesAt ← here
   M ← number 0 (suc (limits .rules))
   rules ← times M (markedRule R)
+  give (record { channels = R; labels = labels; rulesAt = rulesAt; count = M; rules = rules })
+
+-- all three sections: the count of the last one, and its offset
+pub record Marked : Type 0 where
+  pub front : MarkedFront
+  pub partsAt : ℕ
+  pub count : ℕ
+  pub parts : List MarkedPart
+
+unfoldable pub markedSections : Reader Marked
+markedSections = do
+  front ← markedFront
   partsAt ← here
   N ← number 1 (suc (limits .parts))
-  parts ← times N (markedPart R M)
+  parts ← times N (markedPart (front .channels) (front .count))
   end
-  give (record { labels = labels; rulesAt = rulesAt; rules = rules; partsAt = partsAt; parts = parts })
+  give (record { front = front; partsAt = partsAt; count = N; parts = parts })
 
 -- the offsets forgotten, but for those of the counts
 unfoldable pub unmarked : Marked → Layout
 unmarked m =
     record {
-      deck = record { labels = m .labels; rules = map (λ r. r .rule) (m .rules); parts = map (λ p. p .part) (m .parts) };
-      rulesAt = m .rulesAt;
+      deck = record { labels = m .front .labels; rules = map ruleOf (m .front .rules); parts = map (λ p. p .part) (m .parts) };
+      rulesAt = m .front .rulesAt;
       partsAt = m .partsAt;
     }
 
@@ -109,13 +160,13 @@ unmarked m =
 -- a row of eight numbers for each rule: its events and the targets of its two actions as sets, its kind, and its offsets
 unfoldable pub ruleRow : MarkedRule → List ℕ
 ruleRow m =
-    maskOf (m .rule .events)
-    ∷ maskOf (targets (m .rule .default))
-    ∷ maskOf (targets (m .rule .action))
-    ∷ kindByte (m .rule .everywhere)
+    maskOf (m .events)
+    ∷ maskOf (targets (m .default))
+    ∷ maskOf (targets (m .task .action))
+    ∷ kindByte (m .task .everywhere)
     ∷ m .defaultAt
-    ∷ m .conditionAt
-    ∷ m .actionAt
+    ∷ m .task .conditionAt
+    ∷ m .task .actionAt
     ∷ 0
     ∷ []
 
@@ -130,7 +181,51 @@ abbrev pub Reads : {A : Type 0} → List ℕ → Outcome (Got A) → (A → Type
 Reads {A} s o P (Next n) = (a : A) × (o ≡ accepted (record { value = a; rest = drop n s; at = n })) × (n ≤ length s) × P a
 Reads s o P (Fault number place) = o ≡ refused number place
 
+-- an assignment, mask being the set of the targets so far
+abbrev pub ReadsAssignment : Scope → List ℕ → ℕ → ℕ → ℕ → Step → Type 0
+ReadsAssignment sc s at mask target step =
+    (ts : List ℕ) → ((c : ℕ) → bit mask c ≡ member c ts)
+    → Reads s (assignment sc ts (drop at s) at) (λ a. (target ≡ a .target) × (a .target < sc .owns)) step
+
+-- the first two sections, with the counts and the offset that the code keeps and the table of the rules after and before
+abbrev pub ReadsFront : List ℕ → Front → List ℕ → List ℕ → Type 0
+ReadsFront s r after before =
+    Reads s (markedFront s 0)
+    (λ m.
+    (r .channels ≡ m .channels)
+    × (r .rules ≡ m .count)
+    × (r .second ≡ m .rulesAt)
+    × (after ≡ flatMap ruleRow (m .rules) ++ drop (8 * m .count) before))
+    (r .step)
+
+-- the whole deck, with both tables after and before
+abbrev pub Loads : List ℕ → List ℕ → List ℕ → List ℕ → List ℕ → Loaded → Type 0
+Loads s rules rules₀ parts parts₀ (Whole d) =
+    (m : Marked)
+    × (markedSections s 0 ≡ accepted (record { value = m; rest = []; at = length s }))
+    × (d ≡ record {
+      channels = m .front .channels;
+      rules = m .front .count;
+      parts = m .count;
+      second = m .front .rulesAt;
+      third = m .partsAt;
+    })
+    × (rules ≡ flatMap ruleRow (m .front .rules) ++ drop (8 * m .front .count) rules₀)
+    × (parts ≡ flatMap partRow (m .parts) ++ drop (4 * m .count) parts₀)
+Loads s rules rules₀ parts parts₀ (Wrong number place) = markedSections s 0 ≡ refused number place
+
+-- a fault of the pass, as the whole pass answers it
+abbrev pub wrongOf : Step → Loaded
+wrongOf (Next n) = Wrong 0 n
+wrongOf (Fault number place) = Wrong number place
+
+-- "the stretch of the caller's deck from that section's count to its end", by the offsets of the last two counts
+abbrev pub sectionOf : ℕ → ℕ → List ℕ → ℕ → List ℕ
+sectionOf second third bytes k =
+    let from = getD (0 ∷ second ∷ third ∷ []) k (length bytes) in
+    take (getD (second ∷ third ∷ []) k (length bytes) - from) (drop from bytes)
+
 -- to open all definitions of this file, on an `unfolding` line
 unfoldable pub marks : Unit {0}
-unfolding expressionFor scopeOf markedRule markedPart markedSections unmarked ruleRow partRow
+unfolding expressionFor scopeOf assignment markedTask markedRule ruleOf markedPart markedFront markedSections unmarked ruleRow partRow
 marks = tt

@@ -11,7 +11,7 @@ use Rattle.deck.specs.Limits.{limits}
 use Rattle.deck.specs.Deck.{Rule, Part, Deck}
 use Rattle.deck.specs.Reader.{Got, Reader, andThen, give, number, times, rising, value, end, readers}
 use Rattle.deck.specs.Layout.{expression, ownOnly, taskScope, action, rule, part, Layout, sections, valueOf, read, layouts}
-use Rattle.deck.specs.Marks.{MarkedRule, markedRule, MarkedPart, markedPart, Marked, markedSections, unmarked, marks}
+use Rattle.deck.specs.Marks.{MarkedRule, markedTask, markedRule, ruleOf, MarkedPart, markedPart, Marked, markedFront, markedSections, unmarked, marks}
 
 -- ---- forgetting the offsets
 
@@ -27,19 +27,26 @@ unfolding andThen
 step h (refused n p) f g e = refl
 step h (accepted x) f g e = e (x .value) (x .rest) (x .at)
 
-rule-marked : (R : ℕ) (s : List ℕ) (at : ℕ) → rule R s at ≡ mapGot (λ m. m .rule) (markedRule R s at)
-unfolding rule markedRule readers
+-- the same where the second reading is bracketed the other way
+step-inside : {A B C D : Type 0} (h : D → B) (o : Outcome (Got A)) (f : A → Reader B) (g : A → Reader C) (k : C → Reader D)
+    → ((a : A) (s : List ℕ) (at : ℕ) → f a s at ≡ mapGot h (andThen (g a s at) k)) → andThen o f ≡ mapGot h (andThen (andThen o g) k)
+unfolding andThen
+step-inside h (refused n p) f g k e = refl
+step-inside h (accepted x) f g k e = e (x .value) (x .rest) (x .at)
+
+rule-marked : (R : ℕ) (s : List ℕ) (at : ℕ) → rule R s at ≡ mapGot ruleOf (markedRule R s at)
+unfolding rule markedRule markedTask ruleOf readers
 rule-marked R s at =
-    step (λ m. m .rule) (number 1 9 s at) _ _
+    step ruleOf (number 1 9 s at) _ _
     (λ n s at.
-    step (λ m. m .rule) (rising n 0 R s at) _ _
+    step ruleOf (rising n 0 R s at) _ _
     (λ events s at.
-    step (λ m. m .rule) (action (ownOnly R) s at) _ _
+    step ruleOf (action (ownOnly R) s at) _ _
     (λ default s at.
-    step (λ m. m .rule) (number 0 2 s at) _ _
+    step-inside ruleOf (number 0 2 s at) _ _ _
     (λ kind s at.
-    step (λ m. m .rule) (expression (wholeTruth (taskScope R (eqb kind 1))) s at) _ _
-    (λ condition s at. step (λ m. m .rule) (action (taskScope R (eqb kind 1)) s at) _ _ (λ act s at. refl))))))
+    step-inside ruleOf (expression (wholeTruth (taskScope R (eqb kind 1))) s at) _ _ _
+    (λ condition s at. step-inside ruleOf (action (taskScope R (eqb kind 1)) s at) _ _ _ (λ act s at. refl))))))
 
 part-marked : (R M : ℕ) (s : List ℕ) (at : ℕ) → part R M s at ≡ mapGot (λ m. m .part) (markedPart R M s at)
 unfolding part markedPart readers
@@ -58,6 +65,12 @@ unfolding andThen
 both-steps h k o (refused n p) f g e agree = ap (λ o. andThen o f) e
 both-steps h k o (accepted x) f g e agree = ap (λ o. andThen o f) e ∙ agree (x .value) (x .rest) (x .at)
 
+both-inside : {A B C D E : Type 0} (h : B → A) (k : E → C) (o : Outcome (Got A)) (p : Outcome (Got B)) (f : A → Reader C) (g : B → Reader D) (q : D → Reader E)
+    → o ≡ mapGot h p → ((b : B) (s : List ℕ) (at : ℕ) → f (h b) s at ≡ mapGot k (andThen (g b s at) q)) → andThen o f ≡ mapGot k (andThen (andThen p g) q)
+unfolding andThen
+both-inside h k o (refused n p) f g q e agree = ap (λ o. andThen o f) e
+both-inside h k o (accepted x) f g q e agree = ap (λ o. andThen o f) e ∙ agree (x .value) (x .rest) (x .at)
+
 times-marked : {A B : Type 0} (h : B → A) (r : Reader A) (q : Reader B) → ((s : List ℕ) (at : ℕ) → r s at ≡ mapGot h (q s at))
     → (n : ℕ) (s : List ℕ) (at : ℕ) → times n r s at ≡ mapGot (map h) (times n q s at)
 unfolding readers
@@ -67,16 +80,16 @@ times-marked h r q e (suc n) s at =
     (λ b s at. both-steps (map h) (map h) (times n r s at) (times n q s at) _ _ (times-marked h r q e n s at) (λ bs s at. refl))
 
 pub sections-marked : (s : List ℕ) (at : ℕ) → sections s at ≡ mapGot unmarked (markedSections s at)
-unfolding sections markedSections readers unmarked
+unfolding sections markedFront markedSections unmarked readers
 sections-marked s at =
-    step unmarked (number 1 33 s at) _ _
+    step-inside unmarked (number 1 33 s at) _ _ _
     (λ R s at.
-    step unmarked (times R (number 33 127) s at) _ _
+    step-inside unmarked (times R (number 33 127) s at) _ _ _
     (λ labels s at.
-    step unmarked (number 0 65 s at) _ _
+    step-inside unmarked (number 0 65 s at) _ _ _
     (λ M s at.
-    both-steps (map (λ r. r .rule)) unmarked (times M (rule R) s at) (times M (markedRule R) s at) _ _
-    (times-marked (λ r. r .rule) (rule R) (markedRule R) (rule-marked R) M s at)
+    both-inside (map ruleOf) unmarked (times M (rule R) s at) (times M (markedRule R) s at) _ _ _
+    (times-marked ruleOf (rule R) (markedRule R) (rule-marked R) M s at)
     (λ rules s at.
     step unmarked (number 1 17 s at) _ _
     (λ N s at.

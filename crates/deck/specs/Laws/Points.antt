@@ -15,7 +15,7 @@ use Rattle.deck.specs.Limits.{limits}
 use Rattle.deck.specs.Deck.{Assignment, Action, Rule, Part}
 use Rattle.deck.specs.Reader.{Got, Reader, _>>=_, _>>_, andThen, give, fault, here, require, byte, number, times, rising, value, readers}
 use Rattle.deck.specs.Layout.{judged, expression, ownOnly, taskScope, assignments, action, layouts}
-use Rattle.deck.specs.Marks.{MarkedRule, markedRule, MarkedPart, markedPart, marks}
+use Rattle.deck.specs.Marks.{MarkedTask, markedTask, MarkedRule, markedRule, MarkedPart, markedPart, marks}
 
 -- what a reader leaves is the bytes from its place on
 abbrev pub Tracks : {A : Type 0} → Reader A → Type 0
@@ -113,10 +113,13 @@ ReadsAt s r k a = (n : ℕ) × (r (drop k s) k ≡ accepted (record { value = a;
 reads-at : {A : Type 0} (r : Reader A) → Tracks r → (s : List ℕ) (k : ℕ) (x : Got A) → r (drop k s) k ≡ accepted x → ReadsAt s r k (x .value)
 reads-at r t s k x e = (x .at, e ∙ ap (λ l. accepted (record { value = x .value; rest = l; at = x .at })) (t s k x e))
 
+pub record TaskPoints (R : ℕ) (s : List ℕ) (m : MarkedTask) : Type 0 where
+  pub condition : ReadsAt s (expression (wholeTruth (taskScope R (m .everywhere)))) (m .conditionAt) (m .condition)
+  pub action : ReadsAt s (action (taskScope R (m .everywhere))) (m .actionAt) (m .action)
+
 pub record RulePoints (R : ℕ) (s : List ℕ) (m : MarkedRule) : Type 0 where
-  pub default : ReadsAt s (action (ownOnly R)) (m .defaultAt) (m .rule .default)
-  pub condition : ReadsAt s (expression (wholeTruth (taskScope R (m .rule .everywhere)))) (m .conditionAt) (m .rule .condition)
-  pub action : ReadsAt s (action (taskScope R (m .rule .everywhere))) (m .actionAt) (m .rule .action)
+  pub default : ReadsAt s (action (ownOnly R)) (m .defaultAt) (m .default)
+  pub task : TaskPoints R s (m .task)
 
 pub record PartPoints (R : ℕ) (s : List ℕ) (m : MarkedPart) : Type 0 where
   pub opening : ReadsAt s (times R value) (m .openingAt) (m .part .opening)
@@ -138,6 +141,31 @@ given : {A : Type 0} (a : A) (s : List ℕ) (at : ℕ) (g : Got A) → give a s 
 unfolding give
 given a s at g e = ap (λ x. x .value) (accepted-inj e)
 
+pub task-points : (R : ℕ) (s : List ℕ) (at : ℕ) (g : Got MarkedTask) → markedTask R (drop at s) at ≡ accepted g → TaskPoints R s (g .value)
+unfolding markedTask _>>=_
+task-points R s at g e =
+    let i4 = then-at (number 0 2) _ (number-tracks 0 2) s at g e in
+    let scope = taskScope R (eqb (i4 .0 .value) 1) in
+    let h5 = here-at _ (drop (i4 .0 .at) s) (i4 .0 .at) g (i4 .2) in
+    let i5 = then-at (expression (wholeTruth scope)) _ (expression-tracks (wholeTruth scope)) s (i4 .0 .at) g h5 in
+    let h6 = here-at _ (drop (i5 .0 .at) s) (i5 .0 .at) g (i5 .2) in
+    let i6 = then-at (action scope) _ (action-tracks scope) s (i5 .0 .at) g h6 in
+    subst (TaskPoints R s) (given _ (drop (i6 .0 .at) s) (i6 .0 .at) g (i6 .2))
+    (record {
+      condition = reads-at (expression (wholeTruth scope)) (expression-tracks (wholeTruth scope)) s (i4 .0 .at) (i5 .0) (i5 .1);
+      action = reads-at (action scope) (action-tracks scope) s (i5 .0 .at) (i6 .0) (i6 .1);
+    })
+
+task-tracks : (R : ℕ) → Tracks (markedTask R)
+unfolding markedTask _>>=_
+task-tracks R =
+    then-tracks (number 0 2) _ (number-tracks 0 2)
+    (λ kind.
+    then-tracks here _ here-tracks
+    (λ a.
+    then-tracks (expression (wholeTruth (taskScope R (eqb kind 1)))) _ (expression-tracks (wholeTruth (taskScope R (eqb kind 1))))
+    (λ c. then-tracks here _ here-tracks (λ b. then-tracks (action (taskScope R (eqb kind 1))) _ (action-tracks (taskScope R (eqb kind 1))) (λ act. give-tracks _)))))
+
 pub rule-points : (R : ℕ) (s : List ℕ) (at : ℕ) (g : Got MarkedRule) → markedRule R (drop at s) at ≡ accepted g → RulePoints R s (g .value)
 unfolding markedRule _>>=_
 rule-points R s at g e =
@@ -145,17 +173,11 @@ rule-points R s at g e =
     let i2 = then-at (rising (i1 .0 .value) 0 R) _ (rising-tracks (i1 .0 .value) 0 R) s (i1 .0 .at) g (i1 .2) in
     let h3 = here-at _ (drop (i2 .0 .at) s) (i2 .0 .at) g (i2 .2) in
     let i3 = then-at (action (ownOnly R)) _ (action-tracks (ownOnly R)) s (i2 .0 .at) g h3 in
-    let i4 = then-at (number 0 2) _ (number-tracks 0 2) s (i3 .0 .at) g (i3 .2) in
-    let scope = taskScope R (eqb (i4 .0 .value) 1) in
-    let h5 = here-at _ (drop (i4 .0 .at) s) (i4 .0 .at) g (i4 .2) in
-    let i5 = then-at (expression (wholeTruth scope)) _ (expression-tracks (wholeTruth scope)) s (i4 .0 .at) g h5 in
-    let h6 = here-at _ (drop (i5 .0 .at) s) (i5 .0 .at) g (i5 .2) in
-    let i6 = then-at (action scope) _ (action-tracks scope) s (i5 .0 .at) g h6 in
-    subst (RulePoints R s) (given _ (drop (i6 .0 .at) s) (i6 .0 .at) g (i6 .2))
+    let i4 = then-at (markedTask R) _ (task-tracks R) s (i3 .0 .at) g (i3 .2) in
+    subst (RulePoints R s) (given _ (drop (i4 .0 .at) s) (i4 .0 .at) g (i4 .2))
     (record {
       default = reads-at (action (ownOnly R)) (action-tracks (ownOnly R)) s (i2 .0 .at) (i3 .0) (i3 .1);
-      condition = reads-at (expression (wholeTruth scope)) (expression-tracks (wholeTruth scope)) s (i4 .0 .at) (i5 .0) (i5 .1);
-      action = reads-at (action scope) (action-tracks scope) s (i5 .0 .at) (i6 .0) (i6 .1);
+      task = task-points R s (i3 .0 .at) (i4 .0) (i4 .1);
     })
 
 value-tracks : Tracks value
