@@ -1,0 +1,87 @@
+-- Reading and then evaluating is evaluating straight: an operator's value is made of its operands' values. Assumes nothing.
+use Prim.Native.Nat.{ℕ, zero, suc, _+_, _<_, _≤_}
+use mathlib.Core.Path.{_≡_, refl, sym, ap, _∙_}
+use mathlib.Core.Bool.{Bool, not}
+use mathlib.Core.List.{List}
+use lib.IntN.{ℤ}
+use lib.ListN.{length, getD}
+use borrow.Author.Tests.{lt-ltb, le-ltb}
+use Rattle.clamped.specs.Clamp.{negated}
+use Rattle.expression.specs.Syntax.{Num, literal, own, far, two, negation}
+use Rattle.expression.specs.Syntax.{Truth, opposite, both, compared}
+use Rattle.expression.specs.Values.{arith, join, compare, evaluation}
+use Rattle.expression.specs.Reading.{Read, got, nothing, Scope, literalAt, channelAt, numOp, truthOp, num, truth, numOperands, truthOperands, readingExpressions}
+use Rattle.expression.specs.Answers.{mapRead, Answers, scope, valueIn, numIn, truthIn, numAt, truthAt}
+use Rattle.expression.specs.declared.NumOp.{NumOp}
+use Rattle.expression.specs.declared.NumOp.the-variants as OfNum
+use Rattle.expression.specs.declared.TruthOp.{TruthOp}
+use Rattle.expression.specs.declared.TruthOp.the-variants as OfTruth
+use Rattle.expression.proofs.Readings.{mapTwo, map-same, map-map, map-one, map-two}
+
+-- what follows an operator, evaluated; `go` and `goNum` evaluate an operand at a place
+abbrev pub numStep : List ℤ → List ℤ → NumOp → List ℕ → ℕ → (ℕ → Read ℤ) → Read ℤ
+numStep o f OfNum.Literal s at go = literalAt s at
+numStep o f OfNum.Own s at go = mapRead (valueIn o) (channelAt (length o) s at)
+numStep o f OfNum.Far s at go = mapRead (valueIn f) (channelAt (length f) s at)
+numStep o f (OfNum.Two k) s at go = mapTwo (arith k) (go at) go
+numStep o f OfNum.Negation s at go = mapRead negated (go at)
+numStep o f OfNum.Unknown s at go = nothing
+
+abbrev pub truthStep : TruthOp → ℕ → (ℕ → Read Bool) → (ℕ → Read ℤ) → Read Bool
+truthStep (OfTruth.Constant b) at go goNum = got b at
+truthStep OfTruth.Not at go goNum = mapRead not (go at)
+truthStep (OfTruth.Both k) at go goNum = mapTwo (join k) (go at) go
+truthStep (OfTruth.Two k) at go goNum = mapTwo (compare k) (goNum at) goNum
+truthStep OfTruth.Unknown at go goNum = nothing
+
+module _ (o f : List ℤ) where
+  num-operands : (op : NumOp) (s : List ℕ) (at : ℕ) (go : ℕ → Read Num)
+      → mapRead (numIn o f) (numOperands (scope (length o) (length f)) op s at go) ≡ numStep o f op s at (λ n. mapRead (numIn o f) (go n))
+  unfolding evaluation
+  num-operands OfNum.Literal s at go = map-map (numIn o f) literal (literalAt s at) ∙ map-same (literalAt s at)
+  num-operands OfNum.Own s at go = map-map (numIn o f) own (channelAt (length o) s at)
+  num-operands OfNum.Far s at go = map-map (numIn o f) far (channelAt (length f) s at)
+  num-operands (OfNum.Two k) s at go = map-two (numIn o f) (numIn o f) (two k) (arith k) (λ a b. refl) (go at) go
+  num-operands OfNum.Negation s at go = map-one (numIn o f) (numIn o f) negation negated (λ a. refl) (go at)
+  num-operands OfNum.Unknown s at go = refl
+
+  truth-operands : (op : TruthOp) (at : ℕ) (go : ℕ → Read Truth) (goNum : ℕ → Read Num)
+      → mapRead (truthIn o f) (truthOperands op at go goNum)
+      ≡ truthStep op at (λ n. mapRead (truthIn o f) (go n)) (λ n. mapRead (numIn o f) (goNum n))
+  unfolding evaluation
+  truth-operands (OfTruth.Constant b) at go goNum = refl
+  truth-operands OfTruth.Not at go goNum = map-one (truthIn o f) (truthIn o f) opposite not (λ t. refl) (go at)
+  truth-operands (OfTruth.Both k) at go goNum = map-two (truthIn o f) (truthIn o f) (both k) (join k) (λ t u. refl) (go at) go
+  truth-operands (OfTruth.Two k) at go goNum = map-two (numIn o f) (truthIn o f) (compared k) (compare k) (λ a b. refl) (goNum at) goNum
+  truth-operands OfTruth.Unknown at go goNum = refl
+
+  module _ (s : List ℕ) (at : ℕ) where
+    pub no-num : length s ≤ at → Answers (numAt o f) s at nothing
+    unfolding readingExpressions numAt
+    no-num h = record { ahead = tt; equal = λ fuel l. go fuel }
+      where
+        go : (fuel : ℕ) → nothing ≡ numAt o f fuel s at
+        go zero = refl
+        go (suc g) = rw (le-ltb at (length s) h)
+
+    pub no-truth : length s ≤ at → Answers (truthAt o f) s at nothing
+    unfolding readingExpressions truthAt
+    no-truth h = record { ahead = tt; equal = λ fuel l. go fuel }
+      where
+        go : (fuel : ℕ) → nothing ≡ truthAt o f fuel s at
+        go zero = refl
+        go (suc g) = rw (le-ltb at (length s) h)
+
+    -- inside, by the operator that stands there
+    module _ (inside : at < length s) where
+      pub num-step : {op : NumOp} → op ≡ numOp (getD s at 0) → (op′ : NumOp) → op ≡ op′ → (g : ℕ)
+          → numAt o f (suc g) s at ≡ numStep o f op′ s (at + 1) (λ n. numAt o f g s n)
+      unfolding readingExpressions numAt
+      num-step is op′ e g = rw (lt-ltb at (length s) inside, ← is, e) (num-operands op′ s (at + 1) (λ n. num (scope (length o) (length f)) g s n))
+
+      pub truth-step : {op : TruthOp} → op ≡ truthOp (getD s at 0) → (op′ : TruthOp) → op ≡ op′ → (g : ℕ)
+          → truthAt o f (suc g) s at ≡ truthStep op′ (at + 1) (λ n. truthAt o f g s n) (λ n. numAt o f g s n)
+      unfolding readingExpressions numAt truthAt
+      truth-step is op′ e g =
+          rw (lt-ltb at (length s) inside, ← is, e)
+          (truth-operands op′ (at + 1) (λ n. truth (scope (length o) (length f)) g s n) (λ n. num (scope (length o) (length f)) g s n))

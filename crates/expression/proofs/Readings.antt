@@ -1,0 +1,100 @@
+-- Answers of an operator from those of its operands: one law for numbers, truths and the type check. Assumes nothing.
+use Prim.Native.Nat.{ℕ, zero, suc, _+_, _-_, _<_, _≤_}
+use mathlib.Core.Path.{_≡_, refl, sym, ap, _∙_}
+use mathlib.Core.Bool.{Bool, true, false}
+use mathlib.Core.List.{List}
+use native.Mathlib.Omega.{arith}
+use lib.Dec.{ltb, leb}
+use lib.IntN.{ℤ}
+use lib.ListN.{length, getD}
+use borrow.Author.Tests.{ltb-true, leb-true}
+use Rattle.expression.specs.Reading.{Read, got, nothing, onlyIf, then, literalAt, channelAt}
+use Rattle.expression.specs.Answers.{mapRead, Ahead, Answers}
+
+-- ---- readings of one and of two operands, mapped
+
+abbrev pub mapTwo : {A B : Type 0} → (A → A → B) → Read A → (ℕ → Read A) → Read B
+mapTwo k r go = then r (λ a n. mapRead (k a) (go n))
+
+pub map-same : {A : Type 0} (r : Read A) → mapRead (λ a. a) r ≡ r
+map-same (got a n) = refl
+map-same nothing = refl
+
+pub map-map : {A B C : Type 0} (g : B → C) (k : A → B) (r : Read A) → mapRead g (mapRead k r) ≡ mapRead (λ a. g (k a)) r
+map-map g k (got a n) = refl
+map-map g k nothing = refl
+
+-- f of an operator's expression is k′ of f of its operands
+pub map-one : {A B C D : Type 0} (f : A → C) (g : B → D) (k : A → B) (k′ : C → D) → ((a : A) → g (k a) ≡ k′ (f a))
+    → (r : Read A) → mapRead g (mapRead k r) ≡ mapRead k′ (mapRead f r)
+map-one f g k k′ h (got a n) = ap (λ b. got b n) (h a)
+map-one f g k k′ h nothing = refl
+
+pub map-two : {A B C D : Type 0} (f : A → C) (g : B → D) (k : A → A → B) (k′ : C → C → D)
+    → ((a b : A) → g (k a b) ≡ k′ (f a) (f b)) → (r : Read A) (go : ℕ → Read A)
+    → mapRead g (mapTwo k r go) ≡ mapTwo k′ (mapRead f r) (λ n. mapRead f (go n))
+map-two f g k k′ h (got a n) go = map-one f g (k a) (k′ (f a)) (h a) (go n)
+map-two f g k k′ h nothing go = refl
+
+-- ---- the place after what was read
+
+pub ahead-map : {A B : Type 0} (k : A → B) (at end : ℕ) (r : Read A) → Ahead at end r → Ahead at end (mapRead k r)
+ahead-map k at end (got a n) h = h
+ahead-map k at end nothing h = tt
+
+pub ahead-before : {A : Type 0} (at n end : ℕ) (r : Read A) → at < n → Ahead n end r → Ahead at end r
+ahead-before at n end (got a m) l h = omega arith
+ahead-before at n end nothing l h = tt
+
+pub ahead-if : {A : Type 0} (at end : ℕ) (t : Bool) (r : Read A) → (t ≡ true → Ahead at end r) → Ahead at end (onlyIf t r)
+ahead-if at end true r h = h refl
+ahead-if at end false r h = tt
+
+pub literal-ahead : (s : List ℕ) (at : ℕ) → Ahead at (length s) (literalAt s at)
+literal-ahead s at = ahead-if at (length s) (leb 4 (length s - at)) _ (λ e. let l : 4 ≤ length s - at = leb-true 4 (length s - at) e in (omega arith, omega arith))
+
+pub channel-ahead : (known : ℕ) (s : List ℕ) (at : ℕ) → Ahead at (length s) (channelAt known s at)
+channel-ahead known s at =
+    ahead-if at (length s) (ltb at (length s)) _ (λ e. ahead-if at (length s) (ltb (getD s at 0) known) _ (λ f. let l : at < length s = ltb-true at (length s) e in (omega arith, omega arith)))
+
+-- ---- an operator at a place of s: what its reader gives is known from the readers of its operands, which have one less of fuel
+
+abbrev pub Reader : Type 0 → Type 0
+Reader A = ℕ → List ℕ → ℕ → Read A
+
+module _ {B : Type 0} (out : Reader B) (s : List ℕ) (at : ℕ) (inside : at < length s) where
+  by-fuel : (r : Read B) → ((g : ℕ) → length s ≤ at + 1 + g → r ≡ out (suc g) s at) → (fuel : ℕ) → length s ≤ at + fuel → r ≡ out fuel s at
+  by-fuel r e zero l = absurd (omega arith)
+  by-fuel r e (suc g) l = e g (omega arith)
+
+  pub later : (r : Read B) → Ahead (at + 1) (length s) r → Ahead at (length s) r
+  later r h = ahead-before at (at + 1) (length s) r (omega arith) h
+
+  -- no operand is an expression
+  pub with-none : (r : Read B) → Ahead at (length s) r → ((g : ℕ) → out (suc g) s at ≡ r) → Answers out s at r
+  with-none r h e = record { ahead = h; equal = by-fuel r (λ g l. sym (e g)) }
+
+  module _ {A : Type 0} (go : Reader A) where
+    pub with-one : (k : A → B) (r : Read A) → ((g : ℕ) → out (suc g) s at ≡ mapRead k (go g s (at + 1)))
+        → Answers go s (at + 1) r → Answers out s at (mapRead k r)
+    with-one k r e d =
+        record {
+          ahead = later (mapRead k r) (ahead-map k (at + 1) (length s) r (d .ahead));
+          equal = by-fuel (mapRead k r) (λ g l. ap (mapRead k) (d .equal g l) ∙ sym (e g));
+        }
+
+    module _ (k : A → A → B) (e : (g : ℕ) → out (suc g) s at ≡ mapTwo k (go g s (at + 1)) (λ n. go g s n)) where
+      pub with-two : (a : A) (n : ℕ) (r : Read A) → Answers go s (at + 1) (got a n) → Answers go s n r → Answers out s at (mapRead (k a) r)
+      with-two a n r d d′ =
+          record {
+            ahead = ahead-before at n (length s) (mapRead (k a) r) (omega (arith, d .ahead .0)) (ahead-map (k a) n (length s) r (d′ .ahead));
+            equal = by-fuel (mapRead (k a) r) (λ g l.
+                ap (mapRead (k a)) (d′ .equal g (omega (arith, d .ahead .0))) ∙ ap (λ x. mapTwo k x (λ m. go g s m)) (d .equal g l) ∙ sym (e g));
+          }
+
+      pub without-first : Answers go s (at + 1) nothing → Answers out s at nothing
+      without-first d =
+          record {
+            ahead = tt;
+            equal = by-fuel nothing (λ g l. ap (λ x. mapTwo k x (λ m. go g s m)) (d .equal g l) ∙ sym (e g));
+          }
