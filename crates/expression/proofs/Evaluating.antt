@@ -12,11 +12,13 @@ use Rattle.expression.specs.Syntax.{Truth, opposite, both, compared}
 use Rattle.expression.specs.Values.{arith, join, compare, evaluation}
 use Rattle.expression.specs.Reading.{Read, got, nothing, Scope, literalAt, channelAt, numOp, truthOp, num, truth, numOperands, truthOperands, readingExpressions}
 use Rattle.expression.specs.Answers.{mapRead, Answers, scope, valueIn, numIn, truthIn, numAt, truthAt}
+use Rattle.expression.specs.declared.Arith.{Arith}
 use Rattle.expression.specs.declared.NumOp.{NumOp}
 use Rattle.expression.specs.declared.NumOp.the-variants as OfNum
 use Rattle.expression.specs.declared.TruthOp.{TruthOp}
 use Rattle.expression.specs.declared.TruthOp.the-variants as OfTruth
-use Rattle.expression.proofs.Readings.{mapTwo, map-same, map-map, map-one, map-two}
+use Rattle.expression.proofs.Readings.{mapTwo, map-same, map-map, map-one, map-two, literal-ahead, channel-ahead}
+use Rattle.expression.proofs.Readings.{with-none, with-one, with-two, without-first}
 
 -- what follows an operator, evaluated; `go` and `goNum` evaluate an operand at a place
 abbrev pub numStep : List ℤ → List ℤ → NumOp → List ℕ → ℕ → (ℕ → Read ℤ) → Read ℤ
@@ -85,3 +87,37 @@ module _ (o f : List ℤ) where
       truth-step is op′ e g =
           rw (lt-ltb at (length s) inside, ← is, e)
           (truth-operands op′ (at + 1) (λ n. truth (scope (length o) (length f)) g s n) (λ n. num (scope (length o) (length f)) g s n))
+
+-- ---- what the evaluator answers, by the operator that stands at a place
+
+pub record NumHere (o f : List ℤ) (s : List ℕ) (at : ℕ) (op : NumOp) : Type 0 where
+  pub inside : at < length s
+  pub is : op ≡ numOp (getD s at 0)
+
+module _ {o f : List ℤ} {s : List ℕ} {at : ℕ} {op : NumOp} (h : NumHere o f s at op) where
+  step : (op′ : NumOp) → op ≡ op′ → (g : ℕ) → numAt o f (suc g) s at ≡ numStep o f op′ s (at + 1) (λ n. numAt o f g s n)
+  step = num-step o f s at (h .inside) (h .is)
+
+  pub as-literal : {r : Read ℤ} → op ≡ OfNum.Literal → r ≡ literalAt s (at + 1) → Answers (numAt o f) s at r
+  as-literal e = with-none (numAt o f) s at (h .inside) _ (literal-ahead s at) (step OfNum.Literal e)
+
+  pub as-own : {r : Read ℤ} → op ≡ OfNum.Own → r ≡ mapRead (valueIn o) (channelAt (length o) s (at + 1)) → Answers (numAt o f) s at r
+  as-own e = with-none (numAt o f) s at (h .inside) _ (channel-ahead (valueIn o) (length o) s at) (step OfNum.Own e)
+
+  pub as-far : {r : Read ℤ} → op ≡ OfNum.Far → r ≡ mapRead (valueIn f) (channelAt (length f) s (at + 1)) → Answers (numAt o f) s at r
+  as-far e = with-none (numAt o f) s at (h .inside) _ (channel-ahead (valueIn f) (length f) s at) (step OfNum.Far e)
+
+  pub as-unknown : op ≡ OfNum.Unknown → Answers (numAt o f) s at nothing
+  as-unknown e = with-none (numAt o f) s at (h .inside) nothing tt (step OfNum.Unknown e) refl
+
+  pub as-negation : {r r′ : Read ℤ} → op ≡ OfNum.Negation → Answers (numAt o f) s (at + 1) r′ → r ≡ mapRead negated r′
+      → Answers (numAt o f) s at r
+  as-negation e = with-one (numAt o f) s at (h .inside) (numAt o f) negated (step OfNum.Negation e)
+
+  module _ {k : Arith} (e : op ≡ OfNum.Two k) where
+    pub as-two : {r r′ : Read ℤ} {a : ℤ} {n : ℕ} → Answers (numAt o f) s (at + 1) (got a n) → Answers (numAt o f) s n r′
+        → r ≡ mapRead (arith k a) r′ → Answers (numAt o f) s at r
+    as-two = with-two (numAt o f) s at (h .inside) (numAt o f) (arith k) (step (OfNum.Two k) e)
+
+    pub as-two-nothing : Answers (numAt o f) s (at + 1) nothing → Answers (numAt o f) s at nothing
+    as-two-nothing = without-first (numAt o f) s at (h .inside) (numAt o f) (arith k) (step (OfNum.Two k) e)

@@ -50,12 +50,20 @@ pub ahead-if : {A : Type 0} (at end : ℕ) (t : Bool) (r : Read A) → (t ≡ tr
 ahead-if at end true r h = h refl
 ahead-if at end false r h = tt
 
-pub literal-ahead : (s : List ℕ) (at : ℕ) → Ahead at (length s) (literalAt s at)
-literal-ahead s at = ahead-if at (length s) (leb 4 (length s - at)) _ (λ e. let l : 4 ≤ length s - at = leb-true 4 (length s - at) e in (omega arith, omega arith))
+-- after an operator at the place `at`
+pub literal-ahead : (s : List ℕ) (at : ℕ) → Ahead at (length s) (literalAt s (at + 1))
+literal-ahead s at =
+    ahead-if at (length s) (leb 4 (length s - (at + 1))) _ λ e.
+    let l : 4 ≤ length s - (at + 1) = leb-true 4 (length s - (at + 1)) e in
+    (omega arith, omega arith)
 
-pub channel-ahead : (known : ℕ) (s : List ℕ) (at : ℕ) → Ahead at (length s) (channelAt known s at)
-channel-ahead known s at =
-    ahead-if at (length s) (ltb at (length s)) _ (λ e. ahead-if at (length s) (ltb (getD s at 0) known) _ (λ f. let l : at < length s = ltb-true at (length s) e in (omega arith, omega arith)))
+pub channel-ahead : {B : Type 0} (k : ℕ → B) (known : ℕ) (s : List ℕ) (at : ℕ) → Ahead at (length s) (mapRead k (channelAt known s (at + 1)))
+channel-ahead k known s at =
+    ahead-map k at (length s) (channelAt known s (at + 1))
+    (ahead-if at (length s) (ltb (at + 1) (length s)) _ λ e.
+    ahead-if at (length s) (ltb (getD s (at + 1) 0) known) _ λ f.
+    let l : at + 1 < length s = ltb-true (at + 1) (length s) e in
+    (omega arith, omega arith))
 
 -- ---- an operator at a place of s: what its reader gives is known from the readers of its operands, which have one less of fuel
 
@@ -67,30 +75,28 @@ module _ {B : Type 0} (out : Reader B) (s : List ℕ) (at : ℕ) (inside : at < 
   by-fuel r e zero l = absurd (omega arith)
   by-fuel r e (suc g) l = e g (omega arith)
 
-  pub later : (r : Read B) → Ahead (at + 1) (length s) r → Ahead at (length s) r
-  later r h = ahead-before at (at + 1) (length s) r (omega arith) h
-
   -- no operand is an expression
-  pub with-none : (r : Read B) → Ahead at (length s) r → ((g : ℕ) → out (suc g) s at ≡ r) → Answers out s at r
-  with-none r h e = record { ahead = h; equal = by-fuel r (λ g l. sym (e g)) }
+  pub with-none : {r : Read B} (r′ : Read B) → Ahead at (length s) r′ → ((g : ℕ) → out (suc g) s at ≡ r′) → r ≡ r′ → Answers out s at r
+  with-none r′ h e p = rw p (record { ahead = h; equal = by-fuel r′ (λ g l. sym (e g)) })
 
   module _ {A : Type 0} (go : Reader A) where
-    pub with-one : (k : A → B) (r : Read A) → ((g : ℕ) → out (suc g) s at ≡ mapRead k (go g s (at + 1)))
-        → Answers go s (at + 1) r → Answers out s at (mapRead k r)
-    with-one k r e d =
-        record {
-          ahead = later (mapRead k r) (ahead-map k (at + 1) (length s) r (d .ahead));
-          equal = by-fuel (mapRead k r) (λ g l. ap (mapRead k) (d .equal g l) ∙ sym (e g));
-        }
+    pub with-one : {r : Read B} {r′ : Read A} (k : A → B) → ((g : ℕ) → out (suc g) s at ≡ mapRead k (go g s (at + 1)))
+        → Answers go s (at + 1) r′ → r ≡ mapRead k r′ → Answers out s at r
+    with-one {r′} k e d p =
+        rw p (record {
+          ahead = ahead-before at (at + 1) (length s) (mapRead k r′) (omega arith) (ahead-map k (at + 1) (length s) r′ (d .ahead));
+          equal = by-fuel (mapRead k r′) (λ g l. ap (mapRead k) (d .equal g l) ∙ sym (e g));
+        })
 
     module _ (k : A → A → B) (e : (g : ℕ) → out (suc g) s at ≡ mapTwo k (go g s (at + 1)) (λ n. go g s n)) where
-      pub with-two : (a : A) (n : ℕ) (r : Read A) → Answers go s (at + 1) (got a n) → Answers go s n r → Answers out s at (mapRead (k a) r)
-      with-two a n r d d′ =
-          record {
-            ahead = ahead-before at n (length s) (mapRead (k a) r) (omega (arith, d .ahead .0)) (ahead-map (k a) n (length s) r (d′ .ahead));
-            equal = by-fuel (mapRead (k a) r) (λ g l.
+      pub with-two : {r : Read B} {r′ : Read A} {a : A} {n : ℕ} → Answers go s (at + 1) (got a n) → Answers go s n r′ → r ≡ mapRead (k a) r′
+          → Answers out s at r
+      with-two {r′} {a} {n} d d′ p =
+          rw p (record {
+            ahead = ahead-before at n (length s) (mapRead (k a) r′) (omega (arith, d .ahead .0)) (ahead-map (k a) n (length s) r′ (d′ .ahead));
+            equal = by-fuel (mapRead (k a) r′) (λ g l.
                 ap (mapRead (k a)) (d′ .equal g (omega (arith, d .ahead .0))) ∙ ap (λ x. mapTwo k x (λ m. go g s m)) (d .equal g l) ∙ sym (e g));
-          }
+          })
 
       pub without-first : Answers go s (at + 1) nothing → Answers out s at nothing
       without-first d =
