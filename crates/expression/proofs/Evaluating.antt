@@ -1,23 +1,25 @@
 -- Reading and then evaluating is evaluating straight: an operator's value is made of its operands' values. Assumes nothing.
-use Prim.Native.Nat.{ℕ, zero, suc, _+_, _<_, _≤_}
-use mathlib.Core.Path.{_≡_, refl, sym, ap, _∙_}
+use Prim.Native.Nat.{ℕ, suc, _+_, _<_, _≤_}
+use mathlib.Core.Path.{_≡_, refl, _∙_}
 use mathlib.Core.Bool.{Bool, not}
 use mathlib.Core.List.{List}
+use native.Mathlib.Omega.{arith as numbers}
 use lib.IntN.{ℤ}
 use lib.ListN.{length, getD}
-use borrow.Author.Tests.{lt-ltb, le-ltb}
 use Rattle.clamped.specs.Clamp.{negated}
 use Rattle.expression.specs.Syntax.{Num, literal, own, far, two, negation}
 use Rattle.expression.specs.Syntax.{Truth, opposite, both, compared}
 use Rattle.expression.specs.Values.{arith, join, compare, evaluation}
-use Rattle.expression.specs.Reading.{Read, got, nothing, Scope, literalAt, channelAt, numOp, truthOp, num, truth, numOperands, truthOperands, readingExpressions}
+use Rattle.expression.specs.Reading.{Read, got, nothing, literalAt, channelAt, numOp, truthOp, numOperands, truthOperands}
 use Rattle.expression.specs.Answers.{mapRead, Answers, scope, valueIn, numIn, truthIn, numAt, truthAt}
 use Rattle.expression.specs.declared.Arith.{Arith}
+use Rattle.expression.specs.declared.Join.{Join}
+use Rattle.expression.specs.declared.Compare.{Compare}
 use Rattle.expression.specs.declared.NumOp.{NumOp}
 use Rattle.expression.specs.declared.NumOp.the-variants as OfNum
 use Rattle.expression.specs.declared.TruthOp.{TruthOp}
 use Rattle.expression.specs.declared.TruthOp.the-variants as OfTruth
-use Rattle.expression.proofs.Readings.{mapTwo, map-same, map-map, map-one, map-two, literal-ahead, channel-ahead}
+use Rattle.expression.proofs.Readings.{mapTwo, map-same, map-map, map-one, map-two, literal-ahead, channel-ahead, num-end, truth-end, num-inside, truth-inside}
 use Rattle.expression.proofs.Readings.{with-none, with-one, with-two, without-first}
 
 -- what follows an operator, evaluated; `go` and `goNum` evaluate an operand at a place
@@ -59,34 +61,24 @@ module _ (o f : List ℤ) where
 
   module _ (s : List ℕ) (at : ℕ) where
     pub no-num : length s ≤ at → Answers (numAt o f) s at nothing
-    unfolding readingExpressions numAt
-    no-num h = record { ahead = tt; equal = λ fuel l. go fuel }
-      where
-        go : (fuel : ℕ) → nothing ≡ numAt o f fuel s at
-        go zero = refl
-        go (suc g) = rw (le-ltb at (length s) h)
+    unfolding numAt
+    no-num h = record { ahead = tt; equal = λ fuel l. rw (num-end (scope (length o) (length f)) s at h fuel) }
 
     pub no-truth : length s ≤ at → Answers (truthAt o f) s at nothing
-    unfolding readingExpressions truthAt
-    no-truth h = record { ahead = tt; equal = λ fuel l. go fuel }
-      where
-        go : (fuel : ℕ) → nothing ≡ truthAt o f fuel s at
-        go zero = refl
-        go (suc g) = rw (le-ltb at (length s) h)
+    unfolding truthAt
+    no-truth h = record { ahead = tt; equal = λ fuel l. rw (truth-end (scope (length o) (length f)) s at h fuel) }
 
     -- inside, by the operator that stands there
     module _ (inside : at < length s) where
-      pub num-step : {op : NumOp} → op ≡ numOp (getD s at 0) → (op′ : NumOp) → op ≡ op′ → (g : ℕ)
+      num-step : {op : NumOp} → op ≡ numOp (getD s at 0) → (op′ : NumOp) → op ≡ op′ → (g : ℕ)
           → numAt o f (suc g) s at ≡ numStep o f op′ s (at + 1) (λ n. numAt o f g s n)
-      unfolding readingExpressions numAt
-      num-step is op′ e g = rw (lt-ltb at (length s) inside, ← is, e) (num-operands op′ s (at + 1) (λ n. num (scope (length o) (length f)) g s n))
+      unfolding numAt
+      num-step is op′ e g = rw (num-inside (scope (length o) (length f)) s at inside g, ← is, e) (num-operands op′ s (at + 1) _)
 
-      pub truth-step : {op : TruthOp} → op ≡ truthOp (getD s at 0) → (op′ : TruthOp) → op ≡ op′ → (g : ℕ)
+      truth-step : {op : TruthOp} → op ≡ truthOp (getD s at 0) → (op′ : TruthOp) → op ≡ op′ → (g : ℕ)
           → truthAt o f (suc g) s at ≡ truthStep op′ (at + 1) (λ n. truthAt o f g s n) (λ n. numAt o f g s n)
-      unfolding readingExpressions numAt truthAt
-      truth-step is op′ e g =
-          rw (lt-ltb at (length s) inside, ← is, e)
-          (truth-operands op′ (at + 1) (λ n. truth (scope (length o) (length f)) g s n) (λ n. num (scope (length o) (length f)) g s n))
+      unfolding numAt truthAt
+      truth-step is op′ e g = rw (truth-inside (scope (length o) (length f)) s at inside g, ← is, e) (truth-operands op′ (at + 1) _ _)
 
 -- ---- what the evaluator answers, by the operator that stands at a place
 
@@ -95,29 +87,64 @@ pub record NumHere (o f : List ℤ) (s : List ℕ) (at : ℕ) (op : NumOp) : Typ
   pub is : op ≡ numOp (getD s at 0)
 
 module _ {o f : List ℤ} {s : List ℕ} {at : ℕ} {op : NumOp} (h : NumHere o f s at op) where
-  step : (op′ : NumOp) → op ≡ op′ → (g : ℕ) → numAt o f (suc g) s at ≡ numStep o f op′ s (at + 1) (λ n. numAt o f g s n)
-  step = num-step o f s at (h .inside) (h .is)
+  step-num : (op′ : NumOp) → op ≡ op′ → (g : ℕ) → numAt o f (suc g) s at ≡ numStep o f op′ s (at + 1) (λ n. numAt o f g s n)
+  step-num = num-step o f s at (h .inside) (h .is)
 
   pub as-literal : {r : Read ℤ} → op ≡ OfNum.Literal → r ≡ literalAt s (at + 1) → Answers (numAt o f) s at r
-  as-literal e = with-none (numAt o f) s at (h .inside) _ (literal-ahead s at) (step OfNum.Literal e)
+  as-literal e = with-none (numAt o f) s at (h .inside) _ (literal-ahead s at) (step-num OfNum.Literal e)
 
   pub as-own : {r : Read ℤ} → op ≡ OfNum.Own → r ≡ mapRead (valueIn o) (channelAt (length o) s (at + 1)) → Answers (numAt o f) s at r
-  as-own e = with-none (numAt o f) s at (h .inside) _ (channel-ahead (valueIn o) (length o) s at) (step OfNum.Own e)
+  as-own e = with-none (numAt o f) s at (h .inside) _ (channel-ahead (valueIn o) (length o) s at) (step-num OfNum.Own e)
 
   pub as-far : {r : Read ℤ} → op ≡ OfNum.Far → r ≡ mapRead (valueIn f) (channelAt (length f) s (at + 1)) → Answers (numAt o f) s at r
-  as-far e = with-none (numAt o f) s at (h .inside) _ (channel-ahead (valueIn f) (length f) s at) (step OfNum.Far e)
+  as-far e = with-none (numAt o f) s at (h .inside) _ (channel-ahead (valueIn f) (length f) s at) (step-num OfNum.Far e)
 
   pub as-unknown : op ≡ OfNum.Unknown → Answers (numAt o f) s at nothing
-  as-unknown e = with-none (numAt o f) s at (h .inside) nothing tt (step OfNum.Unknown e) refl
+  as-unknown e = with-none (numAt o f) s at (h .inside) nothing tt (step-num OfNum.Unknown e) refl
 
   pub as-negation : {r r′ : Read ℤ} → op ≡ OfNum.Negation → Answers (numAt o f) s (at + 1) r′ → r ≡ mapRead negated r′
       → Answers (numAt o f) s at r
-  as-negation e = with-one (numAt o f) s at (h .inside) (numAt o f) negated (step OfNum.Negation e)
+  as-negation e = with-one (numAt o f) s at (h .inside) (numAt o f) negated (step-num OfNum.Negation e)
 
   module _ {k : Arith} (e : op ≡ OfNum.Two k) where
     pub as-two : {r r′ : Read ℤ} {a : ℤ} {n : ℕ} → Answers (numAt o f) s (at + 1) (got a n) → Answers (numAt o f) s n r′
         → r ≡ mapRead (arith k a) r′ → Answers (numAt o f) s at r
-    as-two = with-two (numAt o f) s at (h .inside) (numAt o f) (arith k) (step (OfNum.Two k) e)
+    as-two = with-two (numAt o f) s at (h .inside) (numAt o f) (arith k) (step-num (OfNum.Two k) e)
 
     pub as-two-nothing : Answers (numAt o f) s (at + 1) nothing → Answers (numAt o f) s at nothing
-    as-two-nothing = without-first (numAt o f) s at (h .inside) (numAt o f) (arith k) (step (OfNum.Two k) e)
+    as-two-nothing = without-first (numAt o f) s at (h .inside) (numAt o f) (arith k) (step-num (OfNum.Two k) e)
+
+pub record TruthHere (o f : List ℤ) (s : List ℕ) (at : ℕ) (op : TruthOp) : Type 0 where
+  pub inside : at < length s
+  pub is : op ≡ truthOp (getD s at 0)
+
+module _ {o f : List ℤ} {s : List ℕ} {at : ℕ} {op : TruthOp} (h : TruthHere o f s at op) where
+  step-truth : (op′ : TruthOp) → op ≡ op′ → (g : ℕ)
+      → truthAt o f (suc g) s at ≡ truthStep op′ (at + 1) (λ n. truthAt o f g s n) (λ n. numAt o f g s n)
+  step-truth = truth-step o f s at (h .inside) (h .is)
+
+  pub as-constant : {b : Bool} → op ≡ OfTruth.Constant b → Answers (truthAt o f) s at (got b (at + 1))
+  as-constant {b} e = with-none (truthAt o f) s at (h .inside) (got b (at + 1)) (omega (numbers, h .inside)) (step-truth (OfTruth.Constant b) e) refl
+
+  pub as-no-truth : op ≡ OfTruth.Unknown → Answers (truthAt o f) s at nothing
+  as-no-truth e = with-none (truthAt o f) s at (h .inside) nothing tt (step-truth OfTruth.Unknown e) refl
+
+  pub as-not : {r r′ : Read Bool} → op ≡ OfTruth.Not → Answers (truthAt o f) s (at + 1) r′ → r ≡ mapRead not r′
+      → Answers (truthAt o f) s at r
+  as-not e = with-one (truthAt o f) s at (h .inside) (truthAt o f) not (step-truth OfTruth.Not e)
+
+  module _ {k : Join} (e : op ≡ OfTruth.Both k) where
+    pub as-both : {r r′ : Read Bool} {p : Bool} {n : ℕ} → Answers (truthAt o f) s (at + 1) (got p n) → Answers (truthAt o f) s n r′
+        → r ≡ mapRead (join k p) r′ → Answers (truthAt o f) s at r
+    as-both = with-two (truthAt o f) s at (h .inside) (truthAt o f) (join k) (step-truth (OfTruth.Both k) e)
+
+    pub as-both-nothing : Answers (truthAt o f) s (at + 1) nothing → Answers (truthAt o f) s at nothing
+    as-both-nothing = without-first (truthAt o f) s at (h .inside) (truthAt o f) (join k) (step-truth (OfTruth.Both k) e)
+
+  module _ {k : Compare} (e : op ≡ OfTruth.Two k) where
+    pub as-compared : {r : Read Bool} {r′ : Read ℤ} {a : ℤ} {n : ℕ} → Answers (numAt o f) s (at + 1) (got a n) → Answers (numAt o f) s n r′
+        → r ≡ mapRead (compare k a) r′ → Answers (truthAt o f) s at r
+    as-compared = with-two (truthAt o f) s at (h .inside) (numAt o f) (compare k) (step-truth (OfTruth.Two k) e)
+
+    pub as-compared-nothing : Answers (numAt o f) s (at + 1) nothing → Answers (truthAt o f) s at nothing
+    as-compared-nothing = without-first (truthAt o f) s at (h .inside) (numAt o f) (compare k) (step-truth (OfTruth.Two k) e)

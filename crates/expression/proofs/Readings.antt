@@ -7,8 +7,9 @@ use native.Mathlib.Omega.{arith}
 use lib.Dec.{ltb, leb}
 use lib.IntN.{ℤ}
 use lib.ListN.{length, getD}
-use borrow.Author.Tests.{ltb-true, leb-true}
-use Rattle.expression.specs.Reading.{Read, got, nothing, onlyIf, then, literalAt, channelAt}
+use borrow.Author.Tests.{ltb-true, leb-true, lt-ltb, le-ltb}
+use Rattle.expression.specs.Reading.{Read, got, nothing, onlyIf, then, literalAt, channelAt, numOp, truthOp}
+use Rattle.expression.specs.Reading.{Scope, numOperands, truthOperands, num, truth, readingExpressions}
 use Rattle.expression.specs.Answers.{mapRead, Ahead, Answers}
 
 -- ---- readings of one and of two operands, mapped
@@ -64,6 +65,28 @@ channel-ahead k known s at =
     ahead-if at (length s) (ltb (getD s (at + 1) 0) known) _ λ f.
     let l : at + 1 < length s = ltb-true (at + 1) (length s) e in
     (omega arith, omega arith))
+
+-- ---- the readers at a place: nothing past the end, and inside what follows the operator
+
+module _ (sc : Scope) (s : List ℕ) (at : ℕ) where
+  pub num-end : length s ≤ at → (fuel : ℕ) → num sc fuel s at ≡ nothing
+  unfolding readingExpressions
+  num-end h zero = refl
+  num-end h (suc g) = rw (le-ltb at (length s) h)
+
+  pub truth-end : length s ≤ at → (fuel : ℕ) → truth sc fuel s at ≡ nothing
+  unfolding readingExpressions
+  truth-end h zero = refl
+  truth-end h (suc g) = rw (le-ltb at (length s) h)
+
+  module _ (inside : at < length s) (g : ℕ) where
+    pub num-inside : num sc (suc g) s at ≡ numOperands sc (numOp (getD s at 0)) s (at + 1) (λ n. num sc g s n)
+    unfolding readingExpressions
+    num-inside = rw (lt-ltb at (length s) inside)
+
+    pub truth-inside : truth sc (suc g) s at ≡ truthOperands (truthOp (getD s at 0)) (at + 1) (λ n. truth sc g s n) (λ n. num sc g s n)
+    unfolding readingExpressions
+    truth-inside = rw (lt-ltb at (length s) inside)
 
 -- ---- an operator at a place of s: what its reader gives is known from the readers of its operands, which have one less of fuel
 
