@@ -4,3 +4,4 @@ pub mod Bytes
 pub mod Readings
 pub mod Evaluating
 pub mod Checking
+pub mod Whole

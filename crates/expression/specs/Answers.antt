@@ -9,7 +9,7 @@ use lib.IntN.{ℤ, pos}
 use lib.ListN.{length, getD}
 use Rattle.expression.specs.Syntax.{Num, Truth}
 use Rattle.expression.specs.Values.{numValue, truthValue}
-use Rattle.expression.specs.Reading.{Read, got, nothing, onlyIf, then, Scope, num, truth, numOp, truthOp}
+use Rattle.expression.specs.Reading.{Read, got, nothing, onlyIf, then, Scope, num, truth, numOp, truthOp, wholeNum, wholeTruth}
 use Rattle.expression.specs.declared.NumOp.{NumOp}
 use Rattle.expression.specs.declared.NumOp.the-variants as OfNum
 use Rattle.expression.specs.declared.TruthOp.{TruthOp}
@@ -118,10 +118,17 @@ abbrev pub isGot : {A : Type 0} → Read A → Bool
 isGot (got a n) = true
 isGot nothing = false
 
-abbrev pub numResult : List ℤ → List ℤ → Read Num → NumValue
-numResult own far (got e n) = ValueNum.Value (numIn own far e)
-numResult own far nothing = ValueNum.None
+abbrev pub numResult : Read ℤ → NumValue
+numResult (got z n) = ValueNum.Value z
+numResult nothing = ValueNum.None
 
-abbrev pub truthResult : List ℤ → List ℤ → Read Truth → TruthValue
-truthResult own far (got t n) = ValueTruth.Value (truthIn own far t)
-truthResult own far nothing = ValueTruth.None
+abbrev pub truthResult : Read Bool → TruthValue
+truthResult (got b n) = ValueTruth.Value b
+truthResult nothing = ValueTruth.None
+
+-- the value of the number, and of the truth, that the bytes s hold
+abbrev pub wholeNumValue : List ℤ → List ℤ → List ℕ → NumValue
+wholeNumValue own far s = numResult (mapRead (numIn own far) (wholeNum (scope (length own) (length far)) s))
+
+abbrev pub wholeTruthValue : List ℤ → List ℤ → List ℕ → TruthValue
+wholeTruthValue own far s = truthResult (mapRead (truthIn own far) (wholeTruth (scope (length own) (length far)) s))

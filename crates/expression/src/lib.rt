@@ -8,7 +8,7 @@ ghost use lib.ListN.{length};
 ghost use Rattle.clamped.specs.Clamp.{negated};
 ghost use Rattle.expression.specs.Values.{arith, join, compare};
 ghost use Rattle.expression.specs.Reading.{numOp, truthOp, word, signed, literalAt, channelAt, wholeNum, wholeTruth};
-ghost use Rattle.expression.specs.Answers.{mapRead, Answers, scope, valueIn, numAt, truthAt, endOf, checkAt, ofNum, ofTruth, ofCheck, operandsOf, bytesAt, isGot, numResult, truthResult};
+ghost use Rattle.expression.specs.Answers.{mapRead, Answers, scope, valueIn, numAt, truthAt, endOf, checkAt, ofNum, ofTruth, ofCheck, operandsOf, bytesAt, isGot, wholeNumValue, wholeTruthValue};
 
 
 // What two numbers make a number.
@@ -396,7 +396,7 @@ pub fn is_truth(s: &[u8], own: usize, far: usize) -> bool
 }
 
 pub fn num_value(s: &[u8], own: &[i32], far: &[i32]) -> NumValue
-    ensures { λ r. ⌜ r ≡ numResult (now (own .entry)) (now (far .entry)) (wholeNum (scope (length (now (own .entry))) (length (now (far .entry)))) (now (s .entry))) ⌝ }
+    ensures { λ r. ⌜ r ≡ wholeNumValue (now (own .entry)) (now (far .entry)) (now (s .entry)) ⌝ }
 {
     match num_at(s, 0, own, far) {
         NumAt::Value(v, n) => {
@@ -407,7 +407,7 @@ pub fn num_value(s: &[u8], own: &[i32], far: &[i32]) -> NumValue
 }
 
 pub fn truth_value(s: &[u8], own: &[i32], far: &[i32]) -> TruthValue
-    ensures { λ r. ⌜ r ≡ truthResult (now (own .entry)) (now (far .entry)) (wholeTruth (scope (length (now (own .entry))) (length (now (far .entry)))) (now (s .entry))) ⌝ }
+    ensures { λ r. ⌜ r ≡ wholeTruthValue (now (own .entry)) (now (far .entry)) (now (s .entry)) ⌝ }
 {
     match truth_at(s, 0, own, far) {
         TruthAt::Value(v, n) => {
