@@ -4,7 +4,7 @@ use Prim.Native.Nat.{ℕ, _-_, _+_, _<_, _≤_}
 use mathlib.Core.Path.{_≡_}
 use mathlib.Core.Bool.{Bool, true, false}
 use mathlib.Core.List.{List}
-use lib.Dec.{leb}
+use lib.Dec.{leb, eqb}
 use lib.IntN.{ℤ, pos}
 use lib.ListN.{length, getD}
 use Rattle.expression.specs.Syntax.{Num, Truth}
@@ -113,6 +113,11 @@ abbrev pub bytesAt : ℕ → List ℕ → ℕ → Read (Unit {0})
 bytesAt n s at = onlyIf (leb n (length s - at)) (got tt (at + n))
 
 -- ---- whole expressions
+
+-- something was read, and it ends at the place n
+abbrev pub endsAt : {A : Type 0} → ℕ → Read A → Bool
+endsAt n (got a m) = eqb m n
+endsAt n nothing = false
 
 abbrev pub isGot : {A : Type 0} → Read A → Bool
 isGot (got a n) = true

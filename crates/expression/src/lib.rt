@@ -8,7 +8,7 @@ ghost use lib.ListN.{length};
 ghost use Rattle.clamped.specs.Clamp.{negated};
 ghost use Rattle.expression.specs.Values.{arith, join, compare};
 ghost use Rattle.expression.specs.Reading.{numOp, truthOp, word, signed, literalAt, channelAt, wholeNum, wholeTruth};
-ghost use Rattle.expression.specs.Answers.{mapRead, Answers, scope, valueIn, numAt, truthAt, endOf, checkAt, ofNum, ofTruth, ofCheck, operandsOf, bytesAt, isGot, wholeNumValue, wholeTruthValue};
+ghost use Rattle.expression.specs.Answers.{mapRead, Answers, scope, valueIn, numAt, truthAt, endOf, checkAt, ofNum, ofTruth, ofCheck, operandsOf, bytesAt, endsAt, isGot, wholeNumValue, wholeTruthValue};
 
 
 // What two numbers make a number.
@@ -376,25 +376,31 @@ pub fn check_at(s: &[u8], at: usize, truth: bool, own: usize, far: usize) -> Che
 
 // ---- whole expressions
 
-// Whether the bytes are a number, and nothing stands after it.
+// Whether what was checked ends with the bytes, so that nothing stands after it.
+fn ends(s: &[u8], r: Checked) -> bool
+    ensures { λ b. ⌜ b ≡ endsAt (length (now (s .entry))) (ofCheck r) ⌝ }
+{
+    match r {
+        Checked::End(n) => n == s.len(),
+        Checked::Nothing => false,
+    }
+}
+
+// Whether the bytes are a number.
 pub fn is_num(s: &[u8], own: usize, far: usize) -> bool
     ensures { λ r. ⌜ r ≡ isGot (wholeNum (scope own far) (now (s .entry))) ⌝ }
 {
-    match check_at(s, 0, false, own, far) {
-        Checked::End(n) => n == s.len(),
-        Checked::Nothing => false,
-    }
+    ends(s, check_at(s, 0, false, own, far))
 }
 
+// Whether the bytes are a truth.
 pub fn is_truth(s: &[u8], own: usize, far: usize) -> bool
     ensures { λ r. ⌜ r ≡ isGot (wholeTruth (scope own far) (now (s .entry))) ⌝ }
 {
-    match check_at(s, 0, true, own, far) {
-        Checked::End(n) => n == s.len(),
-        Checked::Nothing => false,
-    }
+    ends(s, check_at(s, 0, true, own, far))
 }
 
+// The value of the number that the bytes are.
 pub fn num_value(s: &[u8], own: &[i32], far: &[i32]) -> NumValue
     ensures { λ r. ⌜ r ≡ wholeNumValue (now (own .entry)) (now (far .entry)) (now (s .entry)) ⌝ }
 {
@@ -406,6 +412,7 @@ pub fn num_value(s: &[u8], own: &[i32], far: &[i32]) -> NumValue
     }
 }
 
+// The value of the truth that the bytes are.
 pub fn truth_value(s: &[u8], own: &[i32], far: &[i32]) -> TruthValue
     ensures { λ r. ⌜ r ≡ wholeTruthValue (now (own .entry)) (now (far .entry)) (now (s .entry)) ⌝ }
 {
