@@ -6,8 +6,6 @@ use mathlib.Core.Path.{refl}
 use Rattle.deck.specs.Laws.Turns.{number-ends, number-small, number-large, number-reads}
 use Rattle.deck.proofs.number_at.Statement.{statement}
 use Rattle.deck.proofs.number_at.Tie as tie
-use Rattle.deck.proofs.number_at.Reads as reads
-use Rattle.deck.proofs.number_at.Lts as lts
 
 returns : tie.Need-returns
 returns c = number-ends _ _ _ _ (c .if1 .taken)
