@@ -12,3 +12,4 @@ pub mod Prefix
 pub mod Scoped
 pub mod Marks
 pub mod Points
+pub mod Turns
