@@ -219,13 +219,17 @@ abbrev pub wrongOf : Step → Loaded
 wrongOf (Next n) = Wrong 0 n
 wrongOf (Fault number place) = Wrong number place
 
--- "the stretch of the caller's deck from that section's count to its end", by the offsets of the last two counts
-abbrev pub sectionOf : ℕ → ℕ → List ℕ → ℕ → List ℕ
-sectionOf second third bytes k =
-    let from = getD (0 ∷ second ∷ third ∷ []) k (length bytes) in
-    take (getD (second ∷ third ∷ []) k (length bytes) - from) (drop from bytes)
+-- the offset of a section's count, by those of the second and the third; from 3 on, the deck's end
+unfoldable pub offsetOf : ℕ → ℕ → ℕ → ℕ → ℕ
+offsetOf second third end k = getD (0 ∷ second ∷ third ∷ []) k end
+
+-- "the stretch of the caller's deck from that section's count to its end"
+unfoldable pub stretchOf : ℕ → ℕ → List ℕ → ℕ → List ℕ
+stretchOf second third bytes k =
+    let from = offsetOf second third (length bytes) k in
+    take (offsetOf second third (length bytes) (suc k) - from) (drop from bytes)
 
 -- to open all definitions of this file, on an `unfolding` line
 unfoldable pub marks : Unit {0}
-unfolding expressionFor scopeOf assignment markedTask markedRule ruleOf markedPart markedFront markedSections unmarked ruleRow partRow
+unfolding expressionFor scopeOf assignment markedTask markedRule ruleOf markedPart markedFront markedSections unmarked ruleRow partRow offsetOf stretchOf
 marks = tt

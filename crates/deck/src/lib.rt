@@ -11,7 +11,7 @@ ghost use Rattle.deck.specs.Deck.{targets};
 ghost use Rattle.deck.specs.Reader.{number, times, rising, value};
 ghost use Rattle.deck.specs.Layout.{action};
 ghost use Rattle.deck.specs.Encoding.{kindByte};
-ghost use Rattle.deck.specs.Marks.{Reads, scopeOf, expressionFor, isWhole, ReadsAssignment, ReadsFront, Loads, wrongOf, sectionOf, markedTask, markedRule, markedPart, ruleRow, partRow};
+ghost use Rattle.deck.specs.Marks.{Reads, scopeOf, expressionFor, isWhole, ReadsAssignment, ReadsFront, Loads, wrongOf, offsetOf, stretchOf, markedTask, markedRule, markedPart, ruleRow, partRow};
 
 // The counts R, M and N of a deck, and the offsets of its second and third section's counts.
 pub struct Deck {
@@ -646,18 +646,28 @@ pub fn read(deck: &[u8], rules: &mut [u64], parts: &mut [u64]) -> Loaded
     })
 }
 
+// The offset of a section's count; from 3 on, the deck's end.
+fn offset(deck: Deck, number: usize, end: usize) -> usize
+    ensures { λ r. ⌜ r ≡ offsetOf (deck .second) (deck .third) end number ⌝ }
+{
+    if number == 0 {
+        return 0;
+    }
+    if number == 1 {
+        return deck.second;
+    }
+    if number == 2 {
+        return deck.third;
+    }
+    end
+}
+
 // The stretch of a section, from its count to its end.
 pub fn stretch<'a>(bytes: &'a [u8], deck: Deck, number: usize) -> &'a [u8]
     requires { ⌜ (deck .second ≤ deck .third) × (deck .third ≤ length (now bytes)) × (number ≤ 2) ⌝ }
-    ensures { λ r. ⌜ now r ≡ sectionOf (deck .second) (deck .third) (now (bytes .entry)) number ⌝ }
+    ensures { λ r. ⌜ now r ≡ stretchOf (deck .second) (deck .third) (now (bytes .entry)) number ⌝ }
 {
-    let second = deck.second;
-    let third = deck.third;
-    if number == 0 {
-        return &bytes[..second];
-    }
-    if number == 1 {
-        return &bytes[second..third];
-    }
-    &bytes[third..]
+    let from = offset(deck, number, bytes.len());
+    let to = offset(deck, number + 1, bytes.len());
+    &bytes[from..to]
 }
