@@ -75,6 +75,11 @@ number-below lo hi s at g e = accepts (below s) e
     below [] = refusing
     below (b ∷ s) = byTest b s (leb lo b && ltb b hi) refl
 
+-- what was read is the value that the code holds
+pub got-value : {A : Type 0} {o : Outcome (Got A)} (s : List ℕ) (n : ℕ) (a : A) → Reads s o (λ v. a ≡ v) (Next n)
+    → o ≡ accepted (record { value = a; rest = drop n s; at = n })
+got-value s n a r = r .1 ∙ ap (λ x. accepted (record { value = x; rest = drop n s; at = n })) (sym (r .3))
+
 -- ---- lists in turns
 
 -- o is what reading a list comes to. So far `list` was read, which has P, and reading the others comes to `later`

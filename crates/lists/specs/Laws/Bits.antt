@@ -1,14 +1,14 @@
 -- Laws of sets of small numbers as the bits of a number. Assumes nothing.
-use Prim.Native.Nat.{ℕ, zero, suc, _/_, _%_, _^_, _<_, min, max}
+use Prim.Native.Nat.{ℕ, zero, suc, _*_, _/_, _%_, _^_, _<_, min, max}
 use mathlib.Core.Path.{_≡_, refl, sym, ap, ap₂, _∙_}
 use mathlib.Core.Logic.{_↔_}
 use mathlib.Core.Bool.{Bool, true, false, _&&_, _||_, or-assoc}
 use mathlib.Core.List.{List, [], _∷_, _++_}
 use native.Mathlib.Omega.{arith}
-use native.Mathlib.Nat.{div-div-eq-div-mul, pow-suc, mul-comm, div-one, zero-div}
+use native.Mathlib.Nat.{div-div-eq-div-mul, pow-suc, mul-comm, one-mul, div-one, zero-div}
 use lib.Bits.{bitOr, bitAnd, or-shr, and-shr, or-step, and-step, or-lt}
-use lib.Pow.{pow-pos, pow-lt}
-use lib.Dec.{eqb, ltb, eqb·zero-suc, eqb·suc-zero, eqb·suc-suc}
+use lib.Pow.{pow-pos, pow-lt, shl-exact}
+use lib.Dec.{eqb, ltb, lit<, eqb·zero-suc, eqb·suc-zero, eqb·suc-suc}
 use borrow.Author.Tests.{ltb-true, eqb-false}
 use Rattle.lists.specs.Lists.{lists, all, any, member}
 use Rattle.lists.specs.Bits.{bit, maskFrom, maskOf}
@@ -80,6 +80,10 @@ bit-power (suc k) zero =
 bit-power (suc k) (suc c) =
     let e : 2 ^ suc k / 2 ≡ 2 ^ k = omega (arith, pow-suc 2 k) in
     bit-up (2 ^ suc k) c ∙ ap (λ x. bit x c) e ∙ bit-power k c ∙ sym (eqb·suc-suc c k)
+
+-- 1 shifted by c in a number of w bits
+pub bit-shifted : (w c : ℕ) → c < w → 1 * 2 ^ c % 2 ^ w ≡ 2 ^ c
+bit-shifted w c h = shl-exact 1 c w (lit< tt) (omega arith) ∙ one-mul (2 ^ c)
 
 below-power : (n : ℕ) → n < 2 ^ n
 below-power zero = pow-pos 0
