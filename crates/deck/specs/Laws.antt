@@ -13,3 +13,4 @@ pub mod Scoped
 pub mod Marks
 pub mod Points
 pub mod Turns
+pub mod Offsets
