@@ -14,3 +14,4 @@ pub mod Marks
 pub mod Points
 pub mod Turns
 pub mod Offsets
+pub mod ActionTurns
