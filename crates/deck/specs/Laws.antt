@@ -14,3 +14,5 @@ pub mod Marks
 pub mod Points
 pub mod Turns
 pub mod Stretches
+pub mod Offsets
+pub mod ActionTurns

@@ -89,7 +89,7 @@ pub record Turns {A : Type 0} (o later : Outcome (Got (List A))) (P : List A →
   pub has : P list
 
 -- an element, and the others by it
-abbrev first : {A : Type 0} → Reader A → (A → Reader (List A)) → Reader (List A)
+abbrev pub first : {A : Type 0} → Reader A → (A → Reader (List A)) → Reader (List A)
 first r others = r >>= λ x. others x >>= λ xs. give (x ∷ xs)
 
 module _ {A : Type 0} {o : Outcome (Got (List A))} {P : List A → Type 0} where
@@ -102,7 +102,7 @@ module _ {A : Type 0} {o : Outcome (Got (List A))} {P : List A → Type 0} where
       go (refused n p) = refl
       go (accepted g) = refl
 
-  turn-next : {Q : List A → Type 0} (r : Reader A) (others : A → Reader (List A)) (s : List ℕ) (at : ℕ) {g : Got A} → r s at ≡ accepted g
+  pub turn-next : {Q : List A → Type 0} (r : Reader A) (others : A → Reader (List A)) (s : List ℕ) (at : ℕ) {g : Got A} → r s at ≡ accepted g
       → ((l : List A) → P l → Q (l ++ (g .value ∷ []))) → Turns o (first r others s at) P
       → Turns o (others (g .value) (g .rest) (g .at)) Q
   unfolding readers
@@ -120,13 +120,13 @@ module _ {A : Type 0} {o : Outcome (Got (List A))} {P : List A → Type 0} where
       go (refused n p) = refl
       go (accepted h) = ap (λ l. accepted (record { value = l; rest = h .rest; at = h .at })) (sym (append-snoc (t .list) (g .value) (h .value)))
 
-  turn-fault : (r : Reader A) (others : A → Reader (List A)) (s : List ℕ) (at : ℕ) {n p : ℕ} → r s at ≡ refused n p
+  pub turn-fault : (r : Reader A) (others : A → Reader (List A)) (s : List ℕ) (at : ℕ) {n p : ℕ} → r s at ≡ refused n p
       → Turns o (first r others s at) P → o ≡ refused n p
   unfolding readers
   turn-fault r others s at e t =
       t .outcome ∙ ap (λ u. andThen (andThen u (λ x. others x >>= λ xs. give (x ∷ xs))) (λ l. give (t .list ++ l))) e
 
-  turn-end : (s : List ℕ) (place : ℕ) → place ≤ length s → Turns o (give [] (drop place s) place) P → Reads s o P (Next place)
+  pub turn-end : (s : List ℕ) (place : ℕ) → place ≤ length s → Turns o (give [] (drop place s) place) P → Reads s o P (Next place)
   unfolding readers
   turn-end s place b t = (
     t .list,
