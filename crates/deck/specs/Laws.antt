@@ -17,3 +17,4 @@ pub mod Stretches
 pub mod Offsets
 pub mod ActionTurns
 pub mod PartSteps
+pub mod DeckSteps

@@ -20,7 +20,7 @@ use Rattle.deck.specs.declared.Step.the-variants.{Next, Fault}
 abbrev pub gotAt : {A : Type 0} → List ℕ → A → ℕ → Outcome (Got A)
 gotAt s a n = accepted (record { value = a; rest = drop n s; at = n })
 
-here-next : {B : Type 0} (f : ℕ → Reader B) (s : List ℕ) (at : ℕ) → andThen (here s at) f ≡ f at s at
+pub here-next : {B : Type 0} (f : ℕ → Reader B) (s : List ℕ) (at : ℕ) → andThen (here s at) f ≡ f at s at
 unfolding here andThen
 here-next f s at = refl
 
