@@ -15,3 +15,4 @@ pub mod Points
 pub mod Turns
 pub mod Offsets
 pub mod ActionTurns
+pub mod RuleOffsets
