@@ -16,3 +16,4 @@ pub mod Turns
 pub mod Offsets
 pub mod ActionTurns
 pub mod RuleOffsets
+pub mod Rows
