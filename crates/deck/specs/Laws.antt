@@ -18,3 +18,5 @@ pub mod Offsets
 pub mod ActionTurns
 pub mod PartSteps
 pub mod DeckSteps
+pub mod RuleOffsets
+pub mod Rows
