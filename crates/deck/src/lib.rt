@@ -172,7 +172,7 @@ fn number_at(s: &[u8], at: usize, lo: usize, hi: usize) -> Byte
 
 // So many strictly rising numbers below hi, as a set.
 fn rising_at(s: &[u8], at: usize, count: usize, hi: usize) -> Set
-    requires { ⌜ hi ≤ 64 ⌝ }
+    requires { ⌜ (at ≤ length (now s)) × (hi ≤ 64) ⌝ }
     ensures { λ r. ⌜ Reads (now (s .entry)) (rising count 0 hi (drop at (now (s .entry))) at) (λ cs. r .mask ≡ maskOf cs) (r .step) ⌝ }
 {
     let mut mask: u64 = 0;
@@ -209,6 +209,7 @@ fn rising_at(s: &[u8], at: usize, count: usize, hi: usize) -> Set
 
 // So many labels.
 fn labels_at(s: &[u8], at: usize, count: usize) -> Step
+    requires { ⌜ at ≤ length (now s) ⌝ }
     ensures { λ r. ⌜ Reads (now (s .entry)) (times count (number 33 127) (drop at (now (s .entry))) at) (λ _. Unit {0}) r ⌝ }
 {
     let mut place = at;
