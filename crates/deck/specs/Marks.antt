@@ -195,6 +195,8 @@ ReadsFront s r after before =
     (r .channels ≡ m .channels)
     × (r .rules ≡ m .count)
     × (r .second ≡ m .rulesAt)
+    × (m .channels ≤ 32)
+    × (m .count ≤ 64)
     × (after ≡ flatMap ruleRow (m .rules) ++ drop (8 * m .count) before))
     (r .step)
 
