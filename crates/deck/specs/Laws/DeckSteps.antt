@@ -1,6 +1,6 @@
 -- The reading of a deck section by section, as the code makes it. Assumes nothing.
 use Prim.Native.Nat.{ℕ, zero, suc, _*_, _≤_}
-use mathlib.Core.Path.{_≡_, refl, sym, _∙_, ap, subst}
+use mathlib.Core.Path.{_≡_, refl, sym, _∙_, ap, ap₂, subst}
 use mathlib.Core.List.{List, [], _∷_, _++_}
 use lib.ListN.{length, drop, drop-of-length-le}
 use Rattle.lists.specs.Lists.{flatMap}
@@ -10,8 +10,12 @@ use Rattle.deck.specs.Reader.{Got, Reader, _>>=_, _>>_, andThen, give, h
 use Rattle.deck.specs.Marks.{MarkedRule, markedRule, MarkedFront, markedFront, MarkedPart, markedPart, Marked, markedSections, ruleRow, partRow, Reads}
 use Rattle.deck.specs.Laws.Offsets.{then-next, then-fault, reads-last}
 use Rattle.deck.specs.Laws.PartSteps.{gotAt, here-next}
+use Rattle.deck.specs.declared.Deck.{Deck}
 use Rattle.deck.specs.declared.Step.{Step}
 use Rattle.deck.specs.declared.Step.the-variants.{Next, Fault}
+
+abbrev deckOf : ℕ → ℕ → ℕ → ℕ → ℕ → Deck
+deckOf R M N second third = record { channels = R; rules = M; parts = N; second = second; third = third }
 
 -- ---- the first two sections
 
@@ -48,6 +52,11 @@ module _ (s : List ℕ) where
 
   -- ---- the third section
 
+  -- parts are read by the counts that the first two sections gave, which the code holds as R and M
+  pub same-parts : {R M : ℕ} (front : MarkedFront) (N a : ℕ) → R ≡ front .channels → M ≡ front .count
+      → times N (markedPart (front .channels) (front .count)) (drop a s) a ≡ times N (markedPart R M) (drop a s) a
+  same-parts front N a e f = ap₂ (λ R M. times N (markedPart R M) (drop a s) a) (sym e) (sym f)
+
   pub no-front : {n p : ℕ} → markedFront s 0 ≡ refused n p → markedSections s 0 ≡ refused n p
   unfolding markedSections _>>=_
   no-front e = then-fault _ e
@@ -75,3 +84,9 @@ module _ (s : List ℕ) where
         pub sections-end : drop b s ≡ [] → markedSections s 0 ≡ accepted (record { value = record { front = front; partsAt = third; count = N; parts = parts }; rest = []; at = b })
         unfolding end andThen give
         sections-end h = sections-last ∙ ap (λ l. andThen (end l b) (λ _. give (record { front = front; partsAt = third; count = N; parts = parts }))) h
+
+-- the counts and offsets of a deck that was read, which the code holds as R, M and second
+pub same-deck : {R M second : ℕ} (front : MarkedFront) (N third : ℕ) → R ≡ front .channels → M ≡ front .count → second ≡ front .rulesAt
+    → deckOf R M N second third ≡ deckOf (front .channels) (front .count) N (front .rulesAt) third
+same-deck {R} {M} {second} front N third e f g =
+    ap₂ (λ x y. deckOf x y N second third) e f ∙ ap (λ x. deckOf (front .channels) (front .count) N x third) g
