@@ -1,10 +1,8 @@
 -- `deck::action_at` meets its contract. The loop's invariant: i assignments were read, and `mask` is the set of their targets.
 -- Assumes nothing.
 use Prim.Native.Nat.{_≤_, _-_}
-use mathlib.Core.Path.{refl, ap}
 use native.Mathlib.Omega.{arith}
 use native.Mathlib.Nat.{sub-zero}
-use lib.Bits.{bitOr}
 use lib.ListN.{length, drop}
 use borrow.Author.Needs.{needs}
 use Rattle.lists.specs.Laws.Bits.{bit-shifted}

@@ -1,6 +1,5 @@
 -- `deck::judged` meets its contract: each of the two tests answers for its kind. Assumes nothing.
 use borrow.Author.Needs.{needs}
-use mathlib.Core.Path.{_∙_}
 use Rattle.deck.specs.Marks.{scopeOf}
 use Rattle.deck.proofs.judged.Statement.{statement}
 use Rattle.deck.proofs.judged.Tie as tie

@@ -1,8 +1,8 @@
 -- Laws of reading an action in turns, one assignment a turn, with the targets so far as a set. Assumes nothing.
-use Prim.Native.Nat.{ℕ, zero, suc, _+_, _-_, _≤_, _<_, _^_}
+use Prim.Native.Nat.{ℕ, suc, _+_, _-_, _≤_, _<_, _^_}
 use mathlib.Core.Path.{_≡_, refl, sym, ap, ap₂, _∙_, subst}
-use mathlib.Core.Bool.{Bool, true, false, not, _||_, or-comm}
-use mathlib.Core.List.{List, [], _∷_, _++_, map, map-append}
+use mathlib.Core.Bool.{not, _||_, or-comm}
+use mathlib.Core.List.{List, [], _∷_, map-append}
 use native.Mathlib.Omega.{arith}
 use lib.Bits.{bitOr}
 use lib.Dec.{eqb}
@@ -17,7 +17,6 @@ use Rattle.deck.specs.Deck.{Assignment, Action, targets}
 use Rattle.deck.specs.Reader.{Got, Reader, andThen, require, number, readers}
 use Rattle.deck.specs.Layout.{expression, assignments, action}
 use Rattle.deck.specs.Marks.{Reads, ReadsAssignment, assignment}
-use Rattle.deck.specs.declared.Step.{Step}
 use Rattle.deck.specs.declared.Step.the-variants.{Next, Fault}
 use Rattle.deck.specs.Laws.Turns.{Turns, first, turns-none, turn-next, turn-fault, turn-end}
 use Rattle.deck.specs.Laws.Offsets.{gotTo, then-next, then-fault}
@@ -29,9 +28,13 @@ unfolding andThen
 then-then (refused n p) f g k e = refl
 then-then (accepted x) f g k e = e (x .value) (x .rest) (x .at)
 
+-- n assignments after the assignment a
+abbrev others : Scope → ℕ → List ℕ → Assignment → Reader Action
+others sc n ts a = assignments sc n (a .target ∷ ts)
+
 -- one assignment, and the others by its target
 assignments-first : (sc : Scope) (n : ℕ) (ts : List ℕ) (s : List ℕ) (at : ℕ)
-    → assignments sc (suc n) ts s at ≡ first (assignment sc ts) (λ a. assignments sc n (a .target ∷ ts)) s at
+    → assignments sc (suc n) ts s at ≡ first (assignment sc ts) (others sc n ts) s at
 unfolding assignments assignment readers
 assignments-first sc n ts s at =
     then-then (number 0 (sc .owns) s at) _ _ _
@@ -66,7 +69,7 @@ module _ (sc : Scope) (s : List ℕ) (at : ℕ) where
 -- turn i of `count`, with an assignment to t
 module _ {sc : Scope} {o : Outcome (Got Action)} (count i : ℕ) (s : List ℕ) (place mask t : ℕ) where
   left : i < count → (w : Assigning sc o (count - i) s place mask)
-      → Turns o (first (assignment sc (w .ts)) (λ a. assignments sc (count - (i + 1)) (a .target ∷ w .ts)) (drop place s) place) (λ a. mask ≡ maskOf (targets a))
+      → Turns o (first (assignment sc (w .ts)) (others sc (count - (i + 1)) (w .ts)) (drop place s) place) (λ a. mask ≡ maskOf (targets a))
   left h w =
       let k : count - i ≡ suc (count - (i + 1)) = omega arith in
       subst (λ l. Turns o l (λ a. mask ≡ maskOf (targets a)))
@@ -80,8 +83,11 @@ module _ {sc : Scope} {o : Outcome (Got Action)} (count i : ℕ) (s : List ℕ) 
       let x = r (w .ts) (w .same) in
       record {
         ts = x .0 .target ∷ w .ts;
-        same = λ c. bit-or mask (2 ^ t) c ∙ ap₂ (λ a b. a || b) (w .same c) (bit-power t c ∙ ap (eqb c) (x .3 .0)) ∙ or-comm (member c (w .ts)) (eqb c (x .0 .target));
-        turns = turn-next (assignment sc (w .ts)) (λ a. assignments sc (count - (i + 1)) (a .target ∷ w .ts)) (drop place s) place (x .1)
+        same = λ c.
+            bit-or mask (2 ^ t) c
+            ∙ ap₂ (λ a b. a || b) (w .same c) (bit-power t c ∙ ap (eqb c) (x .3 .0))
+            ∙ or-comm (member c (w .ts)) (eqb c (x .0 .target));
+        turns = turn-next (assignment sc (w .ts)) (others sc (count - (i + 1)) (w .ts)) (drop place s) place (x .1)
             (λ l e.
             ap₂ (λ m c. bitOr m (2 ^ c)) e (x .3 .0)
             ∙ sym (mask-add (targets l) (x .0 .target))
@@ -92,7 +98,7 @@ module _ {sc : Scope} {o : Outcome (Got Action)} (count i : ℕ) (s : List ℕ) 
   pub assigning-fault : {n p : ℕ} → i < count → ReadsAssignment sc s place mask t (Fault n p)
       → Assigning sc o (count - i) s place mask → o ≡ refused n p
   assigning-fault h r w =
-      turn-fault (assignment sc (w .ts)) (λ a. assignments sc (count - (i + 1)) (a .target ∷ w .ts)) (drop place s) place (r (w .ts) (w .same)) (left h w)
+      turn-fault (assignment sc (w .ts)) (others sc (count - (i + 1)) (w .ts)) (drop place s) place (r (w .ts) (w .same)) (left h w)
 
 pub assigning-end : {sc : Scope} {o : Outcome (Got Action)} (count i : ℕ) (s : List ℕ) (place mask : ℕ) → count ≤ i → place ≤ length s
     → Assigning sc o (count - i) s place mask → Reads s o (λ a. mask ≡ maskOf (targets a)) (Next place)

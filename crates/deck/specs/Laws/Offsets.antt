@@ -1,12 +1,11 @@
 -- Laws of reading one thing after another at offsets of the whole deck, where the bytes left are `drop at s`: an expression,
 -- an assignment, a rule's task, a rule. Assumes nothing.
-use Prim.Native.Nat.{ℕ, zero, suc, _+_, _*_, _-_, _≤_, _<_}
-use mathlib.Core.Path.{_≡_, refl, sym, ap, ap₂, _∙_, subst}
+use Prim.Native.Nat.{ℕ, zero, suc, _+_, _-_, _≤_, _<_}
+use mathlib.Core.Path.{_≡_, refl, sym, ap, _∙_, subst}
 use mathlib.Core.Bool.{Bool, true, false, not}
 use mathlib.Core.List.{List, [], _∷_}
 use native.Mathlib.Omega.{arith}
 use native.Mathlib.Nat.{add-zero}
-use lib.Dec.{eqb}
 use lib.ListN.{length, take, drop, length-drop}
 use lib.Seq.{drop-drop}
 use Rattle.lists.specs.Lists.{member}
@@ -15,10 +14,9 @@ use Rattle.refusals.specs.Outcome.{Outcome, refused, accepted}
 use Rattle.refusals.specs.Numbers.{deckEnds, badExpression, repeatedTarget}
 use Rattle.expression.specs.Reading.{Scope, Read, got, nothing, wholeNum, wholeTruth}
 use Rattle.expression.specs.Answers.{isGot}
-use Rattle.deck.specs.Deck.{Assignment}
 use Rattle.deck.specs.Reader.{Got, Reader, andThen, _>>=_, give, fault, require, byte, number, times, readers}
-use Rattle.deck.specs.Layout.{judged, expression, layouts}
-use Rattle.deck.specs.Marks.{Reads, Kind, expressionFor, isWhole, assignment}
+use Rattle.deck.specs.Layout.{judged, expression}
+use Rattle.deck.specs.Marks.{Reads, expressionFor, isWhole, assignment}
 use Rattle.deck.specs.declared.Step.{Step}
 use Rattle.deck.specs.declared.Step.the-variants.{Next, Fault}
 use Rattle.deck.specs.Laws.Turns.{number-below}

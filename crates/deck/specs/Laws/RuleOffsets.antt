@@ -1,18 +1,18 @@
 -- Laws of reading a rule's task, and a rule, at an offset of the whole deck, with what the code keeps of them. Assumes nothing.
 use Prim.Native.Nat.{ℕ, zero, suc, _*_, _<_}
-use mathlib.Core.Path.{_≡_, refl, sym, ap, ap₂, _∙_, subst}
-use mathlib.Core.Bool.{Bool, true, false}
+use mathlib.Core.Path.{_≡_, refl, sym, ap, _∙_, subst}
+use mathlib.Core.Bool.{true}
 use mathlib.Core.List.{List, [], _∷_}
 use native.Mathlib.Omega.{arith}
 use native.Mathlib.Nat.{mul-zero, mul-one}
 use lib.Dec.{eqb}
 use lib.ListN.{drop}
 use Rattle.lists.specs.Bits.{maskOf}
-use Rattle.refusals.specs.Outcome.{Outcome, refused, accepted}
+use Rattle.refusals.specs.Outcome.{refused, accepted}
 use Rattle.expression.specs.Syntax.{Truth}
 use Rattle.expression.specs.Reading.{Scope, wholeTruth}
 use Rattle.deck.specs.Deck.{Action, targets}
-use Rattle.deck.specs.Reader.{Got, andThen, give, number, rising, readers}
+use Rattle.deck.specs.Reader.{number, rising, readers}
 use Rattle.deck.specs.Layout.{expression, ownOnly, ownAndFar, taskScope, action}
 use Rattle.deck.specs.Encoding.{kindByte}
 use Rattle.deck.specs.Marks.{Reads, scopeOf, expressionFor, MarkedTask, markedTask, MarkedRule, markedRule, ruleRow}
