@@ -10,7 +10,6 @@ ghost use Rattle.expression.specs.Values.{arith, join, compare};
 ghost use Rattle.expression.specs.Reading.{numOp, truthOp, word, signed, literalAt, channelAt, wholeNum, wholeTruth};
 ghost use Rattle.expression.specs.Answers.{mapRead, Answers, scope, valueIn, numAt, truthAt, endOf, checkAt, ofNum, ofTruth, ofCheck, operandsOf, bytesAt, endsAt, isGot, wholeNumValue, wholeTruthValue};
 
-
 // What two numbers make a number.
 pub enum Arith {
     Sum,
@@ -406,7 +405,11 @@ pub fn num_value(s: &[u8], own: &[i32], far: &[i32]) -> NumValue
 {
     match num_at(s, 0, own, far) {
         NumAt::Value(v, n) => {
-            if n == s.len() { NumValue::Value(v) } else { NumValue::None }
+            if n == s.len() {
+                NumValue::Value(v)
+            } else {
+                NumValue::None
+            }
         }
         NumAt::Nothing => NumValue::None,
     }
@@ -418,7 +421,11 @@ pub fn truth_value(s: &[u8], own: &[i32], far: &[i32]) -> TruthValue
 {
     match truth_at(s, 0, own, far) {
         TruthAt::Value(v, n) => {
-            if n == s.len() { TruthValue::Value(v) } else { TruthValue::None }
+            if n == s.len() {
+                TruthValue::Value(v)
+            } else {
+                TruthValue::None
+            }
         }
         TruthAt::Nothing => TruthValue::None,
     }
