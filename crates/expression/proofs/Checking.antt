@@ -1,6 +1,6 @@
 -- The type check: only the end of an expression counts, and it is known from the ends of its operands. Assumes nothing.
 use Prim.Native.Nat.{ℕ, suc, _+_, _-_, _<_, _≤_}
-use mathlib.Core.Path.{_≡_, refl, sym, ap, _∙_}
+use mathlib.Core.Path.{_≡_, refl, sym, _∙_}
 use mathlib.Core.Bool.{Bool, true, false}
 use mathlib.Core.List.{List}
 use native.Mathlib.Nat.{add-zero}
@@ -10,15 +10,17 @@ use lib.ListN.{length, getD}
 use borrow.Author.Tests.{leb-true}
 use Rattle.expression.specs.Syntax.{literal, own, far, two, negation}
 use Rattle.expression.specs.Syntax.{opposite, both, compared}
-use Rattle.expression.specs.Reading.{Read, got, nothing, onlyIf, Scope, literalAt, channelAt, numOp, truthOp, numOperands, truthOperands, num, truth}
-use Rattle.expression.specs.Answers.{mapRead, Ahead, Answers, endOf, checkAt, numOperandsOf, truthOperandsOf, operandsOf, bytesAt}
+use Rattle.expression.specs.Reading.{Read, got, nothing, onlyIf, literalAt, channelAt, numOp, truthOp}
+use Rattle.expression.specs.Reading.{Scope, numOperands, truthOperands, num, truth}
+use Rattle.expression.specs.Answers.{Ahead, Answers, endOf, checkAt, numOperandsOf, truthOperandsOf, operandsOf, bytesAt}
 use Rattle.expression.specs.declared.NumOp.{NumOp}
 use Rattle.expression.specs.declared.NumOp.the-variants as OfNum
 use Rattle.expression.specs.declared.TruthOp.{TruthOp}
 use Rattle.expression.specs.declared.TruthOp.the-variants as OfTruth
 use Rattle.expression.specs.declared.Operands.{Operands}
 use Rattle.expression.specs.declared.Operands.the-variants.{Bytes, OwnChannel, FarChannel, One, Two, Unknown}
-use Rattle.expression.proofs.Readings.{mapTwo, map-same, map-map, map-two, ahead-if, channel-ahead, num-end, truth-end, num-inside, truth-inside}
+use Rattle.expression.proofs.Readings.{mapTwo, map-same, map-map, map-two, ahead-if, channel-ahead}
+use Rattle.expression.proofs.Readings.{num-end, truth-end, num-inside, truth-inside}
 use Rattle.expression.proofs.Readings.{with-none, with-one, with-two, without-first}
 
 -- an end, and the end after it
@@ -88,7 +90,8 @@ pub record CheckHere (t : Bool) (sc : Scope) (s : List ℕ) (at : ℕ) (op : Ope
   pub is : op ≡ operandsOf t (getD s at 0)
 
 module _ {t : Bool} {sc : Scope} {s : List ℕ} {at : ℕ} {op : Operands} (h : CheckHere t sc s at op) where
-  step : (op′ : Operands) → op ≡ op′ → (g : ℕ) → checkAt t sc (suc g) s at ≡ checkStep op′ t sc s (at + 1) (λ t n. checkAt t sc g s n)
+  step : (op′ : Operands) → op ≡ op′ → (g : ℕ)
+      → checkAt t sc (suc g) s at ≡ checkStep op′ t sc s (at + 1) (λ t n. checkAt t sc g s n)
   step op′ e g = check-step t sc s at (h .inside) g ∙ rw (← h .is, e)
 
   pub as-bytes : {n : ℕ} {r : Read (Unit {0})} → op ≡ Bytes n → r ≡ bytesAt n s (at + 1) → Answers (checkAt t sc) s at r

@@ -19,7 +19,8 @@ use Rattle.expression.specs.declared.NumOp.{NumOp}
 use Rattle.expression.specs.declared.NumOp.the-variants as OfNum
 use Rattle.expression.specs.declared.TruthOp.{TruthOp}
 use Rattle.expression.specs.declared.TruthOp.the-variants as OfTruth
-use Rattle.expression.proofs.Readings.{mapTwo, map-same, map-map, map-one, map-two, literal-ahead, channel-ahead, num-end, truth-end, num-inside, truth-inside}
+use Rattle.expression.proofs.Readings.{mapTwo, map-same, map-map, map-one, map-two, literal-ahead, channel-ahead}
+use Rattle.expression.proofs.Readings.{num-end, truth-end, num-inside, truth-inside}
 use Rattle.expression.proofs.Readings.{with-none, with-one, with-two, without-first}
 
 -- what follows an operator, evaluated; `go` and `goNum` evaluate an operand at a place
@@ -124,7 +125,8 @@ module _ {o f : List ℤ} {s : List ℕ} {at : ℕ} {op : TruthOp} (h : TruthHer
   step-truth = truth-step o f s at (h .inside) (h .is)
 
   pub as-constant : {b : Bool} → op ≡ OfTruth.Constant b → Answers (truthAt o f) s at (got b (at + 1))
-  as-constant {b} e = with-none (truthAt o f) s at (h .inside) (got b (at + 1)) (omega (numbers, h .inside)) (step-truth (OfTruth.Constant b) e) refl
+  as-constant {b} e =
+      with-none (truthAt o f) s at (h .inside) (got b (at + 1)) (omega (numbers, h .inside)) (step-truth (OfTruth.Constant b) e) refl
 
   pub as-no-truth : op ≡ OfTruth.Unknown → Answers (truthAt o f) s at nothing
   as-no-truth e = with-none (truthAt o f) s at (h .inside) nothing tt (step-truth OfTruth.Unknown e) refl
@@ -142,8 +144,8 @@ module _ {o f : List ℤ} {s : List ℕ} {at : ℕ} {op : TruthOp} (h : TruthHer
     as-both-nothing = without-first (truthAt o f) s at (h .inside) (truthAt o f) (join k) (step-truth (OfTruth.Both k) e)
 
   module _ {k : Compare} (e : op ≡ OfTruth.Two k) where
-    pub as-compared : {r : Read Bool} {r′ : Read ℤ} {a : ℤ} {n : ℕ} → Answers (numAt o f) s (at + 1) (got a n) → Answers (numAt o f) s n r′
-        → r ≡ mapRead (compare k a) r′ → Answers (truthAt o f) s at r
+    pub as-compared : {r : Read Bool} {r′ : Read ℤ} {a : ℤ} {n : ℕ} → Answers (numAt o f) s (at + 1) (got a n)
+        → Answers (numAt o f) s n r′ → r ≡ mapRead (compare k a) r′ → Answers (truthAt o f) s at r
     as-compared = with-two (truthAt o f) s at (h .inside) (numAt o f) (compare k) (step-truth (OfTruth.Two k) e)
 
     pub as-compared-nothing : Answers (numAt o f) s (at + 1) nothing → Answers (truthAt o f) s at nothing

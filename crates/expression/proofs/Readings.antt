@@ -5,7 +5,6 @@ use mathlib.Core.Bool.{Bool, true, false}
 use mathlib.Core.List.{List}
 use native.Mathlib.Omega.{arith}
 use lib.Dec.{ltb, leb}
-use lib.IntN.{ℤ}
 use lib.ListN.{length, getD}
 use borrow.Author.Tests.{ltb-true, leb-true, lt-ltb, le-ltb}
 use Rattle.expression.specs.Reading.{Read, got, nothing, onlyIf, then, literalAt, channelAt, numOp, truthOp}
@@ -58,7 +57,8 @@ literal-ahead s at =
     let l : 4 ≤ length s - (at + 1) = leb-true 4 (length s - (at + 1)) e in
     (omega arith, omega arith)
 
-pub channel-ahead : {B : Type 0} (k : ℕ → B) (known : ℕ) (s : List ℕ) (at : ℕ) → Ahead at (length s) (mapRead k (channelAt known s (at + 1)))
+pub channel-ahead : {B : Type 0} (k : ℕ → B) (known : ℕ) (s : List ℕ) (at : ℕ)
+    → Ahead at (length s) (mapRead k (channelAt known s (at + 1)))
 channel-ahead k known s at =
     ahead-map k at (length s) (channelAt known s (at + 1))
     (ahead-if at (length s) (ltb (at + 1) (length s)) _ λ e.
@@ -94,12 +94,14 @@ abbrev pub Reader : Type 0 → Type 0
 Reader A = ℕ → List ℕ → ℕ → Read A
 
 module _ {B : Type 0} (out : Reader B) (s : List ℕ) (at : ℕ) (inside : at < length s) where
-  by-fuel : (r : Read B) → ((g : ℕ) → length s ≤ at + 1 + g → r ≡ out (suc g) s at) → (fuel : ℕ) → length s ≤ at + fuel → r ≡ out fuel s at
+  by-fuel : (r : Read B) → ((g : ℕ) → length s ≤ at + 1 + g → r ≡ out (suc g) s at)
+      → (fuel : ℕ) → length s ≤ at + fuel → r ≡ out fuel s at
   by-fuel r e zero l = absurd (omega arith)
   by-fuel r e (suc g) l = e g (omega arith)
 
   -- no operand is an expression
-  pub with-none : {r : Read B} (r′ : Read B) → Ahead at (length s) r′ → ((g : ℕ) → out (suc g) s at ≡ r′) → r ≡ r′ → Answers out s at r
+  pub with-none : {r : Read B} (r′ : Read B) → Ahead at (length s) r′ → ((g : ℕ) → out (suc g) s at ≡ r′)
+      → r ≡ r′ → Answers out s at r
   with-none r′ h e p = rw p (record { ahead = h; equal = by-fuel r′ (λ g l. sym (e g)) })
 
   module _ {A : Type 0} (go : Reader A) where
@@ -112,13 +114,14 @@ module _ {B : Type 0} (out : Reader B) (s : List ℕ) (at : ℕ) (inside : at < 
         })
 
     module _ (k : A → A → B) (e : (g : ℕ) → out (suc g) s at ≡ mapTwo k (go g s (at + 1)) (λ n. go g s n)) where
-      pub with-two : {r : Read B} {r′ : Read A} {a : A} {n : ℕ} → Answers go s (at + 1) (got a n) → Answers go s n r′ → r ≡ mapRead (k a) r′
-          → Answers out s at r
+      pub with-two : {r : Read B} {r′ : Read A} {a : A} {n : ℕ} → Answers go s (at + 1) (got a n) → Answers go s n r′
+          → r ≡ mapRead (k a) r′ → Answers out s at r
       with-two {r′} {a} {n} d d′ p =
+          let past : at + 1 < n = d .ahead .0 in
           rw p (record {
-            ahead = ahead-before at n (length s) (mapRead (k a) r′) (omega (arith, d .ahead .0)) (ahead-map (k a) n (length s) r′ (d′ .ahead));
+            ahead = ahead-before at n (length s) (mapRead (k a) r′) (omega arith) (ahead-map (k a) n (length s) r′ (d′ .ahead));
             equal = by-fuel (mapRead (k a) r′) (λ g l.
-                ap (mapRead (k a)) (d′ .equal g (omega (arith, d .ahead .0))) ∙ ap (λ x. mapTwo k x (λ m. go g s m)) (d .equal g l) ∙ sym (e g));
+                ap (mapRead (k a)) (d′ .equal g (omega arith)) ∙ ap (λ x. mapTwo k x (λ m. go g s m)) (d .equal g l) ∙ sym (e g));
           })
 
       pub without-first : Answers go s (at + 1) nothing → Answers out s at nothing

@@ -15,10 +15,12 @@ abbrev back : ℤ → ℤ
 back z = toZ w32 (ofZ w32 z)
 
 -- what a callee says of two arguments, and of a result as well
-pub read-back : {A : Type 0} (f : ℤ → ℤ → A) {a b : ℤ} {r : A} → SFits w32 a → SFits w32 b → r ≡ f (back a) (back b) → r ≡ f a b
+pub read-back : {A : Type 0} (f : ℤ → ℤ → A) {a b : ℤ} {r : A} → SFits w32 a → SFits w32 b
+    → r ≡ f (back a) (back b) → r ≡ f a b
 read-back f fa fb e = e ∙ rw (toZ-ofZ fa, toZ-ofZ fb)
 
-pub result-back : (f : ℤ → ℤ → ℤ) {a b r : ℤ} → SFits w32 r → SFits w32 a → SFits w32 b → r ≡ f (back a) (back b) → back r ≡ f a b
+pub result-back : (f : ℤ → ℤ → ℤ) {a b r : ℤ} → SFits w32 r → SFits w32 a → SFits w32 b
+    → r ≡ f (back a) (back b) → back r ≡ f a b
 result-back f fr fa fb e = toZ-ofZ fr ∙ read-back f fa fb e
 
 -- ---- two numbers are equal exactly where their bits are

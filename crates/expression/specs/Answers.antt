@@ -1,5 +1,5 @@
--- What the code answers. It reads and evaluates, or checks, in one pass, and builds no syntax: its answers are those of the
--- readers, with each expression's value, or nothing, in its place. Assumes nothing.
+-- What the code answers. It reads and evaluates, or checks, in one pass and builds no syntax, so its answers are what the
+-- readers give, with an expression's value, or only its end, in place of the expression. Assumes nothing.
 use Prim.Native.Nat.{ℕ, _-_, _+_, _<_, _≤_}
 use mathlib.Core.Path.{_≡_}
 use mathlib.Core.Bool.{Bool, true, false}

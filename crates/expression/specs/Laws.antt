@@ -8,4 +8,3 @@ pub mod NumSound
 pub mod NumComplete
 pub mod Truths
 pub mod Whole
-pub mod Agreement

@@ -2,13 +2,14 @@
 // The code goes over the bytes as they stand: it reads an operator and calls itself for each operand.
 
 ghost use mathlib.Core.Path.{_≡_};
-ghost use mathlib.Core.Bool.{not, _&&_, _||_};
+ghost use mathlib.Core.Bool.{not};
 ghost use Prim.Native.Nat.{_-_};
 ghost use lib.ListN.{length};
 ghost use Rattle.clamped.specs.Clamp.{negated};
 ghost use Rattle.expression.specs.Values.{arith, join, compare};
 ghost use Rattle.expression.specs.Reading.{numOp, truthOp, word, signed, literalAt, channelAt, wholeNum, wholeTruth};
-ghost use Rattle.expression.specs.Answers.{mapRead, Answers, scope, valueIn, numAt, truthAt, endOf, checkAt, ofNum, ofTruth, ofCheck, operandsOf, bytesAt, endsAt, isGot, wholeNumValue, wholeTruthValue};
+ghost use Rattle.expression.specs.Answers.{mapRead, Answers, scope, valueIn, numAt, truthAt, endOf, checkAt};
+ghost use Rattle.expression.specs.Answers.{ofNum, ofTruth, ofCheck, operandsOf, bytesAt, endsAt, isGot, wholeNumValue, wholeTruthValue};
 
 // What two numbers make a number.
 pub enum Arith {
@@ -88,6 +89,7 @@ pub enum TruthValue {
     None,
 }
 
+// Bytes that stand for no operator are `Unknown`.
 fn num_op(b: u8) -> NumOp
     ensures { λ r. ⌜ r ≡ numOp b ⌝ }
 {
@@ -140,7 +142,7 @@ fn word_of(a: u8, b: u8, c: u8, d: u8) -> u32
     (a as u32) + (b as u32) * 256 + (c as u32) * 65536 + (d as u32) * 16777216
 }
 
-// A signed number from its bits.
+// A signed number from its bits. `!x` is -1 - x, so that no step leaves the range of 32 bits.
 fn signed_of(n: u32) -> i32
     ensures { λ r. ⌜ r ≡ signed n ⌝ }
 {
@@ -152,6 +154,7 @@ fn signed_of(n: u32) -> i32
     }
 }
 
+// A literal's four bytes.
 fn literal_at(s: &[u8], at: usize) -> NumAt
     ensures { λ r. ⌜ ofNum r ≡ literalAt (now (s .entry)) at ⌝ }
 {
@@ -192,7 +195,7 @@ fn calculate(k: Arith, a: i32, b: i32) -> i32
     }
 }
 
-// A number and the operand after it.
+// An operation whose first operand is a: nothing where the second one is none.
 fn calculate_at(k: Arith, a: i32, operand: NumAt) -> NumAt
     ensures { λ r. ⌜ ofNum r ≡ mapRead (arith k a) (ofNum operand) ⌝ }
 {
@@ -304,6 +307,7 @@ pub fn truth_at(s: &[u8], at: usize, own: &[i32], far: &[i32]) -> TruthAt
 
 // ---- the type check
 
+// What follows the operator of a truth, or else of a number.
 fn operands_of(truth: bool, b: u8) -> Operands
     ensures { λ r. ⌜ r ≡ operandsOf truth b ⌝ }
 {
@@ -327,6 +331,7 @@ fn operands_of(truth: bool, b: u8) -> Operands
     }
 }
 
+// So many bytes, whatever they are.
 fn skip(s: &[u8], at: usize, n: usize) -> Checked
     ensures { λ r. ⌜ ofCheck r ≡ bytesAt n (now (s .entry)) at ⌝ }
 {

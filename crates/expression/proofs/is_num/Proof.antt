@@ -2,7 +2,7 @@
 use mathlib.Core.Path.{_∙_}
 use borrow.Author.Needs.{needs}
 use Rattle.expression.specs.Answers.{scope}
-use Rattle.expression.proofs.Whole.{ends-num}
+use Rattle.expression.proofs.WholeAnswers.{ends-num}
 use Rattle.expression.proofs.is_num.Statement.{statement}
 use Rattle.expression.proofs.is_num.Tie as tie
 

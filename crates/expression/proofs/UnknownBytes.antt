@@ -15,8 +15,9 @@ least b = omega arith
 after : (n b : ℕ) → n ≤ b → ¬ (b ≡ n) → suc n ≤ b
 after n b h k = omega arith
 
--- both kinds have seven operators, whose bytes follow each other
-beyond : (n b : ℕ) → n ≤ b → ¬ (b ≡ n) → ¬ (b ≡ suc n) → ¬ (b ≡ suc (suc n)) → ¬ (b ≡ suc (suc (suc n))) → ¬ (b ≡ suc (suc (suc (suc n)))) → ¬ (b ≡ suc (suc (suc (suc (suc n)))))
+-- both kinds have seven operators, whose bytes follow each other. Step by step, since `omega` takes six cases at most
+beyond : (n b : ℕ) → n ≤ b → ¬ (b ≡ n) → ¬ (b ≡ suc n) → ¬ (b ≡ suc (suc n)) → ¬ (b ≡ suc (suc (suc n)))
+    → ¬ (b ≡ suc (suc (suc (suc n)))) → ¬ (b ≡ suc (suc (suc (suc (suc n)))))
     → ¬ (b ≡ suc (suc (suc (suc (suc (suc n)))))) → suc (suc (suc (suc (suc (suc (suc n)))))) ≤ b
 beyond n b h n0 n1 n2 n3 n4 n5 n6 =
     after _ b (after _ b (after _ b (after _ b (after _ b (after _ b (after _ b h n0) n1) n2) n3) n4) n5) n6
