@@ -3,5 +3,6 @@ pub mod Syntax
 pub mod Values
 pub mod Reading
 pub mod Encoding
+pub mod Answers
 pub mod Laws
 pub mod Cases

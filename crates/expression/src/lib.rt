@@ -1,4 +1,15 @@
-// The operators of expressions, which the definitions in specs/ and the code share.
+// Expressions: their operators, and the code that evaluates and checks them. The definitions are in specs/.
+// The code goes over the bytes as they stand: it reads an operator and calls itself for each operand.
+
+ghost use mathlib.Core.Path.{_≡_};
+ghost use mathlib.Core.Bool.{not};
+ghost use Prim.Native.Nat.{_-_};
+ghost use lib.ListN.{length};
+ghost use Rattle.clamped.specs.Clamp.{negated};
+ghost use Rattle.expression.specs.Values.{arith, join, compare};
+ghost use Rattle.expression.specs.Reading.{numOp, truthOp, word, signed, literalAt, channelAt, wholeNum, wholeTruth};
+ghost use Rattle.expression.specs.Answers.{mapRead, Answers, scope, valueIn, numAt, truthAt, endOf, checkAt};
+ghost use Rattle.expression.specs.Answers.{ofNum, ofTruth, ofCheck, operandsOf, bytesAt, endsAt, isGot, wholeNumValue, wholeTruthValue};
 
 // What two numbers make a number.
 pub enum Arith {
@@ -36,4 +47,391 @@ pub enum TruthOp {
     Both(Join),
     Two(Compare),
     Unknown,
+}
+
+// A number's value and the place after it, or nothing where the bytes are no number.
+pub enum NumAt {
+    Value(i32, usize),
+    Nothing,
+}
+
+// A truth's value and the place after it, or nothing where the bytes are no truth.
+pub enum TruthAt {
+    Value(bool, usize),
+    Nothing,
+}
+
+// The place after an expression, or nothing where the bytes are none.
+pub enum Checked {
+    End(usize),
+    Nothing,
+}
+
+// What follows an operator: so many bytes, a channel's number, one operand of the operator's own kind, two truths or two numbers.
+pub enum Operands {
+    Bytes(usize),
+    OwnChannel,
+    FarChannel,
+    One,
+    Two(bool),
+    Unknown,
+}
+
+// The value of a whole number, or none where the bytes are no number.
+pub enum NumValue {
+    Value(i32),
+    None,
+}
+
+// The value of a whole truth, or none where the bytes are no truth.
+pub enum TruthValue {
+    Value(bool),
+    None,
+}
+
+// Bytes that stand for no operator are `Unknown`.
+fn num_op(b: u8) -> NumOp
+    ensures { λ r. ⌜ r ≡ numOp b ⌝ }
+{
+    match b {
+        0 => NumOp::Literal,
+        1 => NumOp::Own,
+        2 => NumOp::Far,
+        3 => NumOp::Two(Arith::Sum),
+        4 => NumOp::Two(Arith::Difference),
+        5 => NumOp::Two(Arith::Product),
+        6 => NumOp::Negation,
+        _ => NumOp::Unknown,
+    }
+}
+
+fn truth_op(b: u8) -> TruthOp
+    ensures { λ r. ⌜ r ≡ truthOp b ⌝ }
+{
+    match b {
+        16 => TruthOp::Constant(false),
+        17 => TruthOp::Constant(true),
+        18 => TruthOp::Not,
+        19 => TruthOp::Both(Join::And),
+        20 => TruthOp::Both(Join::Or),
+        21 => TruthOp::Two(Compare::Less),
+        22 => TruthOp::Two(Compare::Equal),
+        _ => TruthOp::Unknown,
+    }
+}
+
+// ---- bytes
+
+fn wide(b: u8) -> usize
+    ensures { λ r. ⌜ r ≡ b ⌝ }
+{
+    b as usize
+}
+
+// How many bytes stand from a place on.
+fn left(s: &[u8], at: usize) -> usize
+    ensures { λ r. ⌜ r ≡ length (now (s .entry)) - at ⌝ }
+{
+    if at < s.len() { s.len() - at } else { 0 }
+}
+
+// Four bytes, low byte first.
+fn word_of(a: u8, b: u8, c: u8, d: u8) -> u32
+    ensures { λ r. ⌜ r ≡ word a b c d ⌝ }
+{
+    (a as u32) + (b as u32) * 256 + (c as u32) * 65536 + (d as u32) * 16777216
+}
+
+// A signed number from its bits. `!x` is -1 - x, so that no step leaves the range of 32 bits.
+fn signed_of(n: u32) -> i32
+    ensures { λ r. ⌜ r ≡ signed n ⌝ }
+{
+    if n < 2147483648 {
+        n as i32
+    } else {
+        let below = (4294967295 - n) as i32;
+        !below
+    }
+}
+
+// A literal's four bytes.
+fn literal_at(s: &[u8], at: usize) -> NumAt
+    ensures { λ r. ⌜ ofNum r ≡ literalAt (now (s .entry)) at ⌝ }
+{
+    if left(s, at) < 4 {
+        return NumAt::Nothing;
+    }
+    let word = word_of(s[at], s[at + 1], s[at + 2], s[at + 3]);
+    let next = at + 4;
+    NumAt::Value(signed_of(word), next)
+}
+
+// The value of one of the channels xs, by its number.
+fn channel_at(s: &[u8], at: usize, xs: &[i32]) -> NumAt
+    ensures { λ r. ⌜ ofNum r ≡ mapRead (valueIn (now (xs .entry))) (channelAt (length (now (xs .entry))) (now (s .entry)) at) ⌝ }
+{
+    if s.len() <= at {
+        return NumAt::Nothing;
+    }
+    let c = wide(s[at]);
+    let next = at + 1;
+    if c < xs.len() {
+        let v = xs[c];
+        NumAt::Value(v, next)
+    } else {
+        NumAt::Nothing
+    }
+}
+
+// ---- the evaluator
+
+fn calculate(k: Arith, a: i32, b: i32) -> i32
+    ensures { λ r. ⌜ r ≡ arith k a b ⌝ }
+{
+    match k {
+        Arith::Sum => clamped::add(a, b),
+        Arith::Difference => clamped::sub(a, b),
+        Arith::Product => clamped::mul(a, b),
+    }
+}
+
+// An operation whose first operand is a: nothing where the second one is none.
+fn calculate_at(k: Arith, a: i32, operand: NumAt) -> NumAt
+    ensures { λ r. ⌜ ofNum r ≡ mapRead (arith k a) (ofNum operand) ⌝ }
+{
+    match operand {
+        NumAt::Value(b, n) => NumAt::Value(calculate(k, a, b), n),
+        NumAt::Nothing => NumAt::Nothing,
+    }
+}
+
+fn negate_at(operand: NumAt) -> NumAt
+    ensures { λ r. ⌜ ofNum r ≡ mapRead negated (ofNum operand) ⌝ }
+{
+    match operand {
+        NumAt::Value(a, n) => NumAt::Value(clamped::neg(a), n),
+        NumAt::Nothing => NumAt::Nothing,
+    }
+}
+
+// The number at a place of s, with the values of the own and of the far channels.
+pub fn num_at(s: &[u8], at: usize, own: &[i32], far: &[i32]) -> NumAt
+    ensures { λ r. ⌜ Answers (numAt (now (own .entry)) (now (far .entry))) (now (s .entry)) at (ofNum r) ⌝ }
+{
+    if s.len() <= at {
+        return NumAt::Nothing;
+    }
+    let op = num_op(s[at]);
+    let next = at + 1;
+    match op {
+        NumOp::Literal => literal_at(s, next),
+        NumOp::Own => channel_at(s, next, own),
+        NumOp::Far => channel_at(s, next, far),
+        NumOp::Two(k) => match num_at(s, next, own, far) {
+            NumAt::Value(a, n) => calculate_at(k, a, num_at(s, n, own, far)),
+            NumAt::Nothing => NumAt::Nothing,
+        },
+        NumOp::Negation => negate_at(num_at(s, next, own, far)),
+        NumOp::Unknown => NumAt::Nothing,
+    }
+}
+
+fn join_truths(k: Join, p: bool, q: bool) -> bool
+    ensures { λ r. ⌜ r ≡ join k p q ⌝ }
+{
+    match k {
+        Join::And => p && q,
+        Join::Or => p || q,
+    }
+}
+
+fn join_at(k: Join, p: bool, operand: TruthAt) -> TruthAt
+    ensures { λ r. ⌜ ofTruth r ≡ mapRead (join k p) (ofTruth operand) ⌝ }
+{
+    match operand {
+        TruthAt::Value(q, n) => TruthAt::Value(join_truths(k, p, q), n),
+        TruthAt::Nothing => TruthAt::Nothing,
+    }
+}
+
+fn not_at(operand: TruthAt) -> TruthAt
+    ensures { λ r. ⌜ ofTruth r ≡ mapRead not (ofTruth operand) ⌝ }
+{
+    match operand {
+        TruthAt::Value(p, n) => TruthAt::Value(!p, n),
+        TruthAt::Nothing => TruthAt::Nothing,
+    }
+}
+
+fn compare_nums(k: Compare, a: i32, b: i32) -> bool
+    ensures { λ r. ⌜ r ≡ compare k a b ⌝ }
+{
+    match k {
+        Compare::Less => a < b,
+        Compare::Equal => a == b,
+    }
+}
+
+fn compare_at(k: Compare, a: i32, operand: NumAt) -> TruthAt
+    ensures { λ r. ⌜ ofTruth r ≡ mapRead (compare k a) (ofNum operand) ⌝ }
+{
+    match operand {
+        NumAt::Value(b, n) => TruthAt::Value(compare_nums(k, a, b), n),
+        NumAt::Nothing => TruthAt::Nothing,
+    }
+}
+
+// The truth at a place of s, with the values of the own and of the far channels.
+pub fn truth_at(s: &[u8], at: usize, own: &[i32], far: &[i32]) -> TruthAt
+    ensures { λ r. ⌜ Answers (truthAt (now (own .entry)) (now (far .entry))) (now (s .entry)) at (ofTruth r) ⌝ }
+{
+    if s.len() <= at {
+        return TruthAt::Nothing;
+    }
+    let op = truth_op(s[at]);
+    let next = at + 1;
+    match op {
+        TruthOp::Constant(p) => TruthAt::Value(p, next),
+        TruthOp::Not => not_at(truth_at(s, next, own, far)),
+        TruthOp::Both(k) => match truth_at(s, next, own, far) {
+            TruthAt::Value(p, n) => join_at(k, p, truth_at(s, n, own, far)),
+            TruthAt::Nothing => TruthAt::Nothing,
+        },
+        TruthOp::Two(k) => match num_at(s, next, own, far) {
+            NumAt::Value(a, n) => compare_at(k, a, num_at(s, n, own, far)),
+            NumAt::Nothing => TruthAt::Nothing,
+        },
+        TruthOp::Unknown => TruthAt::Nothing,
+    }
+}
+
+// ---- the type check
+
+// What follows the operator of a truth, or else of a number.
+fn operands_of(truth: bool, b: u8) -> Operands
+    ensures { λ r. ⌜ r ≡ operandsOf truth b ⌝ }
+{
+    if truth {
+        match truth_op(b) {
+            TruthOp::Constant(_) => Operands::Bytes(0),
+            TruthOp::Not => Operands::One,
+            TruthOp::Both(_) => Operands::Two(true),
+            TruthOp::Two(_) => Operands::Two(false),
+            TruthOp::Unknown => Operands::Unknown,
+        }
+    } else {
+        match num_op(b) {
+            NumOp::Literal => Operands::Bytes(4),
+            NumOp::Own => Operands::OwnChannel,
+            NumOp::Far => Operands::FarChannel,
+            NumOp::Two(_) => Operands::Two(false),
+            NumOp::Negation => Operands::One,
+            NumOp::Unknown => Operands::Unknown,
+        }
+    }
+}
+
+// So many bytes, whatever they are.
+fn skip(s: &[u8], at: usize, n: usize) -> Checked
+    ensures { λ r. ⌜ ofCheck r ≡ bytesAt n (now (s .entry)) at ⌝ }
+{
+    if n <= left(s, at) {
+        Checked::End(at + n)
+    } else {
+        Checked::Nothing
+    }
+}
+
+// A channel's number, of n that are known.
+fn known_at(s: &[u8], at: usize, n: usize) -> Checked
+    ensures { λ r. ⌜ ofCheck r ≡ endOf (channelAt n (now (s .entry)) at) ⌝ }
+{
+    if s.len() <= at {
+        return Checked::Nothing;
+    }
+    if wide(s[at]) < n {
+        Checked::End(at + 1)
+    } else {
+        Checked::Nothing
+    }
+}
+
+// Whether a truth, or else a number, stands at a place of s, with so many own and far channels known, and where it ends.
+pub fn check_at(s: &[u8], at: usize, truth: bool, own: usize, far: usize) -> Checked
+    ensures { λ r. ⌜ Answers (checkAt truth (scope own far)) (now (s .entry)) at (ofCheck r) ⌝ }
+{
+    if s.len() <= at {
+        return Checked::Nothing;
+    }
+    let op = operands_of(truth, s[at]);
+    let next = at + 1;
+    match op {
+        Operands::Bytes(n) => skip(s, next, n),
+        Operands::OwnChannel => known_at(s, next, own),
+        Operands::FarChannel => known_at(s, next, far),
+        Operands::One => check_at(s, next, truth, own, far),
+        Operands::Two(kind) => match check_at(s, next, kind, own, far) {
+            Checked::End(n) => check_at(s, n, kind, own, far),
+            Checked::Nothing => Checked::Nothing,
+        },
+        Operands::Unknown => Checked::Nothing,
+    }
+}
+
+// ---- whole expressions
+
+// Whether what was checked ends with the bytes, so that nothing stands after it.
+fn ends(s: &[u8], r: Checked) -> bool
+    ensures { λ b. ⌜ b ≡ endsAt (length (now (s .entry))) (ofCheck r) ⌝ }
+{
+    match r {
+        Checked::End(n) => n == s.len(),
+        Checked::Nothing => false,
+    }
+}
+
+// Whether the bytes are a number.
+pub fn is_num(s: &[u8], own: usize, far: usize) -> bool
+    ensures { λ r. ⌜ r ≡ isGot (wholeNum (scope own far) (now (s .entry))) ⌝ }
+{
+    ends(s, check_at(s, 0, false, own, far))
+}
+
+// Whether the bytes are a truth.
+pub fn is_truth(s: &[u8], own: usize, far: usize) -> bool
+    ensures { λ r. ⌜ r ≡ isGot (wholeTruth (scope own far) (now (s .entry))) ⌝ }
+{
+    ends(s, check_at(s, 0, true, own, far))
+}
+
+// The value of the number that the bytes are.
+pub fn num_value(s: &[u8], own: &[i32], far: &[i32]) -> NumValue
+    ensures { λ r. ⌜ r ≡ wholeNumValue (now (own .entry)) (now (far .entry)) (now (s .entry)) ⌝ }
+{
+    match num_at(s, 0, own, far) {
+        NumAt::Value(v, n) => {
+            if n == s.len() {
+                NumValue::Value(v)
+            } else {
+                NumValue::None
+            }
+        }
+        NumAt::Nothing => NumValue::None,
+    }
+}
+
+// The value of the truth that the bytes are.
+pub fn truth_value(s: &[u8], own: &[i32], far: &[i32]) -> TruthValue
+    ensures { λ r. ⌜ r ≡ wholeTruthValue (now (own .entry)) (now (far .entry)) (now (s .entry)) ⌝ }
+{
+    match truth_at(s, 0, own, far) {
+        TruthAt::Value(v, n) => {
+            if n == s.len() {
+                TruthValue::Value(v)
+            } else {
+                TruthValue::None
+            }
+        }
+        TruthAt::Nothing => TruthValue::None,
+    }
 }

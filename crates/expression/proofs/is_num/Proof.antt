@@ -1,0 +1,15 @@
+-- `expression::is_num` meets its contract. Assumes nothing.
+use mathlib.Core.Path.{_∙_}
+use borrow.Author.Needs.{needs}
+use Rattle.expression.specs.Answers.{scope}
+use Rattle.expression.proofs.WholeAnswers.{ends-num}
+use Rattle.expression.proofs.is_num.Statement.{statement}
+use Rattle.expression.proofs.is_num.Tie as tie
+
+returns : tie.Need-returns
+returns c =
+    let a = c .before .before .before .args in
+    c .ends .ensures ∙ ends-num (scope (a .own) (a .far)) (a .s .now) (c .before .check-at .ensures)
+
+pub is-num-spec : {M : Type 1} → statement M
+is-num-spec = tie.close (tie.spec (λ c κs. search needs) (λ c κs. search needs) returns)
