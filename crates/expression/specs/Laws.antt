@@ -8,3 +8,4 @@ pub mod NumSound
 pub mod NumComplete
 pub mod Truths
 pub mod Whole
+pub mod Agreement

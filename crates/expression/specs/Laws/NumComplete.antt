@@ -9,12 +9,12 @@ use lib.IntN.{ℤ}
 use lib.ListN.{length, getD, drop, length-append, length-drop}
 use lib.Seq.{getD-drop}
 use borrow.Author.Tests.{lt-ltb, le-leb}
+use Rattle.lists.specs.Laws.Booleans.{and-left, and-right}
 use Rattle.expression.specs.Syntax.{Num, literal, own, far, two, negation}
 use Rattle.expression.specs.Reading.{Read, got, then, literalAt, channelAt, Scope, numOperands, num, readingExpressions}
 use Rattle.expression.specs.Encoding.{encodeValue, encodeNum, fits, goodNum, encodingExpressions}
 use Rattle.expression.specs.declared.NumOp.{NumOp}
 use Rattle.expression.specs.declared.NumOp.the-variants as OfNum
-use Rattle.expression.specs.Laws.Bytes.{and-left, and-right}
 use Rattle.expression.specs.Laws.Value.{FourBytes, four-bytes}
 use Rattle.expression.specs.Laws.Spans.{starts-inside, starts-byte, starts-then}
 use Rattle.expression.specs.Laws.Operators.{numByte, num-op}

@@ -7,12 +7,13 @@ use native.Mathlib.Omega.{arith}
 use lib.Dec.{ltb}
 use lib.ListN.{length, getD}
 use borrow.Author.Tests.{ltb-true, leb-true}
+use Rattle.lists.specs.Laws.Booleans.{and-both}
 use Rattle.expression.specs.Syntax.{Num}
 use Rattle.expression.specs.Reading.{Read, literalAt, channelAt, numOp, Scope, numOperands, num, readingExpressions}
 use Rattle.expression.specs.Encoding.{encodeValue, encodeNum, fits, goodNum, encodingExpressions}
 use Rattle.expression.specs.declared.NumOp.{NumOp}
 use Rattle.expression.specs.declared.NumOp.the-variants as OfNum
-use Rattle.expression.specs.Laws.Bytes.{Bytes, byte-below, and-both}
+use Rattle.expression.specs.Laws.Bytes.{Bytes, byte-below}
 use Rattle.expression.specs.Laws.Value.{encode-word, word-fits}
 use Rattle.expression.specs.Laws.Spans.{Spans, span-one, span-append}
 use Rattle.expression.specs.Laws.Holds.{Holds, held, none, onlyIf-holds, then-holds}
@@ -56,7 +57,7 @@ module _ (sc : Scope) (s : List ℕ) (bytes : Bytes s) where
   num-operands-sound OfNum.Far at go o h = then-holds _ (channel-sound (sc .fars) (at + 1)) λ c n p. held (p .0, span-append s (o tt) (p .1))
   num-operands-sound (OfNum.Two k) at go o h =
       then-holds _ (h (at + 1)) λ a n p. then-holds _ (h n) λ b m q.
-      held (and-both _ _ (p .0) (q .0), span-append s (span-append s (o tt) (p .1)) (q .1))
+      held (and-both (p .0) (q .0), span-append s (span-append s (o tt) (p .1)) (q .1))
   num-operands-sound OfNum.Negation at go o h = then-holds _ (h (at + 1)) λ a n p. held (p .0, span-append s (o tt) (p .1))
   num-operands-sound OfNum.Unknown at go o h = none
 

@@ -7,12 +7,13 @@ use mathlib.Core.List.{List, [], _∷_, _++_}
 use native.Mathlib.Omega.{arith}
 use lib.ListN.{length, getD, drop}
 use borrow.Author.Tests.{ltb-true, lt-ltb}
+use Rattle.lists.specs.Laws.Booleans.{and-both, and-left, and-right}
 use Rattle.expression.specs.Syntax.{Num, Truth, constant, opposite, both, compared}
 use Rattle.expression.specs.Reading.{Read, got, Scope, num, truthOp, truthOperands, truth, readingExpressions}
 use Rattle.expression.specs.Encoding.{encodeNum, encodeTruth, goodNum, goodTruth, encodingExpressions}
 use Rattle.expression.specs.declared.TruthOp.{TruthOp}
 use Rattle.expression.specs.declared.TruthOp.the-variants as OfTruth
-use Rattle.expression.specs.Laws.Bytes.{Bytes, and-left, and-right, and-both}
+use Rattle.expression.specs.Laws.Bytes.{Bytes}
 use Rattle.expression.specs.Laws.Spans.{Spans, span-one, span-append, starts-inside, starts-byte, starts-then}
 use Rattle.expression.specs.Laws.Holds.{Holds, held, none, onlyIf-holds, then-holds}
 use Rattle.expression.specs.Laws.Operators.{truthByte, truth-byte, truth-op, KnownTruth}
@@ -32,10 +33,10 @@ module _ (sc : Scope) (s : List ℕ) (bytes : Bytes s) where
   truth-operands-sound OfTruth.Not at go goNum o h i = then-holds _ (h (at + 1)) λ t n p. held (p .0, span-append s (o tt) (p .1))
   truth-operands-sound (OfTruth.Both k) at go goNum o h i =
       then-holds _ (h (at + 1)) λ a n p. then-holds _ (h n) λ b m q. held
-      (and-both _ _ (p .0) (q .0), span-append s (span-append s (o tt) (p .1)) (q .1))
+      (and-both (p .0) (q .0), span-append s (span-append s (o tt) (p .1)) (q .1))
   truth-operands-sound (OfTruth.Two k) at go goNum o h i =
       then-holds _ (i (at + 1)) λ a n p. then-holds _ (i n) λ b m q. held
-      (and-both _ _ (p .0) (q .0), span-append s (span-append s (o tt) (p .1)) (q .1))
+      (and-both (p .0) (q .0), span-append s (span-append s (o tt) (p .1)) (q .1))
   truth-operands-sound OfTruth.Unknown at go goNum o h i = none
 
   pub truth-sound : (fuel at : ℕ) → Holds (TruthAt at) (truth sc fuel s at)
