@@ -12,6 +12,7 @@ pub mod Prefix
 pub mod Scoped
 pub mod Marks
 pub mod Points
+pub mod DeckPoints
 pub mod Turns
 pub mod Stretches
 pub mod Offsets

@@ -28,17 +28,17 @@ unfolding andThen
 then-inv (refused n p) f g e = refused≢accepted e
 then-inv (accepted x) f g e = (x, refl, e)
 
-then-tracks : {A B : Type 0} (r : Reader A) (f : A → Reader B) → Tracks r → ((a : A) → Tracks (f a)) → Tracks (λ s at. andThen (r s at) f)
+pub then-tracks : {A B : Type 0} (r : Reader A) (f : A → Reader B) → Tracks r → ((a : A) → Tracks (f a)) → Tracks (λ s at. andThen (r s at) f)
 then-tracks r f tr tf s at g e =
     let i = then-inv (r (drop at s) at) f g e in
     let x = i .0 in
     tf (x .value) s (x .at) g (ap (λ l. f (x .value) l (x .at)) (sym (tr s at x (i .1))) ∙ i .2)
 
-give-tracks : {A : Type 0} (a : A) → Tracks (give a)
+pub give-tracks : {A : Type 0} (a : A) → Tracks (give a)
 unfolding give
 give-tracks a s at g e = ap (λ x. x .rest) (sym (accepted-inj e)) ∙ ap (λ x. drop (x .at) s) (accepted-inj e)
 
-here-tracks : Tracks here
+pub here-tracks : Tracks here
 unfolding here
 here-tracks s at g e = ap (λ x. x .rest) (sym (accepted-inj e)) ∙ ap (λ x. drop (x .at) s) (accepted-inj e)
 
@@ -59,18 +59,18 @@ byte-tracks s at g e = go (drop at s) refl e
     go (b ∷ t) d e =
         ap (λ x. x .rest) (sym (accepted-inj e)) ∙ drop-tail at s t b d ∙ ap (λ x. drop (x .at) s) (accepted-inj e)
 
-number-tracks : (lo hi : ℕ) → Tracks (number lo hi)
+pub number-tracks : (lo hi : ℕ) → Tracks (number lo hi)
 unfolding number _>>=_ _>>_
 number-tracks lo hi =
     then-tracks here _ here-tracks
     (λ at. then-tracks byte _ byte-tracks (λ b. then-tracks (require (leb lo b && ltb b hi) 2 at) _ (require-tracks (leb lo b && ltb b hi) 2 at) (λ _. give-tracks b)))
 
-times-tracks : {A : Type 0} (r : Reader A) → Tracks r → (n : ℕ) → Tracks (times n r)
+pub times-tracks : {A : Type 0} (r : Reader A) → Tracks r → (n : ℕ) → Tracks (times n r)
 unfolding times _>>=_
 times-tracks r t zero = give-tracks []
 times-tracks r t (suc n) = then-tracks r _ t (λ x. then-tracks (times n r) _ (times-tracks r t n) (λ xs. give-tracks (x ∷ xs)))
 
-rising-tracks : (n lo hi : ℕ) → Tracks (rising n lo hi)
+pub rising-tracks : (n lo hi : ℕ) → Tracks (rising n lo hi)
 unfolding rising _>>=_
 rising-tracks zero lo hi = give-tracks []
 rising-tracks (suc n) lo hi =
@@ -81,7 +81,7 @@ unfolding judged fault
 judged-tracks p (got a n) s at g e = give-tracks a s at g e
 judged-tracks p nothing s at g e = refused≢accepted e
 
-expression-tracks : {A : Type 0} (whole : List ℕ → Read A) → Tracks (expression whole)
+pub expression-tracks : {A : Type 0} (whole : List ℕ → Read A) → Tracks (expression whole)
 unfolding expression _>>=_
 expression-tracks whole =
     then-tracks (number 1 65) _ (number-tracks 1 65)
@@ -100,7 +100,7 @@ assignments-tracks sc (suc n) ts =
     then-tracks (expression (wholeNum sc)) _ (expression-tracks (wholeNum sc))
     (λ e. then-tracks (assignments sc n (t ∷ ts)) _ (assignments-tracks sc n (t ∷ ts)) (λ rest. give-tracks (record { target = t; value = e } ∷ rest))))))
 
-action-tracks : (sc : Scope) → Tracks (action sc)
+pub action-tracks : (sc : Scope) → Tracks (action sc)
 unfolding action _>>=_
 action-tracks sc = then-tracks (number 0 5) _ (number-tracks 0 5) (λ n. assignments-tracks sc n [])
 
@@ -126,18 +126,18 @@ pub record PartPoints (R : ℕ) (s : List ℕ) (m : MarkedPart) : Type 0 where
   pub limit : ReadsAt s (expression (wholeTruth (ownOnly R))) (m .limitAt) (m .part .limit)
 
 -- one step of a reading that went well: what was read, and that the rest goes well from there
-then-at : {A B : Type 0} (r : Reader A) (f : A → Reader B) → Tracks r → (s : List ℕ) (at : ℕ) (g : Got B) → andThen (r (drop at s) at) f ≡ accepted g
+pub then-at : {A B : Type 0} (r : Reader A) (f : A → Reader B) → Tracks r → (s : List ℕ) (at : ℕ) (g : Got B) → andThen (r (drop at s) at) f ≡ accepted g
     → (x : Got A) × (r (drop at s) at ≡ accepted x) × (f (x .value) (drop (x .at) s) (x .at) ≡ accepted g)
 then-at r f t s at g e =
     let i = then-inv (r (drop at s) at) f g e in
     let x = i .0 in
     (x, i .1, ap (λ l. f (x .value) l (x .at)) (sym (t s at x (i .1))) ∙ i .2)
 
-here-at : {B : Type 0} (f : ℕ → Reader B) (s : List ℕ) (at : ℕ) (g : Got B) → andThen (here s at) f ≡ accepted g → f at s at ≡ accepted g
+pub here-at : {B : Type 0} (f : ℕ → Reader B) (s : List ℕ) (at : ℕ) (g : Got B) → andThen (here s at) f ≡ accepted g → f at s at ≡ accepted g
 unfolding here andThen
 here-at f s at g e = e
 
-given : {A : Type 0} (a : A) (s : List ℕ) (at : ℕ) (g : Got A) → give a s at ≡ accepted g → a ≡ g .value
+pub given : {A : Type 0} (a : A) (s : List ℕ) (at : ℕ) (g : Got A) → give a s at ≡ accepted g → a ≡ g .value
 unfolding give
 given a s at g e = ap (λ x. x .value) (accepted-inj e)
 
@@ -156,7 +156,7 @@ task-points R s at g e =
       action = reads-at (action scope) (action-tracks scope) s (i5 .0 .at) (i6 .0) (i6 .1);
     })
 
-task-tracks : (R : ℕ) → Tracks (markedTask R)
+pub task-tracks : (R : ℕ) → Tracks (markedTask R)
 unfolding markedTask _>>=_
 task-tracks R =
     then-tracks (number 0 2) _ (number-tracks 0 2)
@@ -180,7 +180,7 @@ rule-points R s at g e =
       task = task-points R s (i3 .0 .at) (i4 .0) (i4 .1);
     })
 
-value-tracks : Tracks value
+pub value-tracks : Tracks value
 unfolding value _>>=_
 value-tracks =
     then-tracks byte _ byte-tracks
