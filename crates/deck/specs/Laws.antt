@@ -10,3 +10,4 @@ pub mod Reading
 pub mod Within
 pub mod Prefix
 pub mod Scoped
+pub mod Shape

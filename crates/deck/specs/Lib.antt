@@ -4,5 +4,6 @@ pub mod Deck
 pub mod Reader
 pub mod Layout
 pub mod Encoding
+pub mod Shape
 pub mod Laws
 pub mod Cases

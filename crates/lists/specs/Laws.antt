@@ -10,3 +10,4 @@ pub mod Alls
 pub mod Equalities
 pub mod Anys
 pub mod Statements
+pub mod Bits
