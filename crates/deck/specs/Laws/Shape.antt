@@ -50,11 +50,11 @@ module _ (rules parts : List ℕ) (R′ M′ N′ : ℕ) where
 
   pub shape-M : M d ≡ M′
   unfolding M shapes
-  shape-M = length-map (below M′) ∙ below-length M′
+  shape-M = length-map (below M′) (ruleShape rules) ∙ below-length M′
 
   pub shape-N : N d ≡ N′
   unfolding N shapes
-  shape-N = length-map (below N′) ∙ below-length N′
+  shape-N = length-map (below N′) (partShape parts) ∙ below-length N′
 
   pub shape-rule : (r : ℕ) → r < M′ → ruleAt d r ≡ ruleShape rules r
   unfolding ruleAt shapeOf
