@@ -4,3 +4,5 @@ pub mod Reach
 pub mod Edges
 pub mod Cycles
 pub mod Targets
+pub mod Agreement
+pub mod FirstCycle
