@@ -6,3 +6,4 @@ pub mod Cycles
 pub mod Targets
 pub mod Agreement
 pub mod FirstCycle
+pub mod Shape
