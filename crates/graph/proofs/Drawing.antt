@@ -1,0 +1,51 @@
+-- The loop that draws the edges of every carried rule. Assumes nothing.
+use Prim.Native.Nat.{ℕ, _+_, _*_, _<_}
+use mathlib.Core.Path.{_≡_, refl, sym, ap, ap₂, _∙_}
+use mathlib.Core.Bool.{true, false, _&&_, _||_, or-false}
+use mathlib.Core.List.{List}
+use native.Mathlib.Omega.{arith}
+use lib.Bits.{bitOr}
+use lib.ListN.{length, getD, replicate, length-replicate, getD-replicate}
+use Rattle.lists.specs.Lists.{lists, any, below}
+use Rattle.lists.specs.Bits.{bit}
+use Rattle.lists.specs.Laws.Agreement.{any-more}
+use Rattle.lists.specs.Laws.Bits.{bit-or, bit-zero}
+use Rattle.graph.specs.Masks.{edgeAt, Added, carriedAt, drawnBy, Drawn}
+
+pub drawn-none : (rules parts : List ℕ) (n : ℕ) → Drawn rules parts n 0 (replicate 32 0)
+unfolding edgeAt lists
+drawn-none rules parts n =
+    record {
+      long = length-replicate {A = ℕ} 32 0;
+      each = λ a b l. ap (λ x. bit x b) (getD-replicate {A = ℕ} 32 a 0 0 l) ∙ bit-zero b;
+    }
+
+module _ {rules parts xs : List ℕ} {n r : ℕ} (h : Drawn rules parts n r xs) where
+  pub drawn-skip : carriedAt parts n r ≡ false → Drawn rules parts n (r + 1) xs
+  unfolding drawnBy
+  drawn-skip e =
+      record {
+        long = h .long;
+        each = λ a b l.
+            h .each a b l
+            ∙ sym (
+              any-more (drawnBy rules parts n a b) r
+              ∙ ap (λ x. any (drawnBy rules parts n a b) (below r) || x && (bit (getD rules (8 * r) 0) a && (bit (getD rules (8 * r + 1) 0) b || bit (getD rules (8 * r + 2) 0) b))) e
+              ∙ or-false (any (drawnBy rules parts n a b) (below r))
+            );
+      }
+
+  pub drawn-more : {ys : List ℕ} → carriedAt parts n r ≡ true
+      → Added (getD rules (8 * r) 0) (bitOr (getD rules (8 * r + 1) 0) (getD rules (8 * r + 2) 0)) xs ys
+      → Drawn rules parts n (r + 1) ys
+  unfolding drawnBy
+  drawn-more e added =
+      record {
+        long = added .long;
+        each = λ a b l.
+            added .each a b l
+            ∙ ap₂ (λ x y. x || y) (h .each a b l)
+            (ap (λ x. bit (getD rules (8 * r) 0) a && x) (bit-or (getD rules (8 * r + 1) 0) (getD rules (8 * r + 2) 0) b)
+            ∙ sym (ap (λ x. x && (bit (getD rules (8 * r) 0) a && (bit (getD rules (8 * r + 1) 0) b || bit (getD rules (8 * r + 2) 0) b))) e))
+            ∙ sym (any-more (drawnBy rules parts n a b) r);
+      }
