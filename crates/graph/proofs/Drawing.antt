@@ -1,16 +1,22 @@
 -- The loop that draws the edges of every carried rule. Assumes nothing.
-use Prim.Native.Nat.{ℕ, _+_, _*_, _<_}
-use mathlib.Core.Path.{_≡_, refl, sym, ap, ap₂, _∙_}
+use Prim.Native.Nat.{ℕ, _+_, _*_, _<_, _≤_}
+use mathlib.Core.Path.{_≡_, refl, sym, ap, ap₂, _∙_, subst}
 use mathlib.Core.Bool.{true, false, _&&_, _||_, or-false}
 use mathlib.Core.List.{List}
 use native.Mathlib.Omega.{arith}
 use lib.Bits.{bitOr}
 use lib.ListN.{length, getD, replicate, length-replicate, getD-replicate}
-use Rattle.lists.specs.Lists.{lists, any, below}
+use Rattle.lists.specs.Lists.{lists, any, filter, below}
 use Rattle.lists.specs.Bits.{bit}
 use Rattle.lists.specs.Laws.Agreement.{any-more}
 use Rattle.lists.specs.Laws.Bits.{bit-or, bit-zero}
+use Rattle.deck.specs.Shape.{shapeOf}
+use Rattle.deck.specs.Laws.Shape.{shape-R}
+use Rattle.graph.specs.Graph.{edge, reachesItself, cyclic}
+use Rattle.graph.specs.FirstCycle.{firstOr, firstCycle}
 use Rattle.graph.specs.Masks.{edgeAt, Added, carriedAt, drawnBy, Drawn}
+use Rattle.graph.specs.Laws.Agreement.{cyclic-agree}
+use Rattle.graph.specs.Laws.Shape.{shape-edge}
 
 pub drawn-none : (rules parts : List ℕ) (n : ℕ) → Drawn rules parts n 0 (replicate 32 0)
 unfolding edgeAt lists
@@ -49,3 +55,17 @@ module _ {rules parts xs : List ℕ} {n r : ℕ} (h : Drawn rules parts n r xs) 
             ∙ sym (ap (λ x. x && (bit (getD rules (8 * r) 0) a && (bit (getD rules (8 * r + 1) 0) b || bit (getD rules (8 * r + 2) 0) b))) e))
             ∙ sym (any-more (drawnBy rules parts n a b) r);
       }
+
+  pub drawn-all : {k : ℕ} → r ≡ k → Drawn rules parts n k xs
+  drawn-all e = subst (λ (j : ℕ). Drawn rules parts n j xs) e h
+
+-- what is found in the table is what the definition finds in the shape
+pub drawn-cycle : {rules parts xs : List ℕ} {R′ M′ N′ : ℕ} → R′ ≤ 32 → M′ ≤ 64 → Drawn rules parts N′ M′ xs
+    → firstOr R′ (filter (reachesItself R′ (edgeAt xs)) (below R′)) ≡ firstCycle (shapeOf rules parts R′ M′ N′)
+unfolding firstCycle cyclic
+drawn-cycle {rules} {parts} {xs} {R′} {M′} {N′} channels few h =
+    let e = edge (shapeOf rules parts R′ M′ N′) in
+    ap (firstOr R′)
+    (cyclic-agree R′ (edgeAt xs) e
+    (λ a b la lb. h .each a b (omega arith) ∙ sym (shape-edge rules parts R′ M′ N′ a b few (omega arith) (omega arith))))
+    ∙ sym (ap (λ n. firstOr n (filter (reachesItself n e) (below n))) (shape-R rules parts R′ M′ N′))

@@ -1,68 +1,52 @@
+-- `graph::lowest_cycle` meets its contract: no channel below `start` can reach itself, and the rounds made from `start`
+-- have not led back to it. Assumes nothing.
+use mathlib.Core.Path.{_≡_}
+use mathlib.Core.Bool.{false}
+use Prim.Native.Nat.{ℕ, _≤_, _<_, _-_}
+use native.Mathlib.Omega.{arith}
+use borrow.Author.Count.{below-more}
+use Rattle.lists.specs.Laws.BitTests.{bit-yes, bit-no}
+use Rattle.graph.specs.Graph.{reachesItself}
+use Rattle.graph.specs.Masks.{edgeAt}
+use Rattle.graph.specs.Laws.FirstCycle.{first-is}
+use Rattle.graph.proofs.Searching.{Searching, searching-none, searching-more, searching-hit, searching-miss}
 use Rattle.graph.proofs.lowest_cycle.Statement.{statement}
 use Rattle.graph.proofs.lowest_cycle.Tie as tie
-use Rattle.graph.proofs.lowest_cycle.Reads as reads
-use Rattle.graph.proofs.lowest_cycle.Lts as lts
-use Rattle.graph.proofs.spread.Reads as spread-reads
 
 abbrev Inv-loop : tie.InvT-loop
-Inv-loop edges channels start seen₀ round₀ seen round = ?
+Inv-loop edges channels start seen₀ round₀ seen round = (round ≤ channels) × Searching channels edges start seen round
 
 abbrev μ-loop : tie.MeasureT-loop
-μ-loop edges channels start seen₀ round₀ seen round = ?
+μ-loop edges channels start seen₀ round₀ seen round = channels - round
 
 abbrev Inv-search : tie.InvT-search
-Inv-search edges channels start₀ start = ?
+Inv-search edges channels start₀ start =
+    (start ≤ channels) × ((k : ℕ) → k < start → reachesItself channels (edgeAt edges) k ≡ false)
 
 abbrev μ-search : tie.MeasureT-search
-μ-search edges channels start₀ start = ?
+μ-search edges channels start₀ start = channels - start
 
--- src/lib.rt:83:5
-search-holds : tie.Need-search-holds Inv-loop μ-loop Inv-search μ-search
-search-holds c = ?
-
--- src/lib.rt:86:9
-loop-holds : tie.Need-loop-holds Inv-loop μ-loop Inv-search μ-search
-loop-holds c = ?
-
--- src/lib.rt:87:13
-spread-requires : tie.Need-spread-requires Inv-loop μ-loop Inv-search μ-search
-spread-requires c κs = ?
-
--- src/lib.rt:88:17
-shr-if1 : tie.Need-shr-if1 Inv-loop μ-loop Inv-search μ-search
-shr-if1 c = ?
-
--- src/lib.rt:91:13
-add-round : tie.Need-add-round Inv-loop μ-loop Inv-search μ-search
-add-round c = ?
-
--- src/lib.rt:86:9
-loop-less : tie.Need-loop-less Inv-loop μ-loop Inv-search μ-search
-loop-less c = ?
-
--- src/lib.rt:86:9
 loop-again : tie.Need-loop-again Inv-loop μ-loop Inv-search μ-search
-loop-again c = ?
+loop-again c = (
+  omega arith,
+  searching-more (c .before .before .before .loop .inv .1) (c .before .spread .ensures) (bit-no _ _ (c .if1 .left)),
+)
 
--- src/lib.rt:93:9
-add-start : tie.Need-add-start Inv-loop μ-loop Inv-search μ-search
-add-start c = ?
-
--- src/lib.rt:83:5
-search-less : tie.Need-search-less Inv-loop μ-loop Inv-search μ-search
-search-less c = ?
-
--- src/lib.rt:83:5
 search-again : tie.Need-search-again Inv-loop μ-loop Inv-search μ-search
-search-again c = ?
+search-again c = (
+  omega arith,
+  below-more _ _ (c .before .before .before .search .inv .1) (searching-miss (c .before .loop .inv .1) (omega arith)),
+)
 
--- src/lib.rt:78:1
 returns : tie.Need-returns Inv-loop μ-loop Inv-search μ-search
-returns c = ?
+returns c = first-is _ _ _ (omega arith) (λ l. absurd (omega arith)) (c .before .search .inv .1)
 
--- src/lib.rt:78:1
 returns-2 : tie.Need-returns-2 Inv-loop μ-loop Inv-search μ-search
-returns-2 c = ?
+returns-2 c =
+    let l = c .before .before .before in
+    first-is _ _ _ (omega arith)
+    (λ m. searching-hit (l .loop .inv .1) m (c .before .spread .ensures) (bit-yes _ _ (c .if1 .taken)))
+    (l .before .before .search .inv .1)
 
 pub lowest-cycle-spec : {M : Type 1} → statement M
 lowest-cycle-spec =
@@ -72,15 +56,15 @@ lowest-cycle-spec =
     μ-loop
     Inv-search
     μ-search
-    search-holds
-    loop-holds
-    spread-requires
-    shr-if1
-    add-round
-    loop-less
+    (λ c. (omega arith, λ k l. absurd (omega arith)))
+    (λ c. (omega arith, searching-none _ _ _))
+    (λ c κs. omega arith)
+    (λ c. omega arith)
+    (λ c. omega arith)
+    (λ c. omega arith)
     loop-again
-    add-start
-    search-less
+    (λ c. omega arith)
+    (λ c. omega arith)
     search-again
     returns
     returns-2)
