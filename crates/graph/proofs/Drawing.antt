@@ -1,11 +1,11 @@
 -- The loop that draws the edges of every carried rule. Assumes nothing.
-use Prim.Native.Nat.{ℕ, _+_, _*_, _<_, _≤_}
-use mathlib.Core.Path.{_≡_, refl, sym, ap, ap₂, _∙_, subst}
-use mathlib.Core.Bool.{true, false, _&&_, _||_, or-false}
+use Prim.Native.Nat.{ℕ, _+_, _*_, _≤_}
+use mathlib.Core.Path.{_≡_, sym, ap, ap₂, _∙_, subst}
+use mathlib.Core.Bool.{Bool, true, false, _&&_, _||_, or-false}
 use mathlib.Core.List.{List}
 use native.Mathlib.Omega.{arith}
 use lib.Bits.{bitOr}
-use lib.ListN.{length, getD, replicate, length-replicate, getD-replicate}
+use lib.ListN.{getD, replicate, length-replicate, getD-replicate}
 use Rattle.lists.specs.Lists.{lists, any, filter, below}
 use Rattle.lists.specs.Bits.{bit}
 use Rattle.lists.specs.Laws.Agreement.{any-more}
@@ -27,33 +27,41 @@ drawn-none rules parts n =
     }
 
 module _ {rules parts xs : List ℕ} {n r : ℕ} (h : Drawn rules parts n r xs) where
+  -- what rule r makes where it is carried
+  makes : ℕ → ℕ → Bool
+  makes a b =
+      bit (getD rules (8 * r) 0) a && (bit (getD rules (8 * r + 1) 0) b || bit (getD rules (8 * r + 2) 0) b)
+
+  -- the edges of the rules below r
+  drawn : ℕ → ℕ → Bool
+  drawn a b = any (drawnBy rules parts n a b) (below r)
+
+  one-more : (a b : ℕ) → any (drawnBy rules parts n a b) (below (r + 1)) ≡ (drawn a b || carriedAt parts n r && makes a b)
+  unfolding drawn makes drawnBy
+  one-more a b = any-more (drawnBy rules parts n a b) r
+
   pub drawn-skip : carriedAt parts n r ≡ false → Drawn rules parts n (r + 1) xs
-  unfolding drawnBy
+  unfolding drawn
   drawn-skip e =
       record {
         long = h .long;
         each = λ a b l.
             h .each a b l
-            ∙ sym (
-              any-more (drawnBy rules parts n a b) r
-              ∙ ap (λ x. any (drawnBy rules parts n a b) (below r) || x && (bit (getD rules (8 * r) 0) a && (bit (getD rules (8 * r + 1) 0) b || bit (getD rules (8 * r + 2) 0) b))) e
-              ∙ or-false (any (drawnBy rules parts n a b) (below r))
-            );
+            ∙ sym (one-more a b ∙ ap (λ x. drawn a b || x && makes a b) e ∙ or-false (drawn a b));
       }
 
   pub drawn-more : {ys : List ℕ} → carriedAt parts n r ≡ true
       → Added (getD rules (8 * r) 0) (bitOr (getD rules (8 * r + 1) 0) (getD rules (8 * r + 2) 0)) xs ys
       → Drawn rules parts n (r + 1) ys
-  unfolding drawnBy
+  unfolding drawn makes
   drawn-more e added =
       record {
         long = added .long;
         each = λ a b l.
+            let both = bit-or (getD rules (8 * r + 1) 0) (getD rules (8 * r + 2) 0) b in
             added .each a b l
-            ∙ ap₂ (λ x y. x || y) (h .each a b l)
-            (ap (λ x. bit (getD rules (8 * r) 0) a && x) (bit-or (getD rules (8 * r + 1) 0) (getD rules (8 * r + 2) 0) b)
-            ∙ sym (ap (λ x. x && (bit (getD rules (8 * r) 0) a && (bit (getD rules (8 * r + 1) 0) b || bit (getD rules (8 * r + 2) 0) b))) e))
-            ∙ sym (any-more (drawnBy rules parts n a b) r);
+            ∙ ap₂ (λ x y. x || y) (h .each a b l) (ap (λ x. bit (getD rules (8 * r) 0) a && x) both)
+            ∙ sym (one-more a b ∙ ap (λ x. drawn a b || x && makes a b) e);
       }
 
   pub drawn-all : {k : ℕ} → r ≡ k → Drawn rules parts n k xs

@@ -3,4 +3,5 @@ pub mod Graph
 pub mod FirstCycle
 pub mod Masks
 pub mod Cases
+pub mod TableCases
 pub mod Laws

@@ -1,5 +1,5 @@
 -- The graph as the code has it: for each channel the set of those that an edge leads to. Assumes nothing.
-use Prim.Native.Nat.{ℕ, _+_, _*_, _<_}
+use Prim.Native.Nat.{ℕ, _+_, _*_, _<_, _≤_}
 use mathlib.Core.Path.{_≡_}
 use mathlib.Core.Bool.{Bool, true, _&&_, _||_}
 use mathlib.Core.List.{List}
@@ -8,6 +8,13 @@ use lib.ListN.{length, getD}
 use Rattle.lists.specs.Lists.{any, below}
 use Rattle.lists.specs.Bits.{bit}
 use Rattle.graph.specs.Graph.{Reaches}
+
+-- the tables have 64 rules and 16 parts, of which the first M and N are the deck's
+pub record Sized (rules parts : List ℕ) (M N : ℕ) : Type 0 where
+  pub longRules : 512 ≤ length rules
+  pub longParts : 64 ≤ length parts
+  pub fewRules : M ≤ 64
+  pub fewParts : N ≤ 16
 
 -- the table has an edge from a to b
 unfoldable pub edgeAt : List ℕ → ℕ → ℕ → Bool

@@ -10,8 +10,7 @@ ghost use Rattle.lists.specs.Lists.{filter, below};
 ghost use Rattle.deck.specs.Shape.{shapeOf};
 ghost use Rattle.graph.specs.Graph.{reachesItself};
 ghost use Rattle.graph.specs.FirstCycle.{firstOr, firstCycle};
-ghost use Rattle.graph.specs.Masks.{edgeAt, Added, carriedAt, Drawn, Spread};
-
+ghost use Rattle.graph.specs.Masks.{Sized, edgeAt, Added, carriedAt, Drawn, Spread};
 use deck::Deck;
 
 // Adds the targets to the edges from every event.
@@ -45,7 +44,7 @@ fn is_carried(parts: &[u64], parts_count: usize, r: usize) -> bool
 
 // The edges of every carried rule, by both actions, into a table without edges.
 fn draw(rules: &[u64], parts: &[u64], count: usize, parts_count: usize, edges: &mut [u64])
-    requires { ⌜ (512 ≤ length (now rules)) × (64 ≤ length (now parts)) × (count ≤ 64) × («parts_count» ≤ 16) × Drawn (now rules) (now parts) «parts_count» 0 (now edges) ⌝ }
+    requires { ⌜ Sized (now rules) (now parts) count «parts_count» × Drawn (now rules) (now parts) «parts_count» 0 (now edges) ⌝ }
     ensures { λ _. ⌜ Drawn (now (rules .entry)) (now (parts .entry)) «parts_count» count (now (edges .exit)) ⌝ }
 {
     let mut r: usize = 0;
@@ -103,10 +102,10 @@ pub fn first_cycle(
     count: usize,
     parts_count: usize,
 ) -> usize
-    requires { ⌜ (512 ≤ length (now rules)) × (64 ≤ length (now parts)) × (channels ≤ 32) × (count ≤ 64) × («parts_count» ≤ 16) ⌝ }
+    requires { ⌜ Sized (now rules) (now parts) count «parts_count» × (channels ≤ 32) ⌝ }
     ensures { λ r. ⌜ r ≡ firstCycle (shapeOf (now (rules .entry)) (now (parts .entry)) channels count «parts_count») ⌝ }
 {
-    let mut edges = [0u64; 32];
+    let mut edges = [0u64; Deck::CHANNELS];
     draw(rules, parts, count, parts_count, &mut edges);
     lowest_cycle(&edges, channels)
 }

@@ -24,7 +24,7 @@ loop-again c =
     (c .if1 .came)
 
 same-length : tie.Need-same-length Inv-loop μ-loop
-same-length c = c .before .loop .inv .1 .long ∙ sym (c .before .before .before .before .before .pre .4 .long)
+same-length c = c .before .loop .inv .1 .long ∙ sym (c .before .before .before .before .before .pre .1 .long)
 
 returns : tie.Need-returns Inv-loop μ-loop
 returns c = drawn-all (c .before .loop .inv .1) (omega arith)
@@ -35,7 +35,7 @@ draw-spec =
     (tie.spec
     Inv-loop
     μ-loop
-    (λ c. (omega arith, c .before .before .before .pre .4))
+    (λ c. (omega arith, c .before .before .before .pre .1))
     (λ c κs. omega arith)
     (λ c. omega arith)
     (λ c. omega arith)

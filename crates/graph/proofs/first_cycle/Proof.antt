@@ -1,21 +1,18 @@
 -- `graph::first_cycle` meets its contract: the table has the edges of the shape. Assumes nothing.
 use mathlib.Core.Path.{_∙_}
-use native.Mathlib.Omega.{arith}
 use borrow.Author.Needs.{needs}
 use Rattle.graph.proofs.Drawing.{drawn-none, drawn-cycle}
 use Rattle.graph.proofs.first_cycle.Statement.{statement}
 use Rattle.graph.proofs.first_cycle.Tie as tie
 
 draw-requires : tie.Need-draw-requires
-draw-requires c κs =
-    let s = c .before .before .before in
-    (s .pre .0, s .pre .1, s .pre .3, s .pre .4, drawn-none _ _ _)
+draw-requires c κs = (c .before .before .before .pre .0, drawn-none _ _ _)
 
 returns : tie.Need-returns
 returns c =
     let d = c .before .before .before in
     let s = d .before .before .before .before in
-    c .lowest-cycle .ensures ∙ drawn-cycle (s .pre .2) (s .pre .3) (d .draw .ensures)
+    c .lowest-cycle .ensures ∙ drawn-cycle (s .pre .1) (s .pre .0 .fewRules) (d .draw .ensures)
 
 pub first-cycle-spec : {M : Type 1} → statement M
 first-cycle-spec =

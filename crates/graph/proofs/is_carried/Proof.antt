@@ -1,11 +1,9 @@
 -- `graph::is_carried` meets its contract: no part below `p` carries the rule. Assumes nothing.
 use mathlib.Core.Path.{_≡_, refl, sym, ap, _∙_}
 use mathlib.Core.Bool.{false}
-use Prim.Native.Nat.{ℕ, _≤_, _-_, _*_}
+use Prim.Native.Nat.{_≤_, _-_}
 use native.Mathlib.Omega.{arith}
-use lib.ListN.{getD}
-use Rattle.lists.specs.Lists.{lists, any, below}
-use Rattle.lists.specs.Bits.{bit}
+use Rattle.lists.specs.Lists.{lists}
 use Rattle.lists.specs.Laws.Booleans.{or-false-both}
 use Rattle.lists.specs.Laws.Below.{any-below}
 use Rattle.lists.specs.Laws.Agreement.{any-more}
@@ -30,7 +28,9 @@ returns c = sym (any-below _ _ .1 (_, c .before .before .loop-test .taken, bit-y
 
 loop-again : tie.Need-loop-again Inv-loop μ-loop
 unfolding carriedAt
-loop-again c = (omega arith, any-more _ _ ∙ or-false-both (c .before .before .before .loop .inv .1) (bit-no _ _ (c .if1 .left)))
+loop-again c =
+    let h = c .before .before .before .loop .inv .1 in
+    (omega arith, any-more _ _ ∙ or-false-both h (bit-no _ _ (c .if1 .left)))
 
 returns-2 : tie.Need-returns-2 Inv-loop μ-loop
 returns-2 c =

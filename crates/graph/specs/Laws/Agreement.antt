@@ -17,7 +17,7 @@ use Rattle.graph.specs.Masks.{inner}
 use Rattle.graph.specs.Laws.Rounds.{in-round}
 
 module _ (n : ℕ) (e f : ℕ → ℕ → Bool) (agree : (a b : ℕ) → a < n → b < n → e a b ≡ f a b) where
-  reached-agree : (k a : ℕ) → a < n → reached n e k a ≡ reached n f k a
+  pub reached-agree : (k a : ℕ) → a < n → reached n e k a ≡ reached n f k a
   unfolding reached
   reached-agree zero a l = refl
   reached-agree (suc k) a l =

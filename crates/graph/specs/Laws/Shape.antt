@@ -20,6 +20,7 @@ use Rattle.deck.specs.Shape.{bitsOf, setting, ruleShape, shapeOf}
 use Rattle.deck.specs.Laws.Shape.{setting-targets, shape-R, shape-M, shape-N, shape-rule, shape-carries, shape-event}
 use Rattle.deck.specs.Laws.Shape.{shape-default, shape-action}
 use Rattle.graph.specs.Graph.{carried, assigns, edge, reachesItself, cyclic}
+use Rattle.graph.specs.FirstCycle.{firstOr, firstCycle}
 use Rattle.graph.specs.Masks.{carriedAt, drawnBy}
 use Rattle.graph.specs.Laws.Agreement.{cyclic-agree}
 use Rattle.graph.specs.Laws.Cycles.{KnownTargets}
@@ -106,16 +107,20 @@ module _ (d : Deck) (rules parts : List ℕ) (few : M d ≤ 64)
   edge-shape a b la lb =
       shape-edge rules parts (R d) (M d) (N d) a b few la lb
       ∙ sym (
-        edge-same d rules parts a b
-        (λ p r l m. in-mask (getD parts (4 * p) 0) r (partAt d p .carried) (carries′ p l))
-        (λ r l. in-mask (getD rules (8 * r) 0) a (ruleAt d r .events) (events r l))
-        (λ r l. in-mask (getD rules (8 * r + 1) 0) b (targets (ruleAt d r .default)) (defaults r l))
-        (λ r l. in-mask (getD rules (8 * r + 2) 0) b (targets (ruleAt d r .action)) (actions r l))
+      edge-same d rules parts a b
+      (λ p r l m. in-mask (getD parts (4 * p) 0) r (partAt d p .carried) (carries′ p l))
+      (λ r l. in-mask (getD rules (8 * r) 0) a (ruleAt d r .events) (events r l))
+      (λ r l. in-mask (getD rules (8 * r + 1) 0) b (targets (ruleAt d r .default)) (defaults r l))
+      (λ r l. in-mask (getD rules (8 * r + 2) 0) b (targets (ruleAt d r .action)) (actions r l))
       )
 
   pub cyclic-shape : R d ≤ 32 → cyclic (shapeOf rules parts (R d) (M d) (N d)) ≡ cyclic d
   unfolding cyclic
   cyclic-shape le =
-      ap (λ n. filter (reachesItself n (edge (shapeOf rules parts (R d) (M d) (N d)))) (below n)) (shape-R rules parts (R d) (M d) (N d))
-      ∙ cyclic-agree (R d) (edge (shapeOf rules parts (R d) (M d) (N d))) (edge d)
-      (λ a b la lb. edge-shape a b (omega arith) (omega arith))
+      let e = edge (shapeOf rules parts (R d) (M d) (N d)) in
+      ap (λ n. filter (reachesItself n e) (below n)) (shape-R rules parts (R d) (M d) (N d))
+      ∙ cyclic-agree (R d) e (edge d) (λ a b la lb. edge-shape a b (omega arith) (omega arith))
+
+  pub first-shape : R d ≤ 32 → firstCycle (shapeOf rules parts (R d) (M d) (N d)) ≡ firstCycle d
+  unfolding firstCycle
+  first-shape le = ap₂ firstOr (shape-R rules parts (R d) (M d) (N d)) (cyclic-shape le)
