@@ -76,8 +76,8 @@ module _ (rules parts : List ℕ) (R′ M′ N′ : ℕ) where
     unfolding bitsOf
     in-set m b l h =
         let e = shape-R rules parts R′ M′ N′ in
-        let k = bit-below R′ m b l (filter-below (bit m) 32 b .0 (sym (ap (member b) (setting-targets (bitsOf 32 m))) ∙ h) .1) in
-        omega arith
+        let k = sym (ap (member b) (setting-targets (bitsOf 32 m))) ∙ h in
+        omega (arith, bit-below R′ m b l (filter-below (bit m) 32 b .0 k .1))
 
     pub shape-known : KnownTargets shape
     unfolding assigns ruleShape

@@ -27,5 +27,6 @@ bit-below n m c l y = go (decLt c n)
     go : Dec (c < n) → c < n
     go (yes h) = h
     go (no h) =
+        let le = lt-of-lt-of-le l (pow-mono {i = n} {j = c} (omega arith)) in
         contradiction y
-        (ap (λ x. eqb (x % 2) 1) (div-eq-of-lt {n = m} {m = 2 ^ c} (lt-of-lt-of-le l (pow-mono {i = n} {j = c} (omega arith)))))
+        (ap (λ x. eqb (x % 2) 1) (div-eq-of-lt {n = m} {m = 2 ^ c} le))
