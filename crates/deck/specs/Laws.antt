@@ -21,3 +21,4 @@ pub mod PartSteps
 pub mod DeckSteps
 pub mod RuleOffsets
 pub mod Rows
+pub mod Shape

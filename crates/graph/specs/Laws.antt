@@ -4,3 +4,6 @@ pub mod Reach
 pub mod Edges
 pub mod Cycles
 pub mod Targets
+pub mod Agreement
+pub mod FirstCycle
+pub mod Shape

@@ -1,1 +1,111 @@
 // The dependency graph of a deck's channels. The definitions are in specs/.
+// A set of channels is a number, so that the edges from a channel are one number and a round adds them at once.
+// The tables: a rule has eight numbers, first its events and the targets of its two actions; a part has four, first the
+// rules that it carries.
+
+ghost use mathlib.Core.Path.{_≡_};
+ghost use Prim.Native.Nat.{_≤_, _<_};
+ghost use lib.ListN.{length};
+ghost use Rattle.lists.specs.Lists.{filter, below};
+ghost use Rattle.deck.specs.Shape.{shapeOf};
+ghost use Rattle.graph.specs.Graph.{reachesItself};
+ghost use Rattle.graph.specs.FirstCycle.{firstOr, firstCycle};
+ghost use Rattle.graph.specs.Masks.{Sized, edgeAt, Added, carriedAt, Drawn, Spread};
+use deck::Deck;
+
+// Adds the targets to the edges from every event.
+fn add_edges(edges: &mut [u64], events: u64, targets: u64)
+    requires { ⌜ length (now edges) ≡ 32 ⌝ }
+    ensures { λ _. ⌜ Added events targets (now (edges .entry)) (now (edges .exit)) ⌝ }
+{
+    let mut c: usize = 0;
+    while c < Deck::CHANNELS {
+        if (events >> c) % 2 == 1 {
+            edges[c] = edges[c] | targets;
+        }
+        c += 1;
+    }
+}
+
+// Whether some part carries rule r: its number plays no role.
+fn is_carried(parts: &[u64], parts_count: usize, r: usize) -> bool
+    requires { ⌜ (64 ≤ length (now parts)) × («parts_count» ≤ 16) × (r < 64) ⌝ }
+    ensures { λ b. ⌜ b ≡ carriedAt (now (parts .entry)) «parts_count» r ⌝ }
+{
+    let mut p: usize = 0;
+    while p < parts_count {
+        if (parts[4 * p] >> r) % 2 == 1 {
+            return true;
+        }
+        p += 1;
+    }
+    false
+}
+
+// The edges of every carried rule, by both actions, into a table without edges.
+fn draw(rules: &[u64], parts: &[u64], count: usize, parts_count: usize, edges: &mut [u64])
+    requires { ⌜ Sized (now rules) (now parts) count «parts_count» × Drawn (now rules) (now parts) «parts_count» 0 (now edges) ⌝ }
+    ensures { λ _. ⌜ Drawn (now (rules .entry)) (now (parts .entry)) «parts_count» count (now (edges .exit)) ⌝ }
+{
+    let mut r: usize = 0;
+    while r < count {
+        if is_carried(parts, parts_count, r) {
+            let targets = rules[8 * r + 1] | rules[8 * r + 2];
+            add_edges(edges, rules[8 * r], targets);
+        }
+        r += 1;
+    }
+}
+
+// One round from channel a: its own edges, and those from every channel seen.
+fn spread(edges: &[u64], channels: usize, a: usize, seen: u64) -> u64
+    requires { ⌜ (length (now edges) ≡ 32) × (channels ≤ 32) × (a < channels) ⌝ }
+    ensures { λ r. ⌜ Spread channels (edgeAt (now (edges .entry))) a seen r ⌝ }
+{
+    let mut set = seen | edges[a];
+    let mut b: usize = 0;
+    while b < channels {
+        if (set >> b) % 2 == 1 {
+            set = set | edges[b];
+        }
+        b += 1;
+    }
+    set
+}
+
+// The lowest channel that can reach itself, or `channels` where none can. No path needs more edges than there are channels.
+fn lowest_cycle(edges: &[u64], channels: usize) -> usize
+    requires { ⌜ (length (now edges) ≡ 32) × (channels ≤ 32) ⌝ }
+    ensures { λ r. ⌜ r ≡ firstOr channels (filter (reachesItself channels (edgeAt (now (edges .entry)))) (below channels)) ⌝ }
+{
+    let mut start: usize = 0;
+    'search: while start < channels {
+        let mut seen: u64 = 0;
+        let mut round: usize = 0;
+        while round < channels {
+            seen = spread(edges, channels, start, seen);
+            if (seen >> start) % 2 == 1 {
+                break 'search;
+            }
+            round += 1;
+        }
+        start += 1;
+    }
+    start
+}
+
+// The lowest channel of the tables that can reach itself, or `channels` where none can.
+pub fn first_cycle(
+    rules: &[u64],
+    parts: &[u64],
+    channels: usize,
+    count: usize,
+    parts_count: usize,
+) -> usize
+    requires { ⌜ Sized (now rules) (now parts) count «parts_count» × (channels ≤ 32) ⌝ }
+    ensures { λ r. ⌜ r ≡ firstCycle (shapeOf (now (rules .entry)) (now (parts .entry)) channels count «parts_count») ⌝ }
+{
+    let mut edges = [0u64; Deck::CHANNELS];
+    draw(rules, parts, count, parts_count, &mut edges);
+    lowest_cycle(&edges, channels)
+}
