@@ -1,1 +1,108 @@
-// The charge of updates and rules. The definitions are in specs/.
+// The charge of updates and rules, from the tables of a deck without cycles. The definitions are in specs/.
+ghost use mathlib.Core.Path.{_≡_};
+ghost use mathlib.Core.Bool.{_&&_, not, cond};
+ghost use Prim.Native.Nat.{_+_, _*_, _<_, _≤_};
+ghost use lib.Dec.{eqb};
+ghost use lib.ListN.{length, getD};
+ghost use Rattle.lists.specs.Lists.{any, member};
+ghost use Rattle.lists.specs.Bits.{bit};
+ghost use Rattle.deck.specs.Shape.{bitsOf, shapeOf};
+ghost use Rattle.charge.specs.Charge.{updateCharge, ruleCharge};
+ghost use Rattle.charge.specs.Memo.{AcyclicTables, Memo, Answered, capped};
+
+// A sum that stops at 65,536, so that it fits however large the charge is.
+fn capped_sum(a: u32, b: u32) -> u32
+    requires { ⌜ (a ≤ 65536) × (b ≤ 65536) ⌝ }
+    ensures { λ r. ⌜ r ≡ capped (a + b) ⌝ }
+{
+    let s = a + b;
+    if s < 65536 { s } else { 65536 }
+}
+
+// Whether part p carries rule r, and the rule has a channel of the mask among its events.
+fn hears(rules: &[u64], parts: &[u64], p: usize, r: usize, mask: u64) -> bool
+    requires { ⌜ (512 ≤ length (now rules)) × (64 ≤ length (now parts)) × (p < 16) × (r < 64) ⌝ }
+    ensures { λ b. ⌜ b ≡ (bit (getD (now (parts .entry)) (4 * p) 0) r && any (λ c. member c (bitsOf 32 (getD (now (rules .entry)) (8 * r) 0))) (bitsOf 32 mask)) ⌝ }
+{
+    let carried = parts[4 * p];
+    if (carried >> r) % 2 == 1 {
+        let events = rules[8 * r];
+        let common = events & mask & 4294967295;
+        if common == 0 { false } else { true }
+    } else {
+        false
+    }
+}
+
+// Whether part q gets the action of a rule of this kind at part p.
+fn gets(kind: u64, p: usize, q: usize) -> bool
+    ensures { λ b. ⌜ b ≡ cond (eqb kind 1) (not (eqb q p)) (eqb q p) ⌝ }
+{
+    if kind == 1 { q != p } else { q == p }
+}
+
+// The charge at part p of an update of the channels in the mask.
+pub fn update_charge(
+    rules: &[u64],
+    parts: &[u64],
+    memo: &mut [u32],
+    channels: usize,
+    count: usize,
+    parts_count: usize,
+    p: usize,
+    mask: u64,
+) -> u32
+    requires { ⌜ AcyclicTables (now rules) (now parts) channels count «parts_count» × Memo (shapeOf (now rules) (now parts) channels count «parts_count») (now memo) × (p < «parts_count») ⌝ }
+    ensures { λ s. ⌜ Answered (shapeOf (now (rules .entry)) (now (parts .entry)) channels count «parts_count») (updateCharge (shapeOf (now (rules .entry)) (now (parts .entry)) channels count «parts_count») p (bitsOf 32 mask)) (now (memo .exit)) s ⌝ }
+{
+    let mut total: u32 = 1;
+    let mut r: usize = 0;
+    while r < count {
+        if hears(rules, parts, p, r, mask) {
+            let c = rule_charge(rules, parts, memo, channels, count, parts_count, p, r);
+            total = capped_sum(total, c);
+        }
+        r += 1;
+    }
+    total
+}
+
+// The charge of rule r at part p. The memo gives a charge that was computed before.
+pub fn rule_charge(
+    rules: &[u64],
+    parts: &[u64],
+    memo: &mut [u32],
+    channels: usize,
+    count: usize,
+    parts_count: usize,
+    p: usize,
+    r: usize,
+) -> u32
+    requires { ⌜ AcyclicTables (now rules) (now parts) channels count «parts_count» × Memo (shapeOf (now rules) (now parts) channels count «parts_count») (now memo) × (p < «parts_count») × (r < count) ⌝ }
+    ensures { λ s. ⌜ Answered (shapeOf (now (rules .entry)) (now (parts .entry)) channels count «parts_count») (ruleCharge (shapeOf (now (rules .entry)) (now (parts .entry)) channels count «parts_count») p r) (now (memo .exit)) s ⌝ }
+{
+    let at = 64 * p + r;
+    let known = memo[at];
+    if known != 0 {
+        return known - 1;
+    }
+    let first = rules[8 * r + 1] & 4294967295;
+    let second = rules[8 * r + 2] & 4294967295;
+    let kind = rules[8 * r + 3];
+    let mut sum: u32 = 0;
+    if first != 0 {
+        sum = update_charge(rules, parts, memo, channels, count, parts_count, p, first);
+    }
+    if second != 0 {
+        let mut q: usize = 0;
+        while q < parts_count {
+            if gets(kind, p, q) {
+                let c = update_charge(rules, parts, memo, channels, count, parts_count, q, second);
+                sum = capped_sum(sum, c);
+            }
+            q += 1;
+        }
+    }
+    memo[at] = sum + 1;
+    sum
+}

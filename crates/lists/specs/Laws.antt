@@ -11,3 +11,5 @@ pub mod Equalities
 pub mod Anys
 pub mod Statements
 pub mod Bits
+pub mod Steps
+pub mod Same
