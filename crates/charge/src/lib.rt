@@ -1,14 +1,10 @@
 // The charge of updates and rules, from the tables of a deck without cycles. The definitions are in specs/.
 ghost use mathlib.Core.Path.{_≡_};
-ghost use mathlib.Core.Bool.{_&&_, not, cond};
-ghost use Prim.Native.Nat.{_+_, _*_, _<_, _≤_};
+ghost use mathlib.Core.Bool.{not, cond};
+ghost use Prim.Native.Nat.{_+_, _<_, _≤_};
 ghost use lib.Dec.{eqb};
-ghost use lib.ListN.{length, getD};
-ghost use Rattle.lists.specs.Lists.{any, member};
-ghost use Rattle.lists.specs.Bits.{bit};
-ghost use Rattle.deck.specs.Shape.{bitsOf, shapeOf};
-ghost use Rattle.charge.specs.Charge.{updateCharge, ruleCharge};
-ghost use Rattle.charge.specs.Memo.{AcyclicTables, Memo, Answered, capped};
+ghost use lib.ListN.{length};
+ghost use Rattle.charge.specs.Memo.{Ready, UpdateGives, RuleGives, hearing, capped};
 
 // A sum that stops at 65,536, so that it fits however large the charge is.
 fn capped_sum(a: u32, b: u32) -> u32
@@ -22,7 +18,7 @@ fn capped_sum(a: u32, b: u32) -> u32
 // Whether part p carries rule r, and the rule has a channel of the mask among its events.
 fn hears(rules: &[u64], parts: &[u64], p: usize, r: usize, mask: u64) -> bool
     requires { ⌜ (512 ≤ length (now rules)) × (64 ≤ length (now parts)) × (p < 16) × (r < 64) ⌝ }
-    ensures { λ b. ⌜ b ≡ (bit (getD (now (parts .entry)) (4 * p) 0) r && any (λ c. member c (bitsOf 32 (getD (now (rules .entry)) (8 * r) 0))) (bitsOf 32 mask)) ⌝ }
+    ensures { λ b. ⌜ b ≡ hearing (now (rules .entry)) (now (parts .entry)) p r mask ⌝ }
 {
     let carried = parts[4 * p];
     if (carried >> r) % 2 == 1 {
@@ -52,8 +48,8 @@ pub fn update_charge(
     p: usize,
     mask: u64,
 ) -> u32
-    requires { ⌜ AcyclicTables (now rules) (now parts) channels count «parts_count» × Memo (shapeOf (now rules) (now parts) channels count «parts_count») (now memo) × (p < «parts_count») ⌝ }
-    ensures { λ s. ⌜ Answered (shapeOf (now (rules .entry)) (now (parts .entry)) channels count «parts_count») (updateCharge (shapeOf (now (rules .entry)) (now (parts .entry)) channels count «parts_count») p (bitsOf 32 mask)) (now (memo .exit)) s ⌝ }
+    requires { ⌜ Ready (now rules) (now parts) channels count «parts_count» (now memo) × (p < «parts_count») ⌝ }
+    ensures { λ s. ⌜ UpdateGives (now (rules .entry)) (now (parts .entry)) channels count «parts_count» p mask (now (memo .exit)) s ⌝ }
 {
     let mut total: u32 = 1;
     let mut r: usize = 0;
@@ -78,8 +74,8 @@ pub fn rule_charge(
     p: usize,
     r: usize,
 ) -> u32
-    requires { ⌜ AcyclicTables (now rules) (now parts) channels count «parts_count» × Memo (shapeOf (now rules) (now parts) channels count «parts_count») (now memo) × (p < «parts_count») × (r < count) ⌝ }
-    ensures { λ s. ⌜ Answered (shapeOf (now (rules .entry)) (now (parts .entry)) channels count «parts_count») (ruleCharge (shapeOf (now (rules .entry)) (now (parts .entry)) channels count «parts_count») p r) (now (memo .exit)) s ⌝ }
+    requires { ⌜ Ready (now rules) (now parts) channels count «parts_count» (now memo) × (p < «parts_count») × (r < count) ⌝ }
+    ensures { λ s. ⌜ RuleGives (now (rules .entry)) (now (parts .entry)) channels count «parts_count» p r (now (memo .exit)) s ⌝ }
 {
     let at = 64 * p + r;
     let known = memo[at];

@@ -90,12 +90,12 @@ module _ (t : ℕ) where
       ⊎-elim
       (λ w.
       rw (w .5, w .6)
-      (same (w .2 .ensures) (own-some (s .pre .1 .0) (s .args .p) (s .pre .1 .2) (s .args .r) (s .pre .1 .3) (w .0 .taken))))
+      (same (w .2 .ensures) (own-some (s .pre .1 .0 .tables) (s .args .p) (s .pre .1 .1) (s .args .r) (s .pre .1 .2) (w .0 .taken))))
       (λ w.
       rw (w .1, w .2)
       record {
-        value = sym (ap capped (own-none (s .pre .1 .0) (s .args .p) (s .pre .1 .2) (s .args .r) (s .pre .1 .3) (w .0 .left)));
-        memo = s .pre .1 .1;
+        value = sym (ap capped (own-none (s .pre .1 .0 .tables) (s .args .p) (s .pre .1 .1) (s .args .r) (s .pre .1 .2) (w .0 .left)));
+        memo = s .pre .1 .0 .memo;
       })
       (c .if2 .came)
 
@@ -107,11 +107,11 @@ module _ (t : ℕ) where
       ⊎-elim
       (λ w.
       rw (w .3, w .4)
-      (same (whole (w .1 .inv .1) (s .args .parts-count) (omega arith)) (rule-all (s .pre .1 .0) (s .args .p) (s .pre .1 .2) (s .args .r))))
+      (same (whole (w .1 .inv .1) (s .args .parts-count) (omega arith)) (rule-all (s .pre .1 .0 .tables) (s .args .p) (s .pre .1 .1) (s .args .r))))
       (λ w.
       rw (w .1, w .2)
       (same (first (c .before))
-      (rule-alone (s .pre .1 .0) (s .args .p) (s .pre .1 .2) (s .args .r) (s .pre .1 .3) (w .0 .left))))
+      (rule-alone (s .pre .1 .0 .tables) (s .args .p) (s .pre .1 .1) (s .args .r) (s .pre .1 .2) (w .0 .left))))
       (c .if3 .came)
 
   R-mul-at : R.Need-mul-at (R-claims t) (R-at t) rule.Post R-Inv R-μ
@@ -132,8 +132,8 @@ module _ (t : ℕ) where
   R-returns : R.Need-returns (R-claims t) (R-at t) rule.Post R-Inv R-μ
   R-returns c =
       let s = c .before .before .before .before .before in
-      let e = memo-at (R-deck s) (s .args .memo .now) (s .args .p) (s .args .r) (s .pre .1 .1) (omega arith) (c .if1 .taken) in
-      record { value = omega (arith, e); memo = s .pre .1 .1 }
+      let e = memo-at (R-deck s) (s .args .memo .now) (s .args .p) (s .args .r) (s .pre .1 .0 .memo) (omega arith) (c .if1 .taken) in
+      record { value = omega (arith, e); memo = s .pre .1 .0 .memo }
 
   R-mul-first : R.Need-mul-first (R-claims t) (R-at t) rule.Post R-Inv R-μ
   R-mul-first c = omega arith
@@ -174,8 +174,8 @@ module _ (t : ℕ) where
   R-update-charge-requires : R.Need-update-charge-requires (R-claims t) (R-at t) rule.Post R-Inv R-μ
   R-update-charge-requires c κs =
       let s = c .before .before .before .before .before .before .before .before .before .before in
-      let f = first-falls (s .pre .1 .0) (s .args .p) (s .pre .1 .2) (s .args .r) (s .pre .1 .3) in
-      (omega arith, (s .pre .1 .0, s .pre .1 .1, s .pre .1 .2))
+      let f = first-falls (s .pre .1 .0 .tables) (s .args .p) (s .pre .1 .1) (s .args .r) (s .pre .1 .2) in
+      (omega arith, (s .pre .1 .0, s .pre .1 .1))
 
   R-loop-holds : R.Need-loop-holds (R-claims t) (R-at t) rule.Post R-Inv R-μ
   R-loop-holds c = (omega arith, none-yet (first (c .before)))
@@ -186,8 +186,8 @@ module _ (t : ℕ) where
   R-update-charge-requires-2 : R.Need-update-charge-requires-2 (R-claims t) (R-at t) rule.Post R-Inv R-μ
   R-update-charge-requires-2 c κs =
       let s = c .before .before .before .before .before .before .before .before .before .before .before .before .before .before .before in
-      let f = second-falls (s .pre .1 .0) (s .args .p) (s .pre .1 .2) (s .args .r) (s .pre .1 .3) in
-      (omega arith, (s .pre .1 .0, c .before .before .before .before .loop .inv .1 .sum .memo, omega arith))
+      let f = second-falls (s .pre .1 .0 .tables) (s .args .p) (s .pre .1 .1) (s .args .r) (s .pre .1 .2) in
+      (omega arith, (record { tables = s .pre .1 .0 .tables; memo = c .before .before .before .before .loop .inv .1 .sum .memo }, omega arith))
 
   R-capped-sum-requires : R.Need-capped-sum-requires (R-claims t) (R-at t) rule.Post R-Inv R-μ
   R-capped-sum-requires c κs = omega (arith, small (c .before .before .before .before .before .before .before .loop .inv .1 .sum), small (c .before .before .update-charge2 .ensures))
@@ -208,7 +208,7 @@ module _ (t : ℕ) where
         omega arith,
         rw (w .6, w .7)
             (more i
-            (sent-yes (s .pre .1 .0) (s .args .p) (s .pre .1 .2) (s .args .r) (s .pre .1 .3) (c .before .before .before .before .if3 .taken) q
+            (sent-yes (s .pre .1 .0 .tables) (s .args .p) (s .pre .1 .1) (s .args .r) (s .pre .1 .2) (c .before .before .before .before .if3 .taken) q
             (sym (c .before .gets .ensures) ∙ w .0 .taken))
             (w .2 .ensures) (w .5 .ensures)),
       ))
@@ -216,7 +216,7 @@ module _ (t : ℕ) where
         omega arith,
         rw (w .1, w .2)
             (skip i
-            (sent-no (s .pre .1 .0) (s .args .p) (s .pre .1 .2) (s .args .r) (s .pre .1 .3) q
+            (sent-no (s .pre .1 .0 .tables) (s .args .p) (s .pre .1 .1) (s .args .r) (s .pre .1 .2) q
             (sym (c .before .gets .ensures) ∙ w .0 .left))),
       ))
       (c .if4 .came)
@@ -231,7 +231,7 @@ module _ (t : ℕ) where
   R-slice-write-memo c = omega (arith, both (c .before) .memo .long)
 
   R-same-length : R.Need-same-length (R-claims t) (R-at t) rule.Post R-Inv R-μ
-  R-same-length c = rw length-set (both (c .before) .memo .long ∙ sym (c .before .before .before .before .before .before .before .before .before .before .before .pre .1 .1 .long))
+  R-same-length c = rw length-set (both (c .before) .memo .long ∙ sym (c .before .before .before .before .before .before .before .before .before .before .before .pre .1 .0 .memo .long))
 
   R-returns-2 : R.Need-returns-2 (R-claims t) (R-at t) rule.Post R-Inv R-μ
   R-returns-2 c =
@@ -247,7 +247,7 @@ module _ (t : ℕ) where
   U-loop-holds : U.Need-loop-holds (U-claims t) (U-at t) update.Post U-Inv U-μ
   U-loop-holds c =
       let s = c .before .before .before in
-      (omega arith, none-yet (record { value = refl; memo = s .pre .1 .1 }))
+      (omega arith, none-yet (record { value = refl; memo = s .pre .1 .0 .memo }))
 
   U-hears-requires : U.Need-hears-requires (U-claims t) (U-at t) update.Post U-Inv U-μ
   U-hears-requires c κs = omega arith
@@ -256,9 +256,9 @@ module _ (t : ℕ) where
   U-rule-charge-requires c κs =
       let s = c .before .before .before .before .before .before .before .before in
       let y = sym (c .before .before .hears .ensures) ∙ c .before .if1 .taken in
-      let f = rule-falls (s .pre .1 .0) (s .args .p) (s .pre .1 .2) (c .before .before .before .before .loop .r) (c .before .before .before .loop-test .taken)
+      let f = rule-falls (s .pre .1 .0 .tables) (s .args .p) (s .pre .1 .1) (c .before .before .before .before .loop .r) (c .before .before .before .loop-test .taken)
       (bitsOf 32 (s .args .mask)) y in
-      (omega arith, (s .pre .1 .0, c .before .before .before .before .loop .inv .1 .sum .memo, s .pre .1 .2, omega arith))
+      (omega arith, (record { tables = s .pre .1 .0 .tables; memo = c .before .before .before .before .loop .inv .1 .sum .memo }, s .pre .1 .1, omega arith))
 
   U-capped-sum-requires : U.Need-capped-sum-requires (U-claims t) (U-at t) update.Post U-Inv U-μ
   U-capped-sum-requires c κs = omega (arith, small (c .before .before .before .before .before .before .before .loop .inv .1 .sum), small (c .before .before .rule-charge .ensures))
@@ -281,24 +281,24 @@ module _ (t : ℕ) where
         omega arith,
         rw (w .6, w .7)
             (more i
-            (heard-yes (s .pre .1 .0) (s .args .p) (s .pre .1 .2) r k u (sym (c .before .hears .ensures) ∙ w .0 .taken))
+            (heard-yes (s .pre .1 .0 .tables) (s .args .p) (s .pre .1 .1) r k u (sym (c .before .hears .ensures) ∙ w .0 .taken))
             (w .2 .ensures) (w .5 .ensures)),
       ))
       (λ w. (
         omega arith,
         rw (w .1, w .2)
-            (skip i (heard-no (s .pre .1 .0) (s .args .p) (s .pre .1 .2) r k u (sym (c .before .hears .ensures) ∙ w .0 .left))),
+            (skip i (heard-no (s .pre .1 .0 .tables) (s .args .p) (s .pre .1 .1) r k u (sym (c .before .hears .ensures) ∙ w .0 .left))),
       ))
       (c .if1 .came)
 
   U-same-length : U.Need-same-length (U-claims t) (U-at t) update.Post U-Inv U-μ
-  U-same-length c = c .before .loop .inv .1 .sum .memo .long ∙ sym (c .before .before .before .before .before .pre .1 .1 .long)
+  U-same-length c = c .before .loop .inv .1 .sum .memo .long ∙ sym (c .before .before .before .before .before .pre .1 .0 .memo .long)
 
   U-returns : U.Need-returns (U-claims t) (U-at t) update.Post U-Inv U-μ
   U-returns c =
       let s = c .before .before .before .before .before in
       same (whole (c .before .loop .inv .1) (s .args .count) (omega arith))
-      (update-all (s .pre .1 .0) (s .args .p) (s .pre .1 .2) (bitsOf 32 (s .args .mask)))
+      (update-all (s .pre .1 .0 .tables) (s .args .p) (s .pre .1 .1) (bitsOf 32 (s .args .mask)))
 
 pub +rule-charge+update-charge-spec : {M : Type 1} → statement M
 +rule-charge+update-charge-spec =
