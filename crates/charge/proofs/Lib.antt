@@ -4,3 +4,4 @@ pub mod Terms
 pub mod Heights
 pub mod Sums
 pub mod Tabled
+pub mod Search

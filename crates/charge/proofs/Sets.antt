@@ -1,12 +1,11 @@
 -- Sets of channels as masks, of which the low 32 bits count. Assumes nothing.
-use Prim.Native.Nat.{ℕ, _/_, _%_, _^_, _<_}
+use Prim.Native.Nat.{ℕ, _<_}
 use mathlib.Core.Path.{_≡_, refl, sym, ap, _∙_}
 use mathlib.Core.Logic.{⊎-elim}
 use mathlib.Core.Bool.{Bool, true, false, _&&_}
 use mathlib.Core.List.{List, [], _∷_}
 use native.Mathlib.Omega.{arith}
 use lib.Bits.{bitAnd, and-le-r}
-use borrow.Author.Tests.{eq-eqb, ne-eqb}
 use Rattle.lists.specs.Lists.{lists, all, any, below, member}
 use Rattle.lists.specs.Bits.{bit}
 use Rattle.lists.specs.Laws.Booleans.{true-or-false, contradiction, not-true→false, and-both, and-left, and-right}
@@ -87,14 +86,13 @@ module _ (e m : ℕ) where
     abbrev Hears : Bool → Type 0
     Hears b = b ≡ (bit x r && any (λ c. member c (bitsOf 32 e)) (bitsOf 32 m))
 
-    pub not-carried : (x / 2 ^ r % 2 ≡ 1 → ⊥) → Hears false
-    unfolding bit
-    not-carried h = sym (ap (λ b. b && any (λ c. member c (bitsOf 32 e)) (bitsOf 32 m)) (ne-eqb (x / 2 ^ r % 2) 1 h))
+    pub not-carried : bit x r ≡ false → Hears false
+    not-carried h = sym (ap (λ b. b && any (λ c. member c (bitsOf 32 e)) (bitsOf 32 m)) h)
 
     pub not-heard : bitAnd (bitAnd e m) 4294967295 ≡ 0 → Hears false
     unfolding common
     not-heard z = sym (false-right (bit x r) common (apart z))
 
-    pub is-heard : x / 2 ^ r % 2 ≡ 1 → (bitAnd (bitAnd e m) 4294967295 ≡ 0 → ⊥) → Hears true
-    unfolding common bit
-    is-heard h z = sym (and-both (eq-eqb (x / 2 ^ r % 2) 1 h) (meeting z))
+    pub is-heard : bit x r ≡ true → (bitAnd (bitAnd e m) 4294967295 ≡ 0 → ⊥) → Hears true
+    unfolding common
+    is-heard h z = sym (and-both h (meeting z))

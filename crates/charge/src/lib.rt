@@ -1,10 +1,19 @@
 // The charge of updates and rules, from the tables of a deck without cycles. The definitions are in specs/.
 ghost use mathlib.Core.Path.{_≡_};
-ghost use mathlib.Core.Bool.{not, cond};
-ghost use Prim.Native.Nat.{_+_, _<_, _≤_};
-ghost use lib.Dec.{eqb};
-ghost use lib.ListN.{length};
-ghost use Rattle.charge.specs.Memo.{Ready, UpdateGives, RuleGives, hearing, capped};
+ghost use mathlib.Core.Bool.{not, cond, _&&_};
+ghost use Prim.Native.Nat.{_+_, _*_, _<_, _≤_, max};
+ghost use lib.Dec.{eqb, ltb};
+ghost use lib.ListN.{length, getD};
+ghost use Rattle.lists.specs.Bits.{bit};
+ghost use Rattle.deck.specs.Shape.{shapeOf};
+ghost use Rattle.charge.specs.Memo.{AcyclicTables, Ready, UpdateGives, RuleGives, hearing, capped};
+ghost use Rattle.charge.specs.Answer.{boundOf};
+
+// The largest charge of a carried rule; or the lowest place, 64 times part + rule, of one above 65,535.
+pub enum Bound {
+    Within(u32),
+    Above(usize),
+}
 
 // A sum that stops at 65,536, so that it fits however large the charge is.
 fn capped_sum(a: u32, b: u32) -> u32
@@ -15,13 +24,21 @@ fn capped_sum(a: u32, b: u32) -> u32
     if s < 65536 { s } else { 65536 }
 }
 
+// Whether part p carries rule r.
+fn carries(parts: &[u64], p: usize, r: usize) -> bool
+    requires { ⌜ (64 ≤ length (now parts)) × (p < 16) × (r < 64) ⌝ }
+    ensures { λ b. ⌜ b ≡ bit (getD (now (parts .entry)) (4 * p) 0) r ⌝ }
+{
+    let carried = parts[4 * p];
+    (carried >> r) % 2 == 1
+}
+
 // Whether part p carries rule r, and the rule has a channel of the mask among its events.
 fn hears(rules: &[u64], parts: &[u64], p: usize, r: usize, mask: u64) -> bool
     requires { ⌜ (512 ≤ length (now rules)) × (64 ≤ length (now parts)) × (p < 16) × (r < 64) ⌝ }
     ensures { λ b. ⌜ b ≡ hearing (now (rules .entry)) (now (parts .entry)) p r mask ⌝ }
 {
-    let carried = parts[4 * p];
-    if (carried >> r) % 2 == 1 {
+    if carries(parts, p, r) {
         let events = rules[8 * r];
         let common = events & mask & 4294967295;
         if common == 0 { false } else { true }
@@ -101,4 +118,51 @@ pub fn rule_charge(
     }
     memo[at] = sum + 1;
     sum
+}
+
+// Whether there is a rule r, and part p carries it.
+fn is_carried(parts: &[u64], count: usize, p: usize, r: usize) -> bool
+    requires { ⌜ (64 ≤ length (now parts)) × (p < 16) × (r < 64) ⌝ }
+    ensures { λ b. ⌜ b ≡ (ltb r count && bit (getD (now (parts .entry)) (4 * p) 0) r) ⌝ }
+{
+    if r < count {
+        carries(parts, p, r)
+    } else {
+        false
+    }
+}
+
+fn larger(a: u32, b: u32) -> u32
+    ensures { λ r. ⌜ r ≡ max a b ⌝ }
+{
+    if a < b { b } else { a }
+}
+
+// The bound on the charges of the carried rules, lowest place first.
+pub fn first_above(
+    rules: &[u64],
+    parts: &[u64],
+    channels: usize,
+    count: usize,
+    parts_count: usize,
+) -> Bound
+    requires { ⌜ AcyclicTables (now rules) (now parts) channels count «parts_count» ⌝ }
+    ensures { λ b. ⌜ b ≡ boundOf (shapeOf (now (rules .entry)) (now (parts .entry)) channels count «parts_count») ⌝ }
+{
+    let mut memo = [0u32; 1024];
+    let mut best: u32 = 0;
+    let mut place: usize = 0;
+    while place < 64 * parts_count {
+        let p = place / 64;
+        let r = place % 64;
+        if is_carried(parts, count, p, r) {
+            let c = rule_charge(rules, parts, &mut memo, channels, count, parts_count, p, r);
+            if c == 65536 {
+                return Bound::Above(place);
+            }
+            best = larger(best, c);
+        }
+        place += 1;
+    }
+    Bound::Within(best)
 }

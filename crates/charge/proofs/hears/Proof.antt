@@ -1,5 +1,6 @@
 -- `charge::hears` meets its contract: bit r of the carried rules, and a common bit of the two masks. Assumes nothing.
 use Prim.Native.Nat.{ℕ, _*_}
+use mathlib.Core.Path.{sym, _∙_}
 use borrow.Author.Needs.{needs}
 use lib.ListN.{getD}
 use Rattle.charge.proofs.Sets.{not-carried, not-heard, is-heard}
@@ -7,18 +8,10 @@ use Rattle.charge.proofs.hears.Statement.{statement}
 use Rattle.charge.proofs.hears.Tie as tie
 use Rattle.charge.proofs.hears.Reads as reads
 use Rattle.charge.proofs.hears.Lts as lts
+use Rattle.charge.proofs.carries.Reads as carries-reads
 
-mul-carried : tie.Need-mul-carried
-mul-carried c = search needs
-
-mul-carried-2 : tie.Need-mul-carried-2
-mul-carried-2 c = search needs
-
-shared-slice-read-carried : tie.Need-shared-slice-read-carried
-shared-slice-read-carried c = search needs
-
-shr-if1 : tie.Need-shr-if1
-shr-if1 c = search needs
+carries-requires : tie.Need-carries-requires
+carries-requires c κs = search needs
 
 mul-events : tie.Need-mul-events
 mul-events c = search needs
@@ -29,7 +22,7 @@ mul-events-2 c = search needs
 shared-slice-read-events : tie.Need-shared-slice-read-events
 shared-slice-read-events c = search needs
 
-module _ (s : lts.Start reads.Pre reads.Post) where
+module _ (s : lts.Start (carries-reads.Asked, carries-reads.Learnt) reads.Pre reads.Post) where
   abbrev events : ℕ
   events = getD (s .args .rules .now) (8 * s .args .r) 0
 
@@ -38,27 +31,24 @@ module _ (s : lts.Start reads.Pre reads.Post) where
 
 returns : tie.Need-returns
 returns c =
-    let s = c .before .before .before .before in
+    let s = c .before .before .before .before .before .before in
     not-heard (events s) (s .args .mask) (carried s) (s .args .r) (c .if2 .taken)
 
 returns-2 : tie.Need-returns-2
 returns-2 c =
-    let s = c .before .before .before .before in
-    is-heard (events s) (s .args .mask) (carried s) (s .args .r) (c .before .before .if1 .taken) (c .if2 .left)
+    let s = c .before .before .before .before .before .before in
+    is-heard (events s) (s .args .mask) (carried s) (s .args .r) (sym (c .before .before .before .carries .ensures) ∙ c .before .before .if1 .taken) (c .if2 .left)
 
 returns-3 : tie.Need-returns-3
 returns-3 c =
-    let s = c .before .before in
-    not-carried (events s) (s .args .mask) (carried s) (s .args .r) (c .if1 .left)
+    let s = c .before .before .before .before in
+    not-carried (events s) (s .args .mask) (carried s) (s .args .r) (sym (c .before .carries .ensures) ∙ c .if1 .left)
 
 pub hears-spec : {M : Type 1} → statement M
 hears-spec =
     tie.close
     (tie.spec
-    mul-carried
-    mul-carried-2
-    shared-slice-read-carried
-    shr-if1
+    carries-requires
     mul-events
     mul-events-2
     shared-slice-read-events
