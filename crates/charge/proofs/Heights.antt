@@ -14,7 +14,8 @@ use Rattle.graph.specs.Laws.Reach.{height, height-falls}
 use Rattle.graph.specs.Laws.Edges.{carried-intro, edge-intro}
 use Rattle.graph.specs.Laws.Cycles.{KnownTargets, Acyclic, edge-inside}
 use Rattle.charge.specs.Laws.Active.{active-member}
-use Rattle.charge.proofs.Terms.{defaults, actions, listens}
+use Rattle.charge.specs.Laws.Equations.{defaults, actions}
+use Rattle.charge.proofs.Terms.{listens}
 
 module _ (d : Deck) where
   above : ℕ → ℕ

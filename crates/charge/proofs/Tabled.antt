@@ -14,8 +14,9 @@ use Rattle.deck.specs.Shape.{bitsOf, shapeOf}
 use Rattle.deck.specs.Laws.Shape.{shape-M, shape-N}
 use Rattle.charge.specs.Charge.{unlessEmpty, updateCharge, ruleCharge}
 use Rattle.charge.specs.Memo.{AcyclicTables}
+use Rattle.charge.specs.Laws.Equations.{defaults, actions}
 use Rattle.charge.proofs.Sets.{low-bits, no-channel, some-channel}
-use Rattle.charge.proofs.Terms.{defaults, actions, listens, heard, own, reaches, sent, unless-none, unless-some, when-no, when-yes, update-is, rule-is, rule-empty, defaults-are, actions-are, listens-is, reaches-is}
+use Rattle.charge.proofs.Terms.{listens, heard, own, reaches, sent, unless-none, unless-some, when-no, when-yes, update-is, rule-is, rule-empty, defaults-are, actions-are, listens-is, reaches-is}
 use Rattle.charge.proofs.Heights.{rank, updateRank, ruleRank, falls}
 
 module _ {rules parts : List ℕ} {R′ M′ N′ : ℕ} (h : AcyclicTables rules parts R′ M′ N′) where

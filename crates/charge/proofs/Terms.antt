@@ -16,15 +16,9 @@ use Rattle.deck.specs.Shape.{bitsOf, ruleShape, shapeOf}
 use Rattle.deck.specs.Laws.Shape.{setting-targets, shape-M, shape-N, shape-rule, shape-carries, shape-kind}
 use Rattle.graph.specs.Laws.Cycles.{KnownTargets, Acyclic}
 use Rattle.charge.specs.Charge.{others, receivers, unlessEmpty, updateCharge, ruleCharge}
-use Rattle.charge.specs.Laws.Equations.{charge-of-update, charge-of-rule}
+use Rattle.charge.specs.Laws.Equations.{defaults, actions, charge-of-update, charge-of-rule}
 
 module _ (d : Deck) where
-  abbrev pub defaults : ℕ → List ℕ
-  defaults r = targets (ruleAt d r .default)
-
-  abbrev pub actions : ℕ → List ℕ
-  actions r = targets (ruleAt d r .action)
-
   -- rule r at part p listens to an update of u; what it adds to the update's charge
   abbrev pub listens : ℕ → List ℕ → ℕ → Bool
   listens p u r = carries d p r && any (λ c. member c (ruleAt d r .events)) u
@@ -34,14 +28,14 @@ module _ (d : Deck) where
 
   -- the charge of rule r's default action at part p
   abbrev pub own : ℕ → ℕ → ℕ
-  own p r = unlessEmpty (defaults r) (updateCharge d p (defaults r))
+  own p r = unlessEmpty (defaults d r) (updateCharge d p (defaults d r))
 
   -- part q gets the action of rule r at part p; what it adds to the rule's charge
   abbrev pub reaches : ℕ → ℕ → ℕ → Bool
   reaches p r q = cond (ruleAt d r .everywhere) (not (eqb q p)) (eqb q p)
 
   abbrev pub sent : ℕ → ℕ → ℕ → ℕ
-  sent p r q = cond (reaches p r q) (unlessEmpty (actions r) (updateCharge d q (actions r))) 0
+  sent p r q = cond (reaches p r q) (unlessEmpty (actions d r) (updateCharge d q (actions d r))) 0
 
   received : (f : ℕ → ℕ) (p r : ℕ) → p < N d → sum f (receivers d p r) ≡ sum (λ q. cond (reaches p r q) (f q) 0) (below (N d))
   unfolding receivers others sum

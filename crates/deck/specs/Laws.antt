@@ -11,3 +11,4 @@ pub mod Within
 pub mod Prefix
 pub mod Scoped
 pub mod Shape
+pub mod Tables

@@ -5,5 +5,6 @@ pub mod Reader
 pub mod Layout
 pub mod Encoding
 pub mod Shape
+pub mod Tables
 pub mod Laws
 pub mod Cases
