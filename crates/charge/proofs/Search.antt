@@ -1,6 +1,6 @@
 -- The search over the places 64 p + r, lowest first: what is known of those that are passed. Assumes nothing.
 use Prim.Native.Nat.{ℕ, zero, suc, _+_, _*_, _/_, _%_, _≤_, _<_, max, zero-le}
-use mathlib.Core.Path.{_≡_, refl, sym, ap, _∙_, subst}
+use mathlib.Core.Path.{_≡_, refl, sym, ap, _∙_}
 use mathlib.Core.Logic.{⊎-elim}
 use mathlib.Core.Bool.{true, false, _&&_}
 use mathlib.Core.List.{List, [], _∷_}
@@ -68,8 +68,8 @@ module _ (d : Deck) (few : M d ≤ 64) where
     passed-skip none =
         record { most = step (le-refl best) (λ c. absurd (none c)); least = h .least; fits = h .fits }
 
-    pub passed-more : {c b : ℕ} → Carried d k → c ≡ capped (ruleCharge d (k / 64) (k % 64)) → (c ≡ 65536 → ⊥) → b ≡ max best c
-        → Passed d (k + 1) b
+    pub passed-more : {c b : ℕ} → Carried d k → c ≡ capped (ruleCharge d (k / 64) (k % 64)) → (c ≡ 65536 → ⊥)
+        → b ≡ max best c → Passed d (k + 1) b
     passed-more {c} {b} y v n e =
         let charge : c ≡ ruleCharge d (k / 64) (k % 64) = omega arith in
         let most = charge-most k y in
@@ -104,7 +104,8 @@ module _ (d : Deck) (few : M d ≤ 64) where
                 absurd
                 (omega (
                   arith,
-                  h .most (first .part) (first .rule) (first .part-known) (first .rule-known) (first .carried) (omega (arith, first .place)),
+                  h .most (first .part) (first .rule) (first .part-known) (first .rule-known) (first .carried)
+                      (omega (arith, first .place)),
                   h .fits,
                   first .above,
                 ))

@@ -1,11 +1,11 @@
 -- A capped sum that a loop adds up, over a memo that stays right. Assumes nothing.
-use Prim.Native.Nat.{ℕ, zero, suc, _+_, _*_, _/_, _%_, _<_, _≤_}
-use mathlib.Core.Path.{_≡_, refl, sym, ap, ap₂, _∙_}
+use Prim.Native.Nat.{ℕ, suc, _+_, _*_, _/_, _%_, _<_, _≤_}
+use mathlib.Core.Path.{_≡_, sym, ap, ap₂, _∙_}
 use mathlib.Core.List.{List}
 use native.Mathlib.Numerals.{add-one}
 use native.Mathlib.Omega.{arith}
 use native.Mathlib.Decide.{ℕ-discrete}
-use lib.ListN.{length, getD, set, length-set}
+use lib.ListN.{getD, set, length-set}
 use lib.Seq.{getD-set-same, getD-set-other}
 use Rattle.lists.specs.Lists.{sum, below}
 use Rattle.lists.specs.Laws.Steps.{sum-start, sum-next}
@@ -59,7 +59,8 @@ module _ (d : Deck) (m : List ℕ) (p r : ℕ) (h : Memo d m) (l : r < 64) where
       m′ : List ℕ
       m′ = set m (64 * p + r) (x + 1)
 
-      go : (i : ℕ) → (getD m′ i 0 ≡ 0 → ⊥) → Dec (i ≡ 64 * p + r) → getD m′ i 0 ≡ suc (capped (ruleCharge d (i / 64) (i % 64)))
+      go : (i : ℕ) → (getD m′ i 0 ≡ 0 → ⊥) → Dec (i ≡ 64 * p + r)
+          → getD m′ i 0 ≡ suc (capped (ruleCharge d (i / 64) (i % 64)))
       go i n (yes q) =
           let a : i / 64 ≡ p = omega arith in
           let b : i % 64 ≡ r = omega arith in

@@ -1,18 +1,18 @@
 -- The terms of the two charges in the numbers that the functions read from the tables. Assumes nothing.
-use Prim.Native.Nat.{ℕ, suc, _+_, _*_, _<_, max}
-use mathlib.Core.Path.{_≡_, refl, sym, ap, _∙_, subst}
+use Prim.Native.Nat.{ℕ, _+_, _*_, _<_}
+use mathlib.Core.Path.{_≡_, sym, ap, _∙_}
 use mathlib.Core.Bool.{Bool, true, false, not, _&&_, cond}
-use mathlib.Core.List.{List, []}
+use mathlib.Core.List.{List}
 use native.Mathlib.Omega.{arith}
 use lib.Bits.{bitAnd}
 use lib.Dec.{eqb}
 use lib.ListN.{getD}
 use Rattle.lists.specs.Lists.{any, sum, below, member}
 use Rattle.lists.specs.Bits.{bit}
-use Rattle.deck.specs.Deck.{Deck, M, N}
+use Rattle.deck.specs.Deck.{Deck, N}
 use Rattle.deck.specs.Shape.{bitsOf, shapeOf}
 use Rattle.deck.specs.Laws.Shape.{shape-M, shape-N}
-use Rattle.charge.specs.Charge.{unlessEmpty, updateCharge, ruleCharge}
+use Rattle.charge.specs.Charge.{updateCharge, ruleCharge}
 use Rattle.charge.specs.Memo.{AcyclicTables}
 use Rattle.charge.specs.Laws.Equations.{defaults, actions}
 use Rattle.charge.proofs.Sets.{low-bits, no-channel, some-channel}

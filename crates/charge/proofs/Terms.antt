@@ -13,7 +13,7 @@ use Rattle.lists.specs.Laws.Sums.{sum-zero}
 use Rattle.lists.specs.Laws.Steps.{sum-filtered, sum-only}
 use Rattle.deck.specs.Deck.{Deck, M, N, ruleAt, carries, targets, active}
 use Rattle.deck.specs.Shape.{bitsOf, ruleShape, shapeOf}
-use Rattle.deck.specs.Laws.Shape.{setting-targets, shape-M, shape-N, shape-rule, shape-carries, shape-kind}
+use Rattle.deck.specs.Laws.Shape.{setting-targets, shape-rule, shape-carries, shape-kind}
 use Rattle.graph.specs.Laws.Cycles.{KnownTargets, Acyclic}
 use Rattle.charge.specs.Charge.{others, receivers, unlessEmpty, updateCharge, ruleCharge}
 use Rattle.charge.specs.Laws.Equations.{defaults, actions, charge-of-update, charge-of-rule}
@@ -37,14 +37,16 @@ module _ (d : Deck) where
   abbrev pub sent : ℕ → ℕ → ℕ → ℕ
   sent p r q = cond (reaches p r q) (unlessEmpty (actions d r) (updateCharge d q (actions d r))) 0
 
-  received : (f : ℕ → ℕ) (p r : ℕ) → p < N d → sum f (receivers d p r) ≡ sum (λ q. cond (reaches p r q) (f q) 0) (below (N d))
+  received : (f : ℕ → ℕ) (p r : ℕ) → p < N d
+      → sum f (receivers d p r) ≡ sum (λ q. cond (reaches p r q) (f q) 0) (below (N d))
   unfolding receivers others sum
   received f p r l = go (ruleAt d r .everywhere)
     where
       only : ℕ → ℕ
       only q = cond (eqb q p) (f q) 0
 
-      go : (b : Bool) → sum f (cond b (others d p) (p ∷ [])) ≡ sum (λ q. cond (cond b (not (eqb q p)) (eqb q p)) (f q) 0) (below (N d))
+      go : (b : Bool) → sum f (cond b (others d p) (p ∷ []))
+          ≡ sum (λ q. cond (cond b (not (eqb q p)) (eqb q p)) (f q) 0) (below (N d))
       go true = sum-filtered f (λ q. not (eqb q p)) (below (N d))
       go false =
           let one = sum-only only p (λ q h. ap (λ b. cond b (f q) 0) (ne-eqb q p h)) (N d) l in
@@ -80,7 +82,11 @@ module _ {d : Deck} (known : KnownTargets d) (acyclic : Acyclic d) (p : ℕ) (l 
 
   pub rule-empty : (r : ℕ) → actions d r ≡ [] → own d p r ≡ ruleCharge d p r
   rule-empty r e =
-      omega (arith, rule-is r, sum-zero (sent d p r) (below (N d)) (λ q. nothing (reaches d p r q) _ (unless-none (actions d r) _ e)))
+      omega (
+        arith,
+        rule-is r,
+        sum-zero (sent d p r) (below (N d)) (λ q. nothing (reaches d p r q) _ (unless-none (actions d r) _ e)),
+      )
     where
       nothing : (b : Bool) (x : ℕ) → x ≡ 0 → cond b x 0 ≡ 0
       nothing true x e = e

@@ -1,5 +1,5 @@
--- The flat tables of a deck, with sets as numbers: rows of eight numbers for the rules, rows of four for the parts. What else
--- a row holds plays no role here. Assumes nothing.
+-- The flat tables of a deck, with sets as numbers: rows of eight numbers for the rules, rows of four for the parts. What
+-- else a row holds plays no role here. Assumes nothing.
 use Prim.Native.Nat.{ℕ, _+_, _*_, _<_, _≤_}
 use mathlib.Core.Path.{_≡_}
 use mathlib.Core.Bool.{true}

@@ -1,10 +1,11 @@
--- `charge::rule_charge` and `charge::update_charge` meet their contracts. Each calls the other with a lower rank: the measure.
--- The loops' invariants: the charges of the numbers passed are added, capped, and the memo is right. Assumes nothing.
-use Prim.Native.Nat.{ℕ, _<_, _≤_, _-_, _+_, _*_}
-use mathlib.Core.Path.{_≡_, refl, sym, ap, _∙_}
+-- `charge::rule_charge` and `charge::update_charge` meet their contracts. Each calls the other with a lower rank: the
+-- measure. The loops' invariants: the charges of the numbers passed are added, capped, and the memo is right. Assumes
+-- nothing.
+use Prim.Native.Nat.{ℕ, _<_, _≤_, _-_, _+_}
+use mathlib.Core.Path.{refl, sym, ap, _∙_}
 use mathlib.Core.Logic.{⊎-elim}
 use native.Mathlib.Omega.{arith}
-use lib.ListN.{length, length-set}
+use lib.ListN.{length-set}
 use borrow.Fn.Kinds.{In}
 use borrow.Fn.PlainCycle.{Measures, is, falls, and}
 use Rattle.deck.specs.Deck.{Deck}
@@ -29,7 +30,8 @@ use Rattle.charge.proofs.+rule_charge+update_charge.Tie.{close}
 
 abbrev μ-rule : Measures 3 rule-kinds.ps ℕ
 μ-rule κs a =
-    ruleRank (shapeOf (a .0 .now) (a .1 .0 .now) (a .1 .1 .1 .0) (a .1 .1 .1 .1 .0) (a .1 .1 .1 .1 .1 .0)) (a .1 .1 .1 .1 .1 .1 .1 .0)
+    ruleRank (shapeOf (a .0 .now) (a .1 .0 .now) (a .1 .1 .1 .0) (a .1 .1 .1 .1 .0) (a .1 .1 .1 .1 .1 .0))
+    (a .1 .1 .1 .1 .1 .1 .1 .0)
 
 abbrev μ-update : Measures 3 update-kinds.ps ℕ
 μ-update κs a =
@@ -84,30 +86,37 @@ module _ (t : ℕ) where
 
   -- after the default action
   first : (c : R.Joined2 (R-claims t) (R-at t) rule.Post R-Inv R-μ)
-      → let s = c .before .before .before .before .before .before .before .before .before in Answered (R-deck s) (own (R-deck s) (s .args .p) (s .args .r)) (c .if2 .memo) (c .if2 .sum)
+      → let s = c .before .before .before .before .before .before .before .before .before in
+      Answered (R-deck s) (own (R-deck s) (s .args .p) (s .args .r)) (c .if2 .memo) (c .if2 .sum)
   first c =
       let s = c .before .before .before .before .before .before .before .before .before in
       ⊎-elim
       (λ w.
       rw (w .5, w .6)
-      (same (w .2 .ensures) (own-some (s .pre .1 .0 .tables) (s .args .p) (s .pre .1 .1) (s .args .r) (s .pre .1 .2) (w .0 .taken))))
+      (same (w .2 .ensures)
+      (own-some (s .pre .1 .0 .tables) (s .args .p) (s .pre .1 .1) (s .args .r) (s .pre .1 .2) (w .0 .taken))))
       (λ w.
       rw (w .1, w .2)
       record {
-        value = sym (ap capped (own-none (s .pre .1 .0 .tables) (s .args .p) (s .pre .1 .1) (s .args .r) (s .pre .1 .2) (w .0 .left)));
+        value = sym
+            (ap capped
+            (own-none (s .pre .1 .0 .tables) (s .args .p) (s .pre .1 .1) (s .args .r) (s .pre .1 .2) (w .0 .left)));
         memo = s .pre .1 .0 .memo;
       })
       (c .if2 .came)
 
   -- after both
   both : (c : R.Joined3 (R-claims t) (R-at t) rule.Post R-Inv R-μ)
-      → let s = c .before .before .before .before .before .before .before .before .before .before in Answered (R-deck s) (ruleCharge (R-deck s) (s .args .p) (s .args .r)) (c .if3 .memo) (c .if3 .sum)
+      → let s = c .before .before .before .before .before .before .before .before .before .before in
+      Answered (R-deck s) (ruleCharge (R-deck s) (s .args .p) (s .args .r)) (c .if3 .memo) (c .if3 .sum)
   both c =
-      let s = c .before .before .before .before .before .before .before .before .before .before in
+      let j = c .before .before .before .before .before in
+      let s = j .before .before .before .before .before in
       ⊎-elim
       (λ w.
       rw (w .3, w .4)
-      (same (whole (w .1 .inv .1) (s .args .parts-count) (omega arith)) (rule-all (s .pre .1 .0 .tables) (s .args .p) (s .pre .1 .1) (s .args .r))))
+      (same (whole (w .1 .inv .1) (s .args .parts-count) (omega arith))
+      (rule-all (s .pre .1 .0 .tables) (s .args .p) (s .pre .1 .1) (s .args .r))))
       (λ w.
       rw (w .1, w .2)
       (same (first (c .before))
@@ -132,7 +141,8 @@ module _ (t : ℕ) where
   R-returns : R.Need-returns (R-claims t) (R-at t) rule.Post R-Inv R-μ
   R-returns c =
       let s = c .before .before .before .before .before in
-      let e = memo-at (R-deck s) (s .args .memo .now) (s .args .p) (s .args .r) (s .pre .1 .0 .memo) (omega arith) (c .if1 .taken) in
+      let m = s .pre .1 .0 .memo in
+      let e = memo-at (R-deck s) (s .args .memo .now) (s .args .p) (s .args .r) m (omega arith) (c .if1 .taken) in
       record { value = omega (arith, e); memo = s .pre .1 .0 .memo }
 
   R-mul-first : R.Need-mul-first (R-claims t) (R-at t) rule.Post R-Inv R-μ
@@ -173,7 +183,8 @@ module _ (t : ℕ) where
 
   R-update-charge-requires : R.Need-update-charge-requires (R-claims t) (R-at t) rule.Post R-Inv R-μ
   R-update-charge-requires c κs =
-      let s = c .before .before .before .before .before .before .before .before .before .before in
+      let j = c .before .before .before .before .before in
+      let s = j .before .before .before .before .before in
       let f = first-falls (s .pre .1 .0 .tables) (s .args .p) (s .pre .1 .1) (s .args .r) (s .pre .1 .2) in
       (omega arith, (s .pre .1 .0, s .pre .1 .1))
 
@@ -185,12 +196,16 @@ module _ (t : ℕ) where
 
   R-update-charge-requires-2 : R.Need-update-charge-requires-2 (R-claims t) (R-at t) rule.Post R-Inv R-μ
   R-update-charge-requires-2 c κs =
-      let s = c .before .before .before .before .before .before .before .before .before .before .before .before .before .before .before in
+      let j = c .before .before .before .before .before in
+      let s = j .before .before .before .before .before .before .before .before .before .before in
       let f = second-falls (s .pre .1 .0 .tables) (s .args .p) (s .pre .1 .1) (s .args .r) (s .pre .1 .2) in
-      (omega arith, (record { tables = s .pre .1 .0 .tables; memo = c .before .before .before .before .loop .inv .1 .sum .memo }, omega arith))
+      let m = c .before .before .before .before .loop .inv .1 .sum .memo in
+      (omega arith, (record { tables = s .pre .1 .0 .tables; memo = m }, omega arith))
 
   R-capped-sum-requires : R.Need-capped-sum-requires (R-claims t) (R-at t) rule.Post R-Inv R-μ
-  R-capped-sum-requires c κs = omega (arith, small (c .before .before .before .before .before .before .before .loop .inv .1 .sum), small (c .before .before .update-charge2 .ensures))
+  R-capped-sum-requires c κs =
+      let i = c .before .before .before .before .before .before .before .loop in
+      omega (arith, small (i .inv .1 .sum), small (c .before .before .update-charge2 .ensures))
 
   R-add-q : R.Need-add-q (R-claims t) (R-at t) rule.Post R-Inv R-μ
   R-add-q c = omega arith
@@ -200,7 +215,8 @@ module _ (t : ℕ) where
 
   R-loop-again : R.Need-loop-again (R-claims t) (R-at t) rule.Post R-Inv R-μ
   R-loop-again c =
-      let s = c .before .before .before .before .before .before .before .before .before .before .before .before .before .before in
+      let j = c .before .before .before .before .before in
+      let s = j .before .before .before .before .before .before .before .before .before in
       let i = c .before .before .before .loop .inv .1 in
       let q = c .before .before .before .loop .q in
       ⊎-elim
@@ -208,7 +224,8 @@ module _ (t : ℕ) where
         omega arith,
         rw (w .6, w .7)
             (more i
-            (sent-yes (s .pre .1 .0 .tables) (s .args .p) (s .pre .1 .1) (s .args .r) (s .pre .1 .2) (c .before .before .before .before .if3 .taken) q
+            (sent-yes (s .pre .1 .0 .tables) (s .args .p) (s .pre .1 .1) (s .args .r) (s .pre .1 .2)
+            (c .before .before .before .before .if3 .taken) q
             (sym (c .before .gets .ensures) ∙ w .0 .taken))
             (w .2 .ensures) (w .5 .ensures)),
       ))
@@ -231,15 +248,19 @@ module _ (t : ℕ) where
   R-slice-write-memo c = omega (arith, both (c .before) .memo .long)
 
   R-same-length : R.Need-same-length (R-claims t) (R-at t) rule.Post R-Inv R-μ
-  R-same-length c = rw length-set (both (c .before) .memo .long ∙ sym (c .before .before .before .before .before .before .before .before .before .before .before .pre .1 .0 .memo .long))
+  R-same-length c =
+      let s = c .before .before .before .before .before .before .before .before .before .before .before in
+      rw length-set (both (c .before) .memo .long ∙ sym (s .pre .1 .0 .memo .long))
 
   R-returns-2 : R.Need-returns-2 (R-claims t) (R-at t) rule.Post R-Inv R-μ
   R-returns-2 c =
-      let s = c .before .before .before .before .before .before .before .before .before .before .before in
+      let j = c .before .before .before .before .before in
+      let s = j .before .before .before .before .before .before in
       let j = both (c .before) in
       record {
         value = j .value;
-        memo = memo-set (R-deck s) (c .before .if3 .memo) (s .args .p) (s .args .r) (j .memo) (omega arith) (c .before .if3 .sum)
+        memo = memo-set (R-deck s) (c .before .if3 .memo) (s .args .p) (s .args .r) (j .memo) (omega arith)
+            (c .before .if3 .sum)
             (omega arith) (j .value);
       }
 
@@ -256,12 +277,16 @@ module _ (t : ℕ) where
   U-rule-charge-requires c κs =
       let s = c .before .before .before .before .before .before .before .before in
       let y = sym (c .before .before .hears .ensures) ∙ c .before .if1 .taken in
-      let f = rule-falls (s .pre .1 .0 .tables) (s .args .p) (s .pre .1 .1) (c .before .before .before .before .loop .r) (c .before .before .before .loop-test .taken)
+      let i = c .before .before .before .before .loop in
+      let k = c .before .before .before .loop-test .taken in
+      let f = rule-falls (s .pre .1 .0 .tables) (s .args .p) (s .pre .1 .1) (i .r) k
       (bitsOf 32 (s .args .mask)) y in
-      (omega arith, (record { tables = s .pre .1 .0 .tables; memo = c .before .before .before .before .loop .inv .1 .sum .memo }, s .pre .1 .1, omega arith))
+      (omega arith, (record { tables = s .pre .1 .0 .tables; memo = i .inv .1 .sum .memo }, s .pre .1 .1, omega arith))
 
   U-capped-sum-requires : U.Need-capped-sum-requires (U-claims t) (U-at t) update.Post U-Inv U-μ
-  U-capped-sum-requires c κs = omega (arith, small (c .before .before .before .before .before .before .before .loop .inv .1 .sum), small (c .before .before .rule-charge .ensures))
+  U-capped-sum-requires c κs =
+      let i = c .before .before .before .before .before .before .before .loop in
+      omega (arith, small (i .inv .1 .sum), small (c .before .before .rule-charge .ensures))
 
   U-add-r : U.Need-add-r (U-claims t) (U-at t) update.Post U-Inv U-μ
   U-add-r c = omega arith
@@ -281,18 +306,23 @@ module _ (t : ℕ) where
         omega arith,
         rw (w .6, w .7)
             (more i
-            (heard-yes (s .pre .1 .0 .tables) (s .args .p) (s .pre .1 .1) r k u (sym (c .before .hears .ensures) ∙ w .0 .taken))
+            (heard-yes (s .pre .1 .0 .tables) (s .args .p) (s .pre .1 .1) r k u
+            (sym (c .before .hears .ensures) ∙ w .0 .taken))
             (w .2 .ensures) (w .5 .ensures)),
       ))
       (λ w. (
         omega arith,
         rw (w .1, w .2)
-            (skip i (heard-no (s .pre .1 .0 .tables) (s .args .p) (s .pre .1 .1) r k u (sym (c .before .hears .ensures) ∙ w .0 .left))),
+            (skip i
+            (heard-no (s .pre .1 .0 .tables) (s .args .p) (s .pre .1 .1) r k u
+            (sym (c .before .hears .ensures) ∙ w .0 .left))),
       ))
       (c .if1 .came)
 
   U-same-length : U.Need-same-length (U-claims t) (U-at t) update.Post U-Inv U-μ
-  U-same-length c = c .before .loop .inv .1 .sum .memo .long ∙ sym (c .before .before .before .before .before .pre .1 .0 .memo .long)
+  U-same-length c =
+      let s = c .before .before .before .before .before in
+      c .before .loop .inv .1 .sum .memo .long ∙ sym (s .pre .1 .0 .memo .long)
 
   U-returns : U.Need-returns (U-claims t) (U-at t) update.Post U-Inv U-μ
   U-returns c =
@@ -303,5 +333,14 @@ module _ (t : ℕ) where
 pub +rule-charge+update-charge-spec : {M : Type 1} → statement M
 +rule-charge+update-charge-spec =
     close μ-rule μ-update
-    (λ t. R.spec (R-claims t) (R-at t) rule.Post R-Inv R-μ (R-mul-at t) (R-add-at t) (R-mul-known t) (R-slice-read-known t) (R-sub-result t) (R-returns t) (R-mul-first t) (R-add-first t) (R-mul-first-2 t) (R-shared-slice-read-first t) (R-mul-second t) (R-add-second t) (R-mul-second-2 t) (R-shared-slice-read-second t) (R-mul-kind t) (R-add-kind t) (R-mul-kind-2 t) (R-shared-slice-read-kind t) (R-update-charge-requires t) (R-loop-holds t) (R-gets-requires t) (R-update-charge-requires-2 t) (R-capped-sum-requires t) (R-add-q t) (R-loop-less t) (R-loop-again t) (R-add-memo t) (R-mul-memo t) (R-slice-write-memo t) (R-same-length t) (R-returns-2 t))
-    (λ t. U.spec (U-claims t) (U-at t) update.Post U-Inv U-μ (U-loop-holds t) (U-hears-requires t) (U-rule-charge-requires t) (U-capped-sum-requires t) (U-add-r t) (U-loop-less t) (U-loop-again t) (U-same-length t) (U-returns t))
+    (λ t. R.spec
+    (R-claims t) (R-at t) rule.Post R-Inv R-μ (R-mul-at t) (R-add-at t) (R-mul-known t) (R-slice-read-known t)
+    (R-sub-result t) (R-returns t) (R-mul-first t) (R-add-first t) (R-mul-first-2 t) (R-shared-slice-read-first t) (R-mul-second t)
+    (R-add-second t) (R-mul-second-2 t) (R-shared-slice-read-second t) (R-mul-kind t) (R-add-kind t) (R-mul-kind-2 t)
+    (R-shared-slice-read-kind t) (R-update-charge-requires t) (R-loop-holds t) (R-gets-requires t)
+    (R-update-charge-requires-2 t) (R-capped-sum-requires t) (R-add-q t) (R-loop-less t) (R-loop-again t)
+    (R-add-memo t) (R-mul-memo t) (R-slice-write-memo t) (R-same-length t) (R-returns-2 t))
+    (λ t. U.spec
+    (U-claims t) (U-at t) update.Post U-Inv U-μ (U-loop-holds t) (U-hears-requires t) (U-rule-charge-requires t)
+    (U-capped-sum-requires t)
+    (U-add-r t) (U-loop-less t) (U-loop-again t) (U-same-length t) (U-returns t))

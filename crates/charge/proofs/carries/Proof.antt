@@ -4,8 +4,6 @@ use Rattle.lists.specs.Bits.{bit}
 use borrow.Author.Needs.{needs}
 use Rattle.charge.proofs.carries.Statement.{statement}
 use Rattle.charge.proofs.carries.Tie as tie
-use Rattle.charge.proofs.carries.Reads as reads
-use Rattle.charge.proofs.carries.Lts as lts
 
 mul-carried : tie.Need-mul-carried
 mul-carried c = search needs

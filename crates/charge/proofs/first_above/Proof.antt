@@ -1,7 +1,7 @@
 -- `charge::first_above` meets its contract. The loop's invariant: best is the largest charge at the places passed, and the
 -- memo is right. The measure is what is left of the places. Assumes nothing.
-use Prim.Native.Nat.{ℕ, _*_, _-_, _/_, _%_, _≤_}
-use mathlib.Core.Path.{_≡_, sym, _∙_}
+use Prim.Native.Nat.{_*_, _-_, _≤_}
+use mathlib.Core.Path.{sym, _∙_}
 use mathlib.Core.Logic.{⊎-elim}
 use native.Mathlib.Omega.{arith}
 use Rattle.deck.specs.Deck.{Deck}
@@ -55,16 +55,20 @@ slice-aggregate-rule-charge c = sym (c .before .before .before .before .loop .in
 rule-charge-requires : tie.Need-rule-charge-requires Inv-loop μ-loop
 rule-charge-requires c κs =
     let s = c .before .before .before .before .before .before .before in
-    let known = rule-known (s .pre) (c .before .before .before .before .loop .place) (c .before .before .before .loop-test .taken)
+    let i = c .before .before .before .before .loop in
+    let known = rule-known (s .pre) (i .place) (c .before .before .before .loop-test .taken)
     (sym (c .before .before .is-carried .ensures) ∙ c .before .if1 .taken) in
-    (record { tables = s .pre; memo = c .before .before .before .before .loop .inv .1 }, omega arith, omega arith)
+    (record { tables = s .pre; memo = i .inv .1 }, omega arith, omega arith)
 
 returns : tie.Need-returns Inv-loop μ-loop
 returns c =
     let s = c .before .before .before .before .before .before .before .before .before .before in
     let i = c .before .before .before .before .before .before .before .loop in
-    let y = is-place (s .pre) (i .place) (c .before .before .before .before .before .before .loop-test .taken) (sym (c .before .before .before .before .before .is-carried .ensures) ∙ c .before .before .before .before .if1 .taken) in
-    passed-above (deckOf s) (few-rules (s .pre)) (i .inv .2) y (omega (arith, c .before .before .rule-charge .ensures .value))
+    let j = c .before .before .before .before in
+    let y = is-place (s .pre) (i .place) (j .before .before .loop-test .taken)
+    (sym (j .before .is-carried .ensures) ∙ j .if1 .taken) in
+    passed-above (deckOf s) (few-rules (s .pre)) (i .inv .2) y
+    (omega (arith, c .before .before .rule-charge .ensures .value))
 
 larger-requires : tie.Need-larger-requires Inv-loop μ-loop
 larger-requires c κs = omega arith
@@ -102,7 +106,8 @@ returns-2 : tie.Need-returns-2 Inv-loop μ-loop
 returns-2 c =
     let s = c .before .before .before .before in
     passed-all (deckOf s) (few-rules (s .pre)) (c .before .loop .inv .2) (s .args .parts-count)
-    (shape-N (s .args .rules .now) (s .args .parts .now) (s .args .channels) (s .args .count) (s .args .parts-count)) (omega arith)
+    (shape-N (s .args .rules .now) (s .args .parts .now) (s .args .channels) (s .args .count) (s .args .parts-count))
+    (omega arith)
 
 pub first-above-spec : {M : Type 1} → statement M
 first-above-spec =

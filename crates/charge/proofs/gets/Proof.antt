@@ -5,8 +5,6 @@ use lib.Dec.{eqb}
 use borrow.Author.Tests.{eq-eqb, ne-eqb}
 use Rattle.charge.proofs.gets.Statement.{statement}
 use Rattle.charge.proofs.gets.Tie as tie
-use Rattle.charge.proofs.gets.Reads as reads
-use Rattle.charge.proofs.gets.Lts as lts
 
 returns : tie.Need-returns
 returns c =

@@ -37,7 +37,8 @@ returns c =
 returns-2 : tie.Need-returns-2
 returns-2 c =
     let s = c .before .before .before .before .before .before in
-    is-heard (events s) (s .args .mask) (carried s) (s .args .r) (sym (c .before .before .before .carries .ensures) ∙ c .before .before .if1 .taken) (c .if2 .left)
+    is-heard (events s) (s .args .mask) (carried s) (s .args .r)
+    (sym (c .before .before .before .carries .ensures) ∙ c .before .before .if1 .taken) (c .if2 .left)
 
 returns-3 : tie.Need-returns-3
 returns-3 c =

@@ -2,14 +2,14 @@
 -- tables have the same charges. Assumes nothing.
 use Prim.Native.Nat.{ℕ, zero, suc, _+_, _*_}
 use mathlib.Core.Path.{_≡_, refl, sym, ap, ap₂, _∙_, fun-ext}
-use mathlib.Core.Bool.{Bool, true, not, _&&_, cond}
+use mathlib.Core.Bool.{Bool, not, _&&_, cond}
 use mathlib.Core.List.{List, [], _∷_, map}
 use lib.Dec.{eqb}
 use Rattle.lists.specs.Lists.{any, filter, flatMap, sum, largest, below, member}
 use Rattle.lists.specs.Laws.Members.{member-empty, member-head}
 use Rattle.lists.specs.Laws.Sums.{sum-cong}
 use Rattle.lists.specs.Laws.Same.{filter-cong, SameMembers, any-same}
-use Rattle.deck.specs.Deck.{Deck, R, M, N, ruleAt, carries, targets, active}
+use Rattle.deck.specs.Deck.{Deck, R, M, N, ruleAt, carries, active}
 use Rattle.deck.specs.Shape.{shapeOf}
 use Rattle.deck.specs.Tables.{TablesOf, Ranged}
 use Rattle.deck.specs.Laws.Tables.{SameTests, shape-tests}

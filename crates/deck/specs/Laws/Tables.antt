@@ -1,21 +1,21 @@
 -- A deck and the shape of its tables pass the same tests. Assumes nothing.
-use Prim.Native.Nat.{ℕ, _+_, _*_, _<_, _≤_}
+use Prim.Native.Nat.{ℕ, _<_, _≤_}
 use mathlib.Core.Path.{_≡_, refl, sym, ap, _∙_}
 use mathlib.Core.Bool.{Bool, true, false}
 use mathlib.Core.List.{List}
 use native.Mathlib.Decide.{decLt}
 use native.Mathlib.Omega.{arith}
 use lib.Dec.{eqb}
-use lib.ListN.{length, getD, List·getD-eq-default}
-use Rattle.lists.specs.Lists.{member, below}
+use lib.ListN.{List·getD-eq-default}
+use Rattle.lists.specs.Lists.{member}
 use Rattle.lists.specs.Bits.{bit, maskOf}
 use Rattle.lists.specs.Laws.Statements.{same-test}
 use Rattle.lists.specs.Laws.Below.{filter-below}
 use Rattle.lists.specs.Laws.Same.{SameMembers}
 use Rattle.lists.specs.Laws.Bits.{maskOf-bit}
-use Rattle.deck.specs.Deck.{Rule, Part, Deck, R, M, N, ruleAt, partAt, carries, targets}
+use Rattle.deck.specs.Deck.{Rule, Deck, R, M, N, ruleAt, partAt, carries, targets}
 use Rattle.deck.specs.Encoding.{kindByte}
-use Rattle.deck.specs.Shape.{bitsOf, setting, ruleShape, partShape, shapeOf}
+use Rattle.deck.specs.Shape.{bitsOf, ruleShape, partShape, shapeOf}
 use Rattle.deck.specs.Tables.{TablesOf, Ranged}
 use Rattle.deck.specs.Laws.Shape.{setting-targets, shape-R, shape-M, shape-N, shape-rule, shape-part}
 

@@ -10,7 +10,8 @@ use native.Mathlib.Omega.{arith}
 use Rattle.lists.specs.Lists.{lists, keep, filter, sum, from, below}
 
 -- what a test lets pass, as terms that are 0 elsewhere
-pub sum-filtered : {A : Type 0} (f : A → ℕ) (t : A → Bool) (l : List A) → sum f (filter t l) ≡ sum (λ x. cond (t x) (f x) 0) l
+pub sum-filtered : {A : Type 0} (f : A → ℕ) (t : A → Bool) (l : List A)
+    → sum f (filter t l) ≡ sum (λ x. cond (t x) (f x) 0) l
 unfolding lists
 sum-filtered f t [] = refl
 sum-filtered {A} f t (x ∷ l) = go (t x) (sum-filtered f t l)
