@@ -3,3 +3,4 @@ pub mod Active
 pub mod Equations
 pub mod Largest
 pub mod Bound
+pub mod Shape

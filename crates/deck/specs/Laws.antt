@@ -22,3 +22,4 @@ pub mod DeckSteps
 pub mod RuleOffsets
 pub mod Rows
 pub mod Shape
+pub mod Tables

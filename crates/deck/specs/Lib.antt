@@ -6,5 +6,6 @@ pub mod Layout
 pub mod Encoding
 pub mod Marks
 pub mod Shape
+pub mod Tables
 pub mod Laws
 pub mod Cases

@@ -13,3 +13,5 @@ pub mod Statements
 pub mod Bits
 pub mod Agreement
 pub mod BitTests
+pub mod Steps
+pub mod Same

@@ -22,18 +22,18 @@ use Rattle.charge.specs.Laws.Active.{active-member}
 
 module _ (d : Deck) where
   -- a rule's two updates
-  abbrev defaults : ℕ → List ℕ
+  abbrev pub defaults : ℕ → List ℕ
   defaults r = targets (ruleAt d r .default)
 
-  abbrev actions : ℕ → List ℕ
+  abbrev pub actions : ℕ → List ℕ
   actions r = targets (ruleAt d r .action)
 
   -- one step of each definition
-  update-step : (k p : ℕ) (u : List ℕ) → updateBy (suc k) d p u ≡ 1 + sum (ruleBy k d p) (active d p u)
+  pub update-step : (k p : ℕ) (u : List ℕ) → updateBy (suc k) d p u ≡ 1 + sum (ruleBy k d p) (active d p u)
   unfolding updateBy
   update-step k p u = refl
 
-  rule-step : (k p r : ℕ) → ruleBy (suc k) d p r
+  pub rule-step : (k p r : ℕ) → ruleBy (suc k) d p r
       ≡ unlessEmpty (defaults r) (updateBy k d p (defaults r))
       + sum (λ q. unlessEmpty (actions r) (updateBy k d q (actions r))) (receivers d p r)
   unfolding updateBy
