@@ -18,7 +18,7 @@ use Rattle.deck.specs.Laws.Shape.{shape-M, shape-N, shape-carries}
 use Rattle.charge.specs.declared.Bound.the-variants.{Within, Above}
 use Rattle.charge.specs.Charge.{ruleCharge, carriedCharges, largestCharge, aboveBound}
 use Rattle.charge.specs.Memo.{AcyclicTables, Memo, capped}
-use Rattle.charge.specs.Answer.{firstOr, boundOf}
+use Rattle.charge.specs.Answer.{boundBy, boundOf}
 use Rattle.charge.specs.Laws.Largest.{AtMost, largest-charge}
 use Rattle.charge.specs.Laws.Bound.{FirstAbove, none-above, first-above}
 
@@ -80,19 +80,19 @@ module _ (d : Deck) (few : M d ≤ 64) where
         }
 
     pub passed-all : (n : ℕ) → N d ≡ n → k ≡ 64 * n → Within best ≡ boundOf d
-    unfolding boundOf firstOr
+    unfolding boundOf boundBy
     passed-all n same e =
         let all : AtMost d best = λ q s l m c. h .most q s l m c (omega arith) in
         let none : aboveBound (carriedCharges d) ≡ [] =
         none-above d .1 (λ q s l m c. omega (arith, all q s l m c, h .fits)) in
         let largest : best ≡ largestCharge d = omega (arith, h .least, largest-charge d best .1 all) in
-        ap Within largest ∙ sym (ap (λ l. firstOr l (largestCharge d)) none)
+        ap Within largest ∙ sym (ap (λ l. boundBy l (largestCharge d)) none)
 
     pub passed-above : Carried d k → 65535 < ruleCharge d (k / 64) (k % 64) → Above k ≡ boundOf d
-    unfolding boundOf firstOr
+    unfolding boundOf boundBy
     passed-above y above = go (aboveBound (carriedCharges d)) refl
       where
-        go : (l : List ℕ) → aboveBound (carriedCharges d) ≡ l → Above k ≡ firstOr l (largestCharge d)
+        go : (l : List ℕ) → aboveBound (carriedCharges d) ≡ l → Above k ≡ boundBy l (largestCharge d)
         go [] e = absurd (omega (arith, none-above d .0 e (k / 64) (k % 64) (y .0) (y .1) (y .2)))
         go (x ∷ xs) e = ap Above (same (decLt x k) (decLt k x))
           where

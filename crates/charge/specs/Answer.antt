@@ -7,9 +7,9 @@ use Rattle.charge.specs.declared.Bound.the-variants.{Within, Above}
 use Rattle.charge.specs.Charge.{carriedCharges, largestCharge, aboveBound}
 
 -- the first place above the bound, or the largest charge if there is none
-unfoldable pub firstOr : List ℕ → ℕ → Bound
-firstOr [] n = Within n
-firstOr (x ∷ xs) n = Above x
+unfoldable pub boundBy : List ℕ → ℕ → Bound
+boundBy [] n = Within n
+boundBy (x ∷ xs) n = Above x
 
 unfoldable pub boundOf : Deck → Bound
-boundOf d = firstOr (aboveBound (carriedCharges d)) (largestCharge d)
+boundOf d = boundBy (aboveBound (carriedCharges d)) (largestCharge d)

@@ -11,3 +11,4 @@ pub mod Refusals
 pub mod Settling
 pub mod Among
 pub mod Inputs
+pub mod CheckSteps

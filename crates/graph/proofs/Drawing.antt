@@ -6,14 +6,14 @@ use mathlib.Core.List.{List}
 use native.Mathlib.Omega.{arith}
 use lib.Bits.{bitOr}
 use lib.ListN.{getD, replicate, length-replicate, getD-replicate}
-use Rattle.lists.specs.Lists.{lists, any, filter, below}
+use Rattle.lists.specs.Lists.{lists, any, filter, below, firstOr}
 use Rattle.lists.specs.Bits.{bit}
 use Rattle.lists.specs.Laws.Agreement.{any-more}
 use Rattle.lists.specs.Laws.Bits.{bit-or, bit-zero}
 use Rattle.deck.specs.Shape.{shapeOf}
 use Rattle.deck.specs.Laws.Shape.{shape-R}
 use Rattle.graph.specs.Graph.{edge, reachesItself, cyclic}
-use Rattle.graph.specs.FirstCycle.{firstOr, firstCycle}
+use Rattle.graph.specs.FirstCycle.{firstCycle}
 use Rattle.graph.specs.Masks.{edgeAt, Added, carriedAt, drawnBy, Drawn}
 use Rattle.graph.specs.Laws.Agreement.{cyclic-agree}
 use Rattle.graph.specs.Laws.Shape.{shape-edge}

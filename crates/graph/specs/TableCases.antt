@@ -2,12 +2,12 @@
 use Prim.Native.Nat.{ℕ}
 use mathlib.Core.Path.{_≡_, refl}
 use mathlib.Core.List.{List, [], _∷_, _++_}
-use Rattle.lists.specs.Lists.{lists}
+use Rattle.lists.specs.Lists.{lists, firstOr}
 use Rattle.lists.specs.Bits.{bit}
 use Rattle.deck.specs.Deck.{decks}
 use Rattle.deck.specs.Shape.{shapeOf, shapes}
 use Rattle.graph.specs.Graph.{graphs}
-use Rattle.graph.specs.FirstCycle.{firstOr, firstCycle}
+use Rattle.graph.specs.FirstCycle.{firstCycle}
 
 -- a row of the table of rules: events, targets of the default action, targets of the action
 abbrev row : ℕ → ℕ → ℕ → List ℕ

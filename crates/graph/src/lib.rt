@@ -6,10 +6,10 @@
 ghost use mathlib.Core.Path.{_≡_};
 ghost use Prim.Native.Nat.{_≤_, _<_};
 ghost use lib.ListN.{length};
-ghost use Rattle.lists.specs.Lists.{filter, below};
+ghost use Rattle.lists.specs.Lists.{filter, below, firstOr};
 ghost use Rattle.deck.specs.Shape.{shapeOf};
 ghost use Rattle.graph.specs.Graph.{reachesItself};
-ghost use Rattle.graph.specs.FirstCycle.{firstOr, firstCycle};
+ghost use Rattle.graph.specs.FirstCycle.{firstCycle};
 ghost use Rattle.graph.specs.Masks.{Sized, edgeAt, Added, carriedAt, Drawn, Spread};
 use deck::Deck;
 

@@ -15,3 +15,4 @@ pub mod Agreement
 pub mod BitTests
 pub mod Steps
 pub mod Same
+pub mod First

@@ -37,6 +37,11 @@ unfoldable pub largest : {A : Type 0} → (A → ℕ) → List A → ℕ
 largest f [] = 0
 largest f (x ∷ xs) = max (f x) (largest f xs)
 
+-- the first number of a list, or n where it has none
+unfoldable pub firstOr : ℕ → List ℕ → ℕ
+firstOr n [] = n
+firstOr n (x ∷ xs) = x
+
 unfoldable pub isEmpty : {A : Type 0} → List A → Bool
 isEmpty [] = true
 isEmpty (x ∷ xs) = false
@@ -72,5 +77,5 @@ eqList f (x ∷ xs) (y ∷ ys) = f x y && eqList f xs ys
 
 -- to open all definitions of this file, on an `unfolding` line
 unfoldable pub lists : Unit {0}
-unfolding all any keep filter flatMap sum largest isEmpty from below member distinct eqZ eqList
+unfolding all any keep filter flatMap sum largest firstOr isEmpty from below member distinct eqZ eqList
 lists = tt

@@ -14,7 +14,7 @@ use Rattle.deck.specs.Shape.{shapeOf}
 use Rattle.deck.specs.Tables.{TablesOf, Ranged}
 use Rattle.deck.specs.Laws.Tables.{SameTests, shape-tests}
 use Rattle.charge.specs.Charge.{Charged, others, receivers, unlessEmpty, updateBy, ruleBy, depth, updateCharge, ruleCharge, carriedCharges, largestCharge, aboveBound}
-use Rattle.charge.specs.Answer.{firstOr, boundOf}
+use Rattle.charge.specs.Answer.{boundBy, boundOf}
 use Rattle.charge.specs.Laws.Equations.{defaults, actions, update-step, rule-step}
 
 -- lists with the same members are both empty or neither
@@ -100,7 +100,7 @@ module _ {d e : Deck} (s : SameTests d e) where
 
   pub same-bound : boundOf d ≡ boundOf e
   unfolding boundOf
-  same-bound = ap₂ firstOr (ap aboveBound same-carried-charges) same-largest-charge
+  same-bound = ap₂ boundBy (ap aboveBound same-carried-charges) same-largest-charge
 
 -- the shape of a deck's tables
 module _ {d : Deck} {rules parts : List ℕ} (t : TablesOf d rules parts) (g : Ranged d) where

@@ -8,7 +8,7 @@ use borrow.Author.Count.{below-more}
 use Rattle.lists.specs.Laws.BitTests.{bit-yes, bit-no}
 use Rattle.graph.specs.Graph.{reachesItself}
 use Rattle.graph.specs.Masks.{edgeAt}
-use Rattle.graph.specs.Laws.FirstCycle.{first-is}
+use Rattle.lists.specs.Laws.First.{first-is}
 use Rattle.graph.proofs.Searching.{Searching, searching-none, searching-more, searching-hit, searching-miss}
 use Rattle.graph.proofs.lowest_cycle.Statement.{statement}
 use Rattle.graph.proofs.lowest_cycle.Tie as tie

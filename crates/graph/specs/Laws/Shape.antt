@@ -8,7 +8,7 @@ use mathlib.Core.List.{List}
 use native.Mathlib.Decide.{decLt}
 use native.Mathlib.Omega.{arith}
 use lib.ListN.{getD, List·getD-eq-default}
-use Rattle.lists.specs.Lists.{lists, any, filter, below, member}
+use Rattle.lists.specs.Lists.{lists, any, filter, below, member, firstOr}
 use Rattle.lists.specs.Bits.{bit, maskOf}
 use Rattle.lists.specs.Laws.Booleans.{contradiction, or-cases}
 use Rattle.lists.specs.Laws.Below.{below-member, filter-below}
@@ -20,7 +20,7 @@ use Rattle.deck.specs.Shape.{bitsOf, setting, ruleShape, shapeOf}
 use Rattle.deck.specs.Laws.Shape.{setting-targets, shape-R, shape-M, shape-N, shape-rule, shape-carries, shape-event}
 use Rattle.deck.specs.Laws.Shape.{shape-default, shape-action}
 use Rattle.graph.specs.Graph.{carried, assigns, edge, reachesItself, cyclic}
-use Rattle.graph.specs.FirstCycle.{firstOr, firstCycle}
+use Rattle.graph.specs.FirstCycle.{firstCycle}
 use Rattle.graph.specs.Masks.{carriedAt, drawnBy}
 use Rattle.graph.specs.Laws.Agreement.{cyclic-agree}
 use Rattle.graph.specs.Laws.Cycles.{KnownTargets}
