@@ -22,7 +22,7 @@ abbrev pub Tracks : {A : Type 0} → Reader A → Type 0
 Tracks {A} r = (s : List ℕ) (at : ℕ) (g : Got A) → r (drop at s) at ≡ accepted g → g .rest ≡ drop (g .at) s
 
 -- what was read first, and what came after it
-pub then-inv : {A B : Type 0} (o : Outcome (Got A)) (f : A → Reader B) (g : Got B) → andThen o f ≡ accepted g
+then-inv : {A B : Type 0} (o : Outcome (Got A)) (f : A → Reader B) (g : Got B) → andThen o f ≡ accepted g
     → (x : Got A) × (o ≡ accepted x) × (f (x .value) (x .rest) (x .at) ≡ accepted g)
 unfolding andThen
 then-inv (refused n p) f g e = refused≢accepted e

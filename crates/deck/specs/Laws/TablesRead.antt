@@ -1,18 +1,26 @@
 -- The tables that the pass over a deck's bytes leaves behind are the tables of the deck that it read. Assumes nothing.
-use Prim.Native.Nat.{ℕ, zero, suc, _+_, _*_, _<_}
-use mathlib.Core.Path.{_≡_, refl, sym, ap, _∙_, subst}
-use mathlib.Core.Bool.{true, false}
+use Prim.Native.Nat.{ℕ, zero, suc, _+_, _*_, _<_, _≤_}
+use mathlib.Core.Path.{_≡_, refl, sym, ap, _∙_}
+use mathlib.Core.Bool.{Bool, true, false, not, _&&_}
 use mathlib.Core.List.{List, [], _∷_, _++_, append-assoc}
 use native.Mathlib.Omega.{arith}
 use native.Mathlib.Nat.{add-zero, zero-add, suc-add}
+use lib.Dec.{leb, ltb, eqb}
 use lib.ListN.{length, getD, drop, List·getD-append, List·getD-map}
-use Rattle.lists.specs.Lists.{flatMap, lists}
+use borrow.Author.Tests.{ltb-true}
+use Rattle.lists.specs.Lists.{all, member, flatMap, lists}
 use Rattle.lists.specs.Bits.{maskOf, maskFrom}
-use Rattle.refusals.specs.Outcome.{accepted}
+use Rattle.lists.specs.Laws.Booleans.{and-both, and-left, and-right}
+use Rattle.lists.specs.Laws.Alls.{all-cons, all-getD}
+use Rattle.lists.specs.Laws.Members.{all-member}
+use Rattle.refusals.specs.Outcome.{Outcome, refused, accepted}
+use Rattle.refusals.specs.Numbers.{outOfRange, repeatedTarget}
 use Rattle.expression.specs.Syntax.{constant}
-use Rattle.deck.specs.Deck.{ruleAt, partAt, targets}
+use Rattle.expression.specs.Reading.{Scope, wholeNum, wholeTruth}
+use Rattle.deck.specs.Deck.{Rule, Part, Deck, R, M, ruleAt, partAt, targets}
 use Rattle.deck.specs.Encoding.{kindByte}
-use Rattle.deck.specs.Reader.{Got, Reader, _>>=_, _>>_, end, number, times}
+use Rattle.deck.specs.Reader.{Got, Reader, andThen, give, require, end, number, times, rising, value, readers}
+use Rattle.deck.specs.Layout.{expression, ownOnly, taskScope, assignments, action, rule, part, Layout, sections, valueOf, read}
 use Rattle.deck.specs.Marks.{
   MarkedRule,
   markedRule,
@@ -27,8 +35,11 @@ use Rattle.deck.specs.Marks.{
   ruleRow,
   partRow,
 }
-use Rattle.deck.specs.Tables.{TablesOf}
-use Rattle.deck.specs.Laws.Points.{then-inv, here-at, given}
+use Rattle.deck.specs.Tables.{TablesOf, Ranged}
+use Rattle.deck.specs.Laws.Exact.{Accepts, accepting, refusing, accepts, accepts-map, then-accepts}
+use Rattle.deck.specs.Laws.Formed.{owns-task}
+use Rattle.deck.specs.Laws.Reading.{value-accepts}
+use Rattle.deck.specs.Laws.Marks.{mapGot, read-marked}
 
 -- ---- a column of a table
 
@@ -123,59 +134,185 @@ module _ (m : Marked) where
             ∙ ap (λ x. kindByte (x .everywhere)) (sym (rule-read r));
         carried = λ p.
             ap (λ k. getD parts k 0) (sym (add-zero (4 * p)))
-            ∙ column partRow 4 0 part-width (omega arith) noPart refl (drop (4 * m .count) parts₀) (zeros-drop (4 * m .count) parts₀ zp) (m .parts) p
+            ∙ column partRow 4 0 part-width (omega arith) noPart refl (drop (4 * m .count) parts₀)
+            (zeros-drop (4 * m .count) parts₀ zp) (m .parts) p
             ∙ ap (λ x. maskOf (x .carried)) (sym (part-read p));
       }
 
 -- ---- the counts
 
--- reading n times gives n things
-times-long : {A : Type 0} (r : Reader A) (n : ℕ) (s : List ℕ) (at : ℕ) (g : Got (List A)) → times n r s at ≡ accepted g
-    → length (g .value) ≡ n
-unfolding times _>>=_
-times-long r zero s at g e = ap length (sym (given [] s at g e))
-times-long r (suc n) s at g e =
-    let x = then-inv (r s at) _ g e in
-    let xs = then-inv (times n r (x .0 .rest) (x .0 .at)) _ g (x .2) in
-    ap length (sym (given _ (xs .0 .rest) (xs .0 .at) g (xs .2))) ∙ ap suc (times-long r n (x .0 .rest) (x .0 .at) (xs .0) (xs .1))
+-- what is not looked at
+anything : {A : Type 0} (o : Outcome A) → Accepts (λ _. Unit {0}) o
+anything (refused n p) = refusing
+anything (accepted a) = accepting tt
 
--- the counts that stand before the first two sections
-abbrev Counted : MarkedFront → Type 0
-Counted m = (length (m .rules) ≡ m .count) × (length (m .labels) ≡ m .channels)
+-- n things, each of which passes a test
+times-each : {A : Type 0} (f : A → Bool) (r : Reader A) → ((s : List ℕ) (at : ℕ) → Accepts (λ g. f (g .value) ≡ true) (r s at))
+    → (n : ℕ) (s : List ℕ) (at : ℕ) → Accepts (λ g. (length (g .value) ≡ n) × (all f (g .value) ≡ true)) (times n r s at)
+unfolding readers lists
+times-each f r h zero s at = accepting (refl, refl)
+times-each f r h (suc n) s at =
+    then-accepts _ (h s at) λ x p.
+    then-accepts _ (times-each f r h n (x .rest) (x .at)) λ xs q.
+    accepting (ap suc (q .0), all-cons f (x .value) (xs .value) p (q .1))
 
-front-counts : (s : List ℕ) (at : ℕ) (g : Got MarkedFront) → markedFront s at ≡ accepted g → Counted (g .value)
-unfolding markedFront _>>=_
-front-counts s at g e =
-    let i1 = then-inv (number 1 33 s at) _ g e in
-    let R = i1 .0 .value in
-    let i2 = then-inv (times R (number 33 127) (i1 .0 .rest) (i1 .0 .at)) _ g (i1 .2) in
-    let h = here-at _ (i2 .0 .rest) (i2 .0 .at) g (i2 .2) in
-    let i3 = then-inv (number 0 65 (i2 .0 .rest) (i2 .0 .at)) _ g h in
-    let M = i3 .0 .value in
-    let i4 = then-inv (times M (markedRule R) (i3 .0 .rest) (i3 .0 .at)) _ g (i3 .2) in
-    subst Counted (given _ (i4 .0 .rest) (i4 .0 .at) g (i4 .2)) (
-      times-long (markedRule R) M (i3 .0 .rest) (i3 .0 .at) (i4 .0) (i4 .1),
-      times-long (number 33 127) R (i1 .0 .rest) (i1 .0 .at) (i2 .0) (i2 .1),
-    )
+times-long : {A : Type 0} (r : Reader A) (n : ℕ) (s : List ℕ) (at : ℕ) → Accepts (λ g. length (g .value) ≡ n) (times n r s at)
+times-long r n s at =
+    accepts-map (λ g p. p .0) (times-each (λ _. true) r (λ s at. accepts-map (λ _ _. refl) (anything (r s at))) n s at)
+
+-- the lists are as long as the counts before them say
+abbrev FrontCounted : MarkedFront → Type 0
+FrontCounted m = (length (m .rules) ≡ m .count) × (length (m .labels) ≡ m .channels)
+
+abbrev Counted : Marked → Type 0
+Counted m =
+    (length (m .front .rules) ≡ m .front .count)
+    × (length (m .parts) ≡ m .count)
+    × (length (m .front .labels) ≡ m .front .channels)
+
+front-counts : (s : List ℕ) (at : ℕ) → Accepts (λ g. FrontCounted (g .value)) (markedFront s at)
+unfolding markedFront readers
+front-counts s at =
+    then-accepts _ (anything (number 1 33 s at)) λ R _.
+    then-accepts _ (times-long (number 33 127) (R .value) (R .rest) (R .at)) λ labels l.
+    then-accepts _ (anything (number 0 65 (labels .rest) (labels .at))) λ M _.
+    then-accepts _ (times-long (markedRule (R .value)) (M .value) (M .rest) (M .at)) λ rules k.
+    accepting (k, l)
+
+sections-counts : (s : List ℕ) (at : ℕ) → Accepts (λ g. Counted (g .value)) (markedSections s at)
+unfolding markedSections readers
+sections-counts s at =
+    then-accepts _ (front-counts s at) λ front k.
+    then-accepts _ (anything (number 1 17 (front .rest) (front .at))) λ N _.
+    let part = markedPart (front .value .channels) (front .value .count) in
+    then-accepts _ (times-long part (N .value) (N .rest) (N .at)) λ parts l.
+    then-accepts _ (anything (end (parts .rest) (parts .at))) λ _ _.
+    accepting (k .0, l, k .1)
 
 -- a deck that was read has as many channels, rules and parts as its counts say
 pub counts-read : (s : List ℕ) (g : Got Marked) → markedSections s 0 ≡ accepted g
     → (length (g .value .front .rules) ≡ g .value .front .count)
     × (length (g .value .parts) ≡ g .value .count)
     × (length (g .value .front .labels) ≡ g .value .front .channels)
-unfolding markedSections _>>=_ _>>_
-counts-read s g e =
-    let i1 = then-inv (markedFront s 0) _ g e in
-    let front = i1 .0 .value in
-    let counts = front-counts s 0 (i1 .0) (i1 .1) in
-    let h = here-at _ (i1 .0 .rest) (i1 .0 .at) g (i1 .2) in
-    let i2 = then-inv (number 1 17 (i1 .0 .rest) (i1 .0 .at)) _ g h in
-    let N = i2 .0 .value in
-    let part = markedPart (front .channels) (front .count) in
-    let i3 = then-inv (times N part (i2 .0 .rest) (i2 .0 .at)) _ g (i2 .2) in
-    let i4 = then-inv (end (i3 .0 .rest) (i3 .0 .at)) _ g (i3 .2) in
-    subst
-    (λ (m : Marked).
-    (length (m .front .rules) ≡ m .front .count) × (length (m .parts) ≡ m .count) × (length (m .front .labels) ≡ m .front .channels))
-    (given _ (i4 .0 .rest) (i4 .0 .at) g (i4 .2))
-    (counts .0, times-long part N (i2 .0 .rest) (i2 .0 .at) (i3 .0) (i3 .1), counts .1)
+counts-read s g e = accepts (sections-counts s 0) e
+
+-- ---- the ranges
+
+-- every number of a list is below n
+abbrev under : ℕ → List ℕ → Bool
+under n l = all (λ c. ltb c n) l
+
+abbrev knownRule : ℕ → Rule → Bool
+knownRule R r = under R (r .events) && under R (targets (r .default)) && under R (targets (r .action))
+
+abbrev knownPart : ℕ → Part → Bool
+knownPart M p = under M (p .carried)
+
+under-member : (n : ℕ) (l : List ℕ) → under n l ≡ true → (c : ℕ) → member c l ≡ true → c < n
+under-member n l h c m = ltb-true c n (all-member (λ c. ltb c n) l .0 h c m)
+
+ranged : (d : Deck) → R d ≤ 32 → M d ≤ 64 → all (knownRule (R d)) (d .rules) ≡ true → all (knownPart (M d)) (d .parts) ≡ true
+    → Ranged d
+unfolding ruleAt partAt lists targets
+ranged d channels few rules parts =
+    let events : Rule → Bool = λ r. under (R d) (r .events) in
+    let default : Rule → Bool = λ r. under (R d) (targets (r .default)) in
+    let action : Rule → Bool = λ r. under (R d) (targets (r .action)) in
+    let known : (i : ℕ) → knownRule (R d) (ruleAt d i) ≡ true = λ i. all-getD (knownRule (R d)) (d .rules) i _ rules refl in
+    let first : (i : ℕ) → (events (ruleAt d i) && default (ruleAt d i)) ≡ true
+    = λ i. and-left (events (ruleAt d i) && default (ruleAt d i)) (action (ruleAt d i)) (known i) in
+    record {
+      channels = channels;
+      rules = few;
+      events = λ i. under-member (R d) (ruleAt d i .events) (and-left (events (ruleAt d i)) (default (ruleAt d i)) (first i));
+      default = λ i. under-member (R d) (targets (ruleAt d i .default))
+          (and-right (events (ruleAt d i)) (default (ruleAt d i)) (first i));
+      action = λ i. under-member (R d) (targets (ruleAt d i .action))
+          (and-right (events (ruleAt d i) && default (ruleAt d i)) (action (ruleAt d i)) (known i));
+      carried = λ p. under-member (M d) (partAt d p .carried) (all-getD (knownPart (M d)) (d .parts) p _ parts refl);
+    }
+
+number-under : (lo hi : ℕ) (s : List ℕ) (at : ℕ) → Accepts (λ g. ltb (g .value) hi ≡ true) (number lo hi s at)
+unfolding readers
+number-under lo hi [] at = refusing
+number-under lo hi (b ∷ s) at = go (leb lo b && ltb b hi) refl
+  where
+    go : (t : Bool) → (leb lo b && ltb b hi) ≡ t
+        → Accepts (λ g. ltb (g .value) hi ≡ true) (andThen (require t outOfRange at s (suc at)) (λ _. give b))
+    go true e = accepting (and-right (leb lo b) (ltb b hi) e)
+    go false e = refusing
+
+rising-under : (n lo hi : ℕ) (s : List ℕ) (at : ℕ) → Accepts (λ g. under hi (g .value) ≡ true) (rising n lo hi s at)
+unfolding readers lists
+rising-under zero lo hi s at = accepting refl
+rising-under (suc n) lo hi s at =
+    then-accepts _ (number-under lo hi s at) λ c p.
+    then-accepts _ (rising-under n (suc (c .value)) hi (c .rest) (c .at)) λ cs q.
+    accepting (all-cons (λ c. ltb c hi) (c .value) (cs .value) p q)
+
+assignments-under : (sc : Scope) (n : ℕ) (ts s : List ℕ) (at : ℕ)
+    → Accepts (λ g. under (sc .owns) (targets (g .value)) ≡ true) (assignments sc n ts s at)
+unfolding assignments readers lists targets
+assignments-under sc zero ts s at = accepting refl
+assignments-under sc (suc n) ts s at =
+    then-accepts _ (number-under 0 (sc .owns) s at) λ t p.
+    then-accepts _ (anything (require (not (member (t .value) ts)) repeatedTarget at (t .rest) (t .at))) λ u _.
+    then-accepts _ (anything (expression (wholeNum sc) (u .rest) (u .at))) λ e _.
+    then-accepts _ (assignments-under sc n (t .value ∷ ts) (e .rest) (e .at)) λ l q.
+    accepting (all-cons (λ c. ltb c (sc .owns)) (t .value) (targets (l .value)) p q)
+
+action-under : (sc : Scope) (s : List ℕ) (at : ℕ) → Accepts (λ g. under (sc .owns) (targets (g .value)) ≡ true) (action sc s at)
+unfolding action readers
+action-under sc s at =
+    then-accepts _ (anything (number 0 5 s at)) λ n _. assignments-under sc (n .value) [] (n .rest) (n .at)
+
+rule-under : (R : ℕ) (s : List ℕ) (at : ℕ) → Accepts (λ g. knownRule R (g .value) ≡ true) (rule R s at)
+unfolding rule readers ownOnly
+rule-under R s at =
+    then-accepts _ (anything (number 1 9 s at)) λ n _.
+    then-accepts _ (rising-under (n .value) 0 R (n .rest) (n .at)) λ events p.
+    then-accepts _ (action-under (ownOnly R) (events .rest) (events .at)) λ default q.
+    then-accepts _ (anything (number 0 2 (default .rest) (default .at))) λ kind _.
+    let scope = taskScope R (eqb (kind .value) 1) in
+    then-accepts _ (anything (expression (wholeTruth scope) (kind .rest) (kind .at))) λ condition _.
+    then-accepts _ (action-under scope (condition .rest) (condition .at)) λ act u.
+    accepting (and-both (and-both p q) (ap (λ k. under k (targets (act .value))) (sym (owns-task R (eqb (kind .value) 1))) ∙ u))
+
+part-under : (R M : ℕ) (s : List ℕ) (at : ℕ) → Accepts (λ g. knownPart M (g .value) ≡ true) (part R M s at)
+unfolding part readers
+part-under R M s at =
+    then-accepts _ (anything (times R value s at)) λ opening _.
+    then-accepts _ (anything (number 0 (suc M) (opening .rest) (opening .at))) λ n _.
+    then-accepts _ (rising-under (n .value) 0 M (n .rest) (n .at)) λ carried p.
+    then-accepts _ (anything (expression (wholeTruth (ownOnly R)) (carried .rest) (carried .at))) λ limit _.
+    accepting p
+
+sections-ranged : (s : List ℕ) (at : ℕ) → Accepts (λ g. Ranged (g .value .deck)) (sections s at)
+unfolding sections readers R M
+sections-ranged s at =
+    then-accepts _ (number-under 1 33 s at) λ r p.
+    then-accepts _ (times-long (number 33 127) (r .value) (r .rest) (r .at)) λ labels l.
+    then-accepts _ (number-under 0 65 (labels .rest) (labels .at)) λ m q.
+    then-accepts _ (times-each (knownRule (r .value)) (rule (r .value)) (rule-under (r .value)) (m .value) (m .rest) (m .at)) λ rules k.
+    then-accepts _ (anything (number 1 17 (rules .rest) (rules .at))) λ n _.
+    let onePart = part (r .value) (m .value) in
+    let known = part-under (r .value) (m .value) in
+    then-accepts _ (times-each (knownPart (m .value)) onePart known (n .value) (n .rest) (n .at)) λ parts h.
+    then-accepts _ (anything (end (parts .rest) (parts .at))) λ _ _.
+    let d : Deck = record { labels = labels .value; rules = rules .value; parts = parts .value } in
+    accepting
+    (ranged d
+    (omega (arith, l, ltb-true (r .value) 33 p))
+    (omega (arith, k .0, ltb-true (m .value) 65 q))
+    (ap (λ c. all (knownRule c) (rules .value)) l ∙ k .1)
+    (ap (λ c. all (knownPart c) (parts .value)) (k .0) ∙ h .1))
+
+-- whatever the numbers in place of bytes
+pub ranged-read : (s : List ℕ) (l : Layout) → read s ≡ accepted l → Ranged (l .deck)
+unfolding read
+ranged-read s l e = accepts (value-accepts (sections-ranged s 0)) e
+
+-- the same with the offsets
+pub ranged-marked : (s : List ℕ) (g : Got Marked) → markedSections s 0 ≡ accepted g → Ranged (unmarked (g .value) .deck)
+unfolding valueOf
+ranged-marked s g e = ranged-read s (unmarked (g .value)) (read-marked s ∙ ap (λ o. valueOf (mapGot unmarked o)) e)
