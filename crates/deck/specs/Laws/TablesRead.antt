@@ -1,4 +1,5 @@
--- The tables that the pass over a deck's bytes leaves behind are the tables of the deck that it read. Assumes nothing.
+-- The tables that the pass over a deck's bytes leaves behind are the tables of the deck that it read; and that deck is as
+-- long as its counts say, and knows every channel and rule that it names. Assumes nothing.
 use Prim.Native.Nat.{ℕ, zero, suc, _+_, _*_, _<_, _≤_}
 use mathlib.Core.Path.{_≡_, refl, sym, ap, _∙_}
 use mathlib.Core.Bool.{Bool, true, false, not, _&&_}
@@ -49,7 +50,7 @@ past-front [] b n d = ap (λ k. getD b k d) (zero-add n)
 past-front (x ∷ a) b n d = ap (λ k. getD (x ∷ (a ++ b)) k d) (suc-add (length a) n) ∙ past-front a b n d
 
 -- no number of a list but 0
-abbrev Zeros : List ℕ → Type 0
+abbrev pub Zeros : List ℕ → Type 0
 Zeros l = (i : ℕ) → getD l i 0 ≡ 0
 
 zeros-drop : (k : ℕ) (l : List ℕ) → Zeros l → Zeros (drop k l)
