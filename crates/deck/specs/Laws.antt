@@ -23,3 +23,4 @@ pub mod RuleOffsets
 pub mod Rows
 pub mod Shape
 pub mod Tables
+pub mod TablesRead

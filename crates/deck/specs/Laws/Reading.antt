@@ -15,7 +15,7 @@ use Rattle.deck.specs.Encoding.{encodeChannels, encodeRules, encode, wel
 use Rattle.deck.specs.Laws.Exact.{Accepts, accepting, refusing, accepts, accepts-map}
 use Rattle.deck.specs.Laws.Sections.{LayoutWord, sections-exact}
 
-value-accepts : {A : Type 0} {P : A → Type 0} {o : Outcome (Got A)} → Accepts (λ g. P (g .value)) o → Accepts P (valueOf o)
+pub value-accepts : {A : Type 0} {P : A → Type 0} {o : Outcome (Got A)} → Accepts (λ g. P (g .value)) o → Accepts P (valueOf o)
 unfolding valueOf
 value-accepts (accepting p) = accepting p
 value-accepts refusing = refusing
