@@ -7,3 +7,4 @@ pub mod Targets
 pub mod Agreement
 pub mod FirstCycle
 pub mod Shape
+pub mod Same
