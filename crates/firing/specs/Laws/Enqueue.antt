@@ -14,7 +14,7 @@ use Rattle.lists.specs.Laws.Sums.{sum-append}
 use Rattle.deck.specs.Deck.{Deck}
 use Rattle.charge.specs.Charge.{updateCharge}
 use Rattle.pool.specs.Updates.{Pair, Update, channels, eqPair, eqUpdate, isAmong, allDifferent, charge}
-use Rattle.engine.specs.Firing.{enqueue}
+use Rattle.firing.specs.Firing.{enqueue}
 
 -- ---- equal updates
 

@@ -19,8 +19,8 @@ use Rattle.graph.specs.Laws.Cycles.{no-cycle}
 use Rattle.graph.specs.Laws.Targets.{known-targets}
 use Rattle.charge.specs.Charge.{ruleCharge}
 use Rattle.charge.specs.Laws.Bound.{none-above}
-use Rattle.engine.specs.Check.{within, openingValues, outside, passing}
-use Rattle.engine.specs.Laws.Passing.{judge-clean, passing-judges, passing-clean}
+use Rattle.passing.specs.Check.{within, openingValues, outside, passing}
+use Rattle.passing.specs.Laws.Passing.{judge-clean, passing-judges, passing-clean}
 
 -- what the document demands of bytes that hold the deck of a layout
 pub record Passes (bytes : List ℕ) (l : Layout) : Type 0 where

@@ -10,7 +10,7 @@ use Rattle.deck.specs.Deck.{Deck, Action, Assignment, Rule, R, ruleAt, active}
 use Rattle.charge.specs.Charge.{others}
 use Rattle.pool.specs.Updates.{Pair, Update, valueAt, assign, isAmong}
 use Rattle.pool.specs.States.{Machine}
-use Rattle.engine.specs.Check.{within}
+use Rattle.passing.specs.Check.{within}
 
 -- An action that a rule at part p sends to part q: "own channels are the sender's, far channels and targets the receiver's".
 -- An empty one adds no update

@@ -23,11 +23,11 @@ use Rattle.pool.specs.States.{Machine, known}
 use Rattle.pool.specs.Laws.Places.{short}
 use Rattle.pool.specs.Laws.Values.{channelsIn, assign-length, unused-assign}
 use Rattle.pool.specs.Laws.Good.{Fine}
-use Rattle.engine.specs.Check.{within}
-use Rattle.engine.specs.Firing.{fired, changed, setAndFire, pick, without, committed}
-use Rattle.engine.specs.Laws.Firing.{fired-known, fired-short}
-use Rattle.engine.specs.Laws.Enqueue.{one, enqueue-all, enqueue-different, enqueue-grows, enqueue-most}
-use Rattle.engine.specs.Laws.Charges.{fired-most, changed-assigned}
+use Rattle.passing.specs.Check.{within}
+use Rattle.firing.specs.Firing.{fired, changed, setAndFire, pick, without, committed}
+use Rattle.firing.specs.Laws.Firing.{fired-known, fired-short}
+use Rattle.firing.specs.Laws.Enqueue.{one, enqueue-all, enqueue-different, enqueue-grows, enqueue-most}
+use Rattle.firing.specs.Laws.Charges.{fired-most, changed-assigned}
 
 -- ---- an update that is taken out
 

@@ -1,4 +1,4 @@
--- Cases: what is easy to get wrong in the firing and the calls. Assumes nothing.
+-- Cases: what is easy to get wrong in the firing. Assumes nothing.
 use Prim.Native.Nat.{ℕ}
 use mathlib.Core.Path.{_≡_, refl}
 use mathlib.Core.Bool.{Bool, true, false}
@@ -16,8 +16,8 @@ use Rattle.charge.specs.Charge.{charges}
 use Rattle.pool.specs.Updates.{Pair, Update, valueAt, updates}
 use Rattle.pool.specs.Places.{pools}
 use Rattle.pool.specs.States.{Machine}
-use Rattle.engine.specs.Check.{outside, openingValues, checks}
-use Rattle.engine.specs.Firing.{Commit, setAndFire, committed, firing}
+use Rattle.passing.specs.Check.{outside, openingValues, checks}
+use Rattle.firing.specs.Firing.{Commit, setAndFire, committed, firing}
 
 abbrev sets : ℕ → Num → Action
 sets t e = record { target = t; value = e } ∷ []
@@ -52,11 +52,6 @@ deck =
           ∷ [];
       parts = partOf 0 (0 ∷ 1 ∷ []) ∷ partOf 5 [] ∷ partOf 7 [] ∷ [];
     }
-
--- 6 is placed at the lowest part
-pub outside-case : requireNone (outside deck) opensOutside ≡ refused 6 1
-unfolding lists outcomes evaluation decks updates pools checks
-outside-case = refl
 
 -- part 0's channel a is set, from the opening values
 abbrev setA : ℕ → Machine

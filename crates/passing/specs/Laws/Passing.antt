@@ -12,7 +12,7 @@ use Rattle.deck.specs.Layout.{Layout, read}
 use Rattle.deck.specs.Laws.Prefix.{read-prefix}
 use Rattle.graph.specs.Graph.{cyclic}
 use Rattle.charge.specs.Charge.{carriedCharges, aboveBound}
-use Rattle.engine.specs.Check.{outside, passing, checks}
+use Rattle.passing.specs.Check.{outside, passing, checks}
 
 -- ---- the tests behind reading
 

@@ -16,9 +16,8 @@ use Rattle.charge.specs.Charge.{carriedCharges, aboveBound, largestCharge}
 use Rattle.charge.specs.Answer.{boundBy, boundOf}
 use Rattle.charge.specs.declared.Bound.{Bound}
 use Rattle.charge.specs.declared.Bound.the-variants.{Within, Above}
-use Rattle.engine.specs.Check.{within, openingValues, outside, passing}
-use Rattle.engine.specs.Calls.{Answer, passed, check}
-use Rattle.engine.specs.Laws.Passing.{judge, judge-clean, passing-judges}
+use Rattle.passing.specs.Check.{within, openingValues, outside, passing}
+use Rattle.passing.specs.Laws.Passing.{judge, judge-clean, passing-judges}
 
 -- the lowest part that opens outside its limit, or N where none does
 unfoldable pub firstOutside : Deck → ℕ
@@ -81,13 +80,3 @@ module _ (bytes : List ℕ) (l : Layout) (e : read bytes ≡ accepted l) where
       passing-whole n h =
           let b = within-bound (aboveBound (carriedCharges d)) (largestCharge d) n h in
           (passing-judges bytes l e ∙ judge-clean l (none-outside d six) (none-cyclic d seven) (b .0), b .1)
-
--- check answers what passing comes to
-pub check-refused : (bytes : List ℕ) (n p : ℕ) → passing bytes ≡ refused n p → check bytes ≡ refused n p
-unfolding check outcomes
-check-refused bytes n p e = rw e
-
-pub check-passed : (bytes : List ℕ) (l : Layout) (n : ℕ) → passing bytes ≡ accepted l → largestCharge (l .deck) ≡ n
-    → check bytes ≡ accepted (passed (R (l .deck)) (M (l .deck)) (N (l .deck)) n)
-unfolding check outcomes
-check-passed bytes l n e h = rw (e, h)

@@ -18,7 +18,7 @@ use Rattle.charge.specs.Laws.Equations.{others-inside}
 use Rattle.pool.specs.Updates.{Update, channels}
 use Rattle.pool.specs.States.{known}
 use Rattle.pool.specs.Laws.Places.{short}
-use Rattle.engine.specs.Firing.{evaluated, sent, holds, firedHere, firedThere, fired}
+use Rattle.firing.specs.Firing.{evaluated, sent, holds, firedHere, firedThere, fired}
 
 -- an update has the channels of the action that it came from
 pub sent-channels : (values : List ℤ) (p q : ℕ) (a : Action) → map (λ x. x .channel) (map (evaluated values p q) a) ≡ targets a

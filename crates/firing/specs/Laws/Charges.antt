@@ -23,9 +23,9 @@ use Rattle.charge.specs.Laws.Equations.{charge-of-update, charge-of-rule, updat
 use Rattle.pool.specs.Updates.{Pair, Update, channels, valueAt, assign, charge}
 use Rattle.pool.specs.States.{Machine}
 use Rattle.pool.specs.Laws.Values.{channelsIn, assign-other}
-use Rattle.engine.specs.Firing.{evaluated, sent, holds, firedHere, firedThere, fired, enqueue, changed, setAndFire, pick, without}
-use Rattle.engine.specs.Laws.Firing.{sent-channels}
-use Rattle.engine.specs.Laws.Enqueue.{one, charge-append, enqueue-grows, enqueue-most}
+use Rattle.firing.specs.Firing.{evaluated, sent, holds, firedHere, firedThere, fired, enqueue, changed, setAndFire, pick, without}
+use Rattle.firing.specs.Laws.Firing.{sent-channels}
+use Rattle.firing.specs.Laws.Enqueue.{one, charge-append, enqueue-grows, enqueue-most}
 
 module _ (d : Deck) where
   -- what an action is charged at part q

@@ -21,9 +21,9 @@ use Rattle.graph.specs.Laws.Cycles.{Acyclic, reaches-inside, no-cycle, lowest-c
 use Rattle.graph.specs.Laws.Targets.{known-targets}
 use Rattle.charge.specs.Charge.{carriedCharges, aboveBound}
 use Rattle.charge.specs.Laws.Bound.{FirstAbove, first-above}
-use Rattle.engine.specs.Check.{within, openingValues, outside, passing}
-use Rattle.engine.specs.Laws.Passing.{judge, Judged, clean, found-6, found-7, found-8, judged, passing-judges}
-use Rattle.engine.specs.Laws.Passes.{Passes, none-outside, passes-exactly}
+use Rattle.passing.specs.Check.{within, openingValues, outside, passing}
+use Rattle.passing.specs.Laws.Passing.{judge, Judged, clean, found-6, found-7, found-8, judged, passing-judges}
+use Rattle.passing.specs.Laws.Passes.{Passes, none-outside, passes-exactly}
 
 -- every part opens within its limit
 abbrev pub OpensWithin : Deck → Type 0

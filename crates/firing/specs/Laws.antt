@@ -1,0 +1,6 @@
+-- Laws of the firing and the commits.
+pub mod Firing
+pub mod Enqueue
+pub mod Charges
+pub mod Commits
+pub mod Among

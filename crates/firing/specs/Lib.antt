@@ -1,0 +1,4 @@
+-- Document 01, "Calls": the firing, and one commit.
+pub mod Firing
+pub mod Cases
+pub mod Laws

@@ -1,0 +1,1 @@
+// The firing, and one commit. The definitions are in specs/.

@@ -1,0 +1,5 @@
+-- Laws of the tests of a deck.
+pub mod Passing
+pub mod Passes
+pub mod Refusals
+pub mod CheckSteps

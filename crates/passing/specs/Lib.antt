@@ -1,0 +1,4 @@
+-- Document 01, "When a call declines": the tests of a deck, 1 to 8.
+pub mod Check
+pub mod Cases
+pub mod Laws

@@ -1,0 +1,1 @@
+// The tests of a deck. The definitions are in specs/.
