@@ -3,3 +3,5 @@ pub mod Passing
 pub mod Passes
 pub mod Refusals
 pub mod CheckSteps
+pub mod Tabled
+pub mod Stands
