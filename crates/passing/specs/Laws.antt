@@ -5,3 +5,7 @@ pub mod Refusals
 pub mod CheckSteps
 pub mod Tabled
 pub mod Stands
+pub mod Limits
+pub mod Opening
+pub mod Places
+pub mod Judged

@@ -2,5 +2,6 @@
 pub mod Check
 pub mod Stands
 pub mod Tabled
+pub mod Judged
 pub mod Cases
 pub mod Laws

@@ -34,6 +34,7 @@ pub record Counts (l : Layout) (k : Counted.Deck) : Type 0 where
   pub parts : k .parts ≡ N (l .deck)
   pub second : k .second ≡ l .rulesAt
   pub third : k .third ≡ l .partsAt
+  pub some : 1 ≤ R (l .deck)
   pub formed : Formed (l .deck)
   pub scoped : Scoped (l .deck)
 
@@ -63,3 +64,8 @@ pub record TablesIn (s : List ℕ) (l : Layout) (k : Counted.Deck) (rules parts 
 -- those of the deck that the bytes hold
 abbrev pub Tabled : List ℕ → Counted.Deck → List ℕ → List ℕ → Type 0
 Tabled s k rules parts = TablesIn s (layoutOf s) k rules parts
+
+-- what a test of the parts needs of them
+pub record PartsKnown (s : List ℕ) (k : Counted.Deck) (parts : List ℕ) : Type 0 where
+  pub counts : Counts (layoutOf s) k
+  pub table : PartTable s (deckOf s) parts

@@ -49,7 +49,7 @@ unfolding boundBy
 within-bound [] n k e = (refl, ap chargeOf e)
 within-bound (x ∷ xs) n k e = absurd (subst IsAbove e tt)
 
-above-bound : (l : List ℕ) (n p : ℕ) → boundBy l n ≡ Above p → (ps : List ℕ) × (l ≡ p ∷ ps)
+pub above-bound : (l : List ℕ) (n p : ℕ) → boundBy l n ≡ Above p → (ps : List ℕ) × (l ≡ p ∷ ps)
 unfolding boundBy
 above-bound [] n p e = absurd (subst IsAbove (sym e) tt)
 above-bound (x ∷ xs) n p e = (xs, ap (λ y. y ∷ xs) (ap placeOf e))

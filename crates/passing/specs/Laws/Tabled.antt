@@ -1,17 +1,21 @@
 -- The tables that the pass leaves are those of the deck that the bytes hold. Assumes nothing.
 use Prim.Native.Nat.{ℕ, zero, suc, _+_, _*_, _≤_, _<_}
 use mathlib.Core.Path.{_≡_, refl, sym, ap, _∙_, subst}
+use mathlib.Core.Bool.{Bool, true, _&&_}
 use mathlib.Core.List.{List, [], _∷_, _++_, map}
 use native.Mathlib.Omega.{arith}
+use lib.Dec.{leb}
+use borrow.Author.Tests.{leb-true}
 use lib.ListN.{length, getD, drop, length-append, length-drop, length-map}
-use Rattle.lists.specs.Lists.{flatMap, lists}
+use Rattle.lists.specs.Lists.{all, flatMap, lists}
+use Rattle.lists.specs.Laws.Booleans.{and-left}
 use Rattle.refusals.specs.Outcome.{Outcome, refused, accepted}
 use Rattle.expression.specs.Reading.{wholeTruth}
 use Rattle.expression.specs.Laws.Bytes.{Bytes}
 use Rattle.deck.specs.Deck.{Deck, R, M, N, ruleAt, partAt}
 use Rattle.deck.specs.Reader.{Got, Reader, times, value}
 use Rattle.deck.specs.Layout.{Layout, expression, ownOnly, taskScope, action, valueOf, read}
-use Rattle.deck.specs.Encoding.{wellFormed}
+use Rattle.deck.specs.Encoding.{inRange, goodRule, goodPart, wellFormed}
 use Rattle.deck.specs.Marks.{MarkedTask, MarkedRule, MarkedPart, Marked, markedSections, unmarked, ruleOf, ruleRow, partRow, Loads}
 use Rattle.deck.specs.declared.Deck as Counted
 use Rattle.deck.specs.declared.Loaded.the-variants.{Whole, Wrong}
@@ -46,8 +50,24 @@ rows-length row w h (x ∷ l) =
     let k : w * suc (length l) ≡ w + w * length l = omega arith in
     omega arith
 
+-- a deck has a channel
+some-channel : (d : Deck) → wellFormed d ≡ true → 1 ≤ R d
+unfolding wellFormed inRange
+some-channel d h =
+    let t1 : Bool = leb 1 (R d) && leb (R d) 32 in
+    let t2 : Bool = t1 && all (inRange 33 126) (d .labels) in
+    let t3 : Bool = t2 && leb (M d) 64 in
+    let t4 : Bool = t3 && all (goodRule (R d)) (d .rules) in
+    let t5 : Bool = t4 && inRange 1 16 (N d) in
+    leb-true 1 (R d)
+    (and-left (leb 1 (R d)) (leb (R d) 32)
+    (and-left t1 (all (inRange 33 126) (d .labels))
+    (and-left t2 (leb (M d) 64)
+    (and-left t3 (all (goodRule (R d)) (d .rules))
+    (and-left t4 (inRange 1 16 (N d)) (and-left t5 (all (goodPart (R d) (M d)) (d .parts)) h))))))
+
 module _ (s : List ℕ) (m : Marked) (e : markedSections s 0 ≡ accepted (record { value = m; rest = []; at = length s })) where
-  marked-read : read s ≡ accepted (unmarked m)
+  pub marked-read : read s ≡ accepted (unmarked m)
   unfolding valueOf
   marked-read = read-marked s ∙ ap (λ o. valueOf (mapGot unmarked o)) e
 
@@ -190,6 +210,7 @@ module _ (s : List ℕ) (m : Marked) (e : markedSections s 0 ≡ accepted (recor
             parts = sym parts-count;
             second = refl;
             third = refl;
+            some = some-channel d well;
             formed = f;
             scoped = scoped d well;
           };
