@@ -2,7 +2,7 @@
 use Prim.Native.Nat.{ℕ}
 use mathlib.Core.List.{List, [], _∷_}
 use Rattle.refusals.specs.Outcome.{Outcome, refused, accepted}
-use Rattle.engine.specs.Calls.{Answer, passed, started, added, applied, discarded, settled, spent}
+use Rattle.engine.specs.Calls.{Answer, passed, started, added, applied, discarded, settled, spent, Section}
 use Rattle.engine.specs.declared.CheckAnswer.{CheckAnswer}
 use Rattle.engine.specs.declared.CheckAnswer.the-variants as OfCheck
 use Rattle.engine.specs.declared.StartAnswer.{StartAnswer}
@@ -35,6 +35,10 @@ abbrev pub settleOutcome : SettleAnswer → Outcome Answer
 settleOutcome (OfSettle.Settled commits) = accepted (settled commits)
 settleOutcome (OfSettle.Spent commits) = accepted (spent commits)
 settleOutcome (OfSettle.Refused number place) = refused number place
+
+-- what section hands back, with the two lent numbers
+abbrev pub sectionOf : List ℕ → ℕ → ℕ → Section
+sectionOf stretch number place = record { stretch = stretch; number = number; place = place }
 
 -- an outcome as numbers: the refusal's number and place, both 0 where the call is accepted, and the answer numbers, all 0 where
 -- it is refused. "applied" and "settled" are 1, "discarded" and "spent" 0

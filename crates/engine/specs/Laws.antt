@@ -4,3 +4,4 @@ pub mod Checks
 pub mod CheckAnswers
 pub mod Settling
 pub mod Inputs
+pub mod SectionAnswers
