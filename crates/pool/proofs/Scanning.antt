@@ -1,8 +1,8 @@
 -- Scans of numbers and of places: the answer for the rest is the answer for the whole. Assumes nothing.
 use Prim.Native.Nat.{ℕ, suc, _+_, _*_, _-_, _^_, _≤_, _<_}
 use mathlib.Core.Path.{_≡_, refl, sym, ap, _∙_}
-use mathlib.Core.Bool.{Bool, true, false}
-use mathlib.Core.List.{List, [], _∷_}
+use mathlib.Core.Bool.{Bool, true, false, not, _&&_}
+use mathlib.Core.List.{List, _∷_, map}
 use native.Mathlib.Numerals.{add-one}
 use native.Mathlib.Omega.{arith}
 use lib.ListN.{length, take, drop, getD, length-take, length-drop, drop-of-length-le}
@@ -14,8 +14,12 @@ use mir.Val.{ofZ, toZ}
 use mir.ValLaws.{toZ-ofZ}
 use Rattle.lists.specs.Lists.{lists, all, any, eqZ, eqList}
 use Rattle.lists.specs.Laws.Booleans.{not-true→false}
+use Rattle.lists.specs.Laws.Alls.{all-head, all-tail}
 use Rattle.lists.specs.Laws.Equalities.{eqZ-true, eqZ-refl}
-use Rattle.pool.specs.Places.{isZero, places}
+use Rattle.pool.specs.Updates.{allDifferent, isAmong}
+use Rattle.pool.specs.Places.{isZero, updateOf, wellWritten, places, updatesOf}
+use Rattle.pool.specs.Laws.Equal.{numbers-among}
+use Rattle.pool.proofs.Writing.{tail-is}
 
 -- equal bits, equal numbers
 pub bits-same : (x y : ℤ) → mag x < 2 ^ 31 → mag y < 2 ^ 31 → ofZ w32 x ≡ ofZ w32 y → x ≡ y
@@ -86,3 +90,62 @@ module _ (test : List ℤ → Bool) (k n : ℕ) (p : List ℤ) where
   pub any-end : n ≤ k → false ≡ any test (places (n - k) (drop (10 * k) p))
   unfolding any places
   any-end h = let e : n - k ≡ 0 = omega arith in rw e refl
+
+-- ---- different updates
+
+-- if all places are well written: those from k on are, and their updates are different exactly if all are
+abbrev pub Rest : List ℤ → ℕ → ℕ → Type 0
+Rest p n k =
+    all wellWritten (places n p) ≡ true
+    → (all wellWritten (places (n - k) (drop (10 * k) p)) ≡ true)
+    × (allDifferent (updatesOf (n - k) (drop (10 * k) p)) ≡ allDifferent (updatesOf n p))
+
+pub rest-none : (p : List ℤ) (n : ℕ) → Rest p n 0
+rest-none p n h = let e : n - 0 ≡ n = omega arith in rw e (h, refl)
+
+pub rest-end : (p : List ℤ) (n k : ℕ) → n ≤ k → Rest p n k → all wellWritten (places n p) ≡ true → true ≡ allDifferent (updatesOf n p)
+unfolding allDifferent updatesOf places
+rest-end p n k l r h = let e : n - k ≡ 0 = omega arith in rw e at (r h .1)
+
+-- the places from the next on have the numbers of place k, as they are lent and as they stand
+pub later-lent : (p : List ℤ) (n k : ℕ) (b : Bool)
+    → b ≡ any (λ w. eqList eqZ w (take (10 * k + 10 - 10 * k) (drop (10 * k) p)))
+    (places (n - k - 1) (take (length p - (10 * k + 10)) (drop (10 * k + 10) p)))
+    → b ≡ any (λ w. eqList eqZ w (take 10 (drop (10 * k) p))) (places (n - (k + 1)) (drop (10 * (k + 1)) p))
+later-lent p n k b h =
+    let e : 10 * k + 10 - 10 * k ≡ 10 = omega arith in
+    let f : n - k - 1 ≡ n - (k + 1) = omega arith in
+    let g : 10 * k + 10 ≡ 10 * (k + 1) = omega arith in
+    rw (tail-is, e, f, g) at h
+
+module _ (p : List ℤ) (n k : ℕ) (l : k < n) (r : Rest p n k) (h : all wellWritten (places n p) ≡ true) where
+  here : List ℤ
+  here = take 10 (drop (10 * k) p)
+
+  later : List (List ℤ)
+  later = places (n - (k + 1)) (drop (10 * (k + 1)) p)
+
+  well : all wellWritten (here ∷ later) ≡ true
+  unfolding here later
+  well = ap (all wellWritten) (sym (places-next n k p l)) ∙ r h .0
+
+  among : any (λ w. eqList eqZ w here) later ≡ isAmong (updateOf here) (map updateOf later)
+  among = numbers-among here (all-head wellWritten here later well) later (all-tail wellWritten here later well)
+
+  both : allDifferent (updatesOf n p) ≡ (not (any (λ w. eqList eqZ w here) later) && allDifferent (map updateOf later))
+  unfolding here later allDifferent updatesOf
+  both =
+      sym (r h .1) ∙ ap (λ x. allDifferent (map updateOf x)) (places-next n k p l)
+      ∙ ap (λ b. not b && allDifferent (map updateOf later)) (sym among)
+
+  pub rest-stop : any (λ w. eqList eqZ w (take 10 (drop (10 * k) p))) (places (n - (k + 1)) (drop (10 * (k + 1)) p)) ≡ true
+      → false ≡ allDifferent (updatesOf n p)
+  unfolding here later
+  rest-stop e = sym (both ∙ ap (λ b. not b && allDifferent (map updateOf later)) e)
+
+  pub rest-next : any (λ w. eqList eqZ w (take 10 (drop (10 * k) p))) (places (n - (k + 1)) (drop (10 * (k + 1)) p)) ≡ false
+      → (all wellWritten (places (n - (k + 1)) (drop (10 * (k + 1)) p)) ≡ true)
+      × (allDifferent (updatesOf (n - (k + 1)) (drop (10 * (k + 1)) p)) ≡ allDifferent (updatesOf n p))
+  unfolding here later updatesOf
+  rest-next e =
+      (all-tail wellWritten here later well, sym (both ∙ ap (λ b. not b && allDifferent (map updateOf later)) e))

@@ -1,12 +1,13 @@
 -- Numbers written into a pool: into a lent tail, moved down, and zeros. Assumes nothing.
 use Prim.Native.Nat.{ℕ, suc, _+_, _*_, _-_, _≤_, _<_}
 use mathlib.Core.Path.{_≡_, refl, sym, ap, ap₂, _∙_}
-use mathlib.Core.List.{List, [], _∷_, _++_, append-nil, append-assoc}
+use mathlib.Core.List.{List, [], _++_, append-nil, append-assoc}
 use native.Mathlib.Nat.{le-refl}
 use native.Mathlib.Numerals.{add-one}
 use native.Mathlib.Omega.{arith}
 use lib.ListN.{length, take, drop, getD, set, length-drop, length-replicate, drop-of-length-le, replicate-append-replicate}
-use lib.Seq.{take-all, drop-drop, drop-cons, set-at, append-snoc, getD-drop, getD-append-add, paste, paste-suc, length-paste-head, take-paste, drop-paste}
+use lib.Seq.{take-all, drop-drop, drop-cons, set-at, append-snoc, getD-drop, getD-append-add}
+use lib.Seq.{paste, paste-suc, length-paste-head, take-paste, drop-paste}
 use lib.IntN.{ℤ, pos}
 use Rattle.pool.specs.Places.{zeros}
 use Rattle.pool.specs.Moves.{written, moved, removed}

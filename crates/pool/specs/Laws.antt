@@ -1,5 +1,6 @@
 -- Laws of updates, places and good states.
 pub mod Places
 pub mod Good
+pub mod Equal
 pub mod Values
 pub mod Assigned

@@ -42,8 +42,10 @@ loop-less c = omega arith
 loop-again : tie.Need-loop-again Inv-loop μ-loop
 loop-again c =
     let l = c .before .before .before in
-    let same = bits-same (getD (l .before .args .tail .now) (l .loop .i) (pos 0)) (pos 0) (c .before .x .given) (omega arith) (c .if1 .left) in
-    (omega arith, zero-next (l .before .args .tail .now) (l .loop .i) (omega arith) same ∙ l .loop .inv .1)
+    let tail = l .before .args .tail .now in
+    let i = l .loop .i in
+    let same = bits-same (getD tail i (pos 0)) (pos 0) (c .before .x .given) (omega arith) (c .if1 .left) in
+    (omega arith, zero-next tail i (omega arith) same ∙ l .loop .inv .1)
 
 returns-2 : tie.Need-returns-2 Inv-loop μ-loop
 returns-2 c = zero-end (c .before .before .args .tail .now) (c .before .loop .i) (omega arith) ∙ c .before .loop .inv .1

@@ -17,7 +17,8 @@ use Rattle.pool.proofs.is_pending.Tie as tie
 
 abbrev Inv-loop : tie.InvT-loop
 Inv-loop pool pending update k₀ k =
-    (k ≤ pending) × (any (λ w. eqList eqZ w update) (places (pending - k) (drop (10 * k) pool)) ≡ any (λ w. eqList eqZ w update) (places pending pool))
+    let test : List ℤ → Bool = λ w. eqList eqZ w update in
+    (k ≤ pending) × (any test (places (pending - k) (drop (10 * k) pool)) ≡ any test (places pending pool))
 
 abbrev μ-loop : tie.MeasureT-loop
 μ-loop pool pending update k₀ k = pending - k

@@ -3,7 +3,7 @@
 use Prim.Native.Nat.{_≤_, _-_}
 use mathlib.Core.Path.{_≡_, refl, sym, ap, _∙_}
 use native.Mathlib.Omega.{arith}
-use lib.ListN.{length, take, drop}
+use lib.ListN.{take, drop}
 use mir.Syntax.{w32}
 use mir.Val.{ofZ}
 use Rattle.lists.specs.Lists.{eqZ, eqList}
@@ -57,11 +57,11 @@ loop-again c =
     let l = c .before .before .before .before in
     let a = l .before .args in
     let i = l .loop .i in
-    let size = place-size (a .pool .now) (a .at) (l .before .pre .1) in
-    let same = bits-same _ _ (c .before .before .x .given) (c .before .y .given) (c .if1 .left) in (
+    let size = place-size (a .pool .now) (a .at) (l .before .pre .1) in (
       omega arith,
       same-next (take 10 (drop (a .at) (a .pool .now))) (a .update .now) i (omega arith) (omega arith)
-          (place-at (a .pool .now) (a .at) i (omega arith) ∙ same)
+          (place-at (a .pool .now) (a .at) i (omega arith)
+          ∙ bits-same _ _ (c .before .before .x .given) (c .before .y .given) (c .if1 .left))
           ∙ l .loop .inv .1,
     )
 

@@ -92,7 +92,8 @@ module _ (d : Deck) (n : ℕ) (x : Machine) (f : Fine d (capacity n) x) where
 
 -- ---- loading
 
-written-same : (l : List ℤ) → wellWritten l ≡ true → place (updateOf l) ≡ l
+-- a place that is well written holds the numbers of its update
+pub written-same : (l : List ℤ) → wellWritten l ≡ true → place (updateOf l) ≡ l
 unfolding wellWritten
 written-same l h = eqList-true eqZ eqZ-true (place (updateOf l)) l h
 
