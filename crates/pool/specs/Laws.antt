@@ -2,5 +2,6 @@
 pub mod Places
 pub mod Good
 pub mod Equal
+pub mod Laid
 pub mod Values
 pub mod Assigned
