@@ -12,8 +12,9 @@ use Rattle.lists.specs.Laws.Booleans.{and-left, and-right, or-left, or-right, o
 use Rattle.lists.specs.Laws.Alls.{all-head, all-tail}
 use Rattle.lists.specs.Laws.Anys.{any-append}
 use Rattle.pool.specs.Updates.{Update, eqUpdate, isAmong, allDifferent}
+use Rattle.pool.specs.Laws.Equal.{update-true, update-refl}
 use Rattle.firing.specs.Firing.{enqueue, pick, without}
-use Rattle.firing.specs.Laws.Enqueue.{update-true, update-refl, behind}
+use Rattle.firing.specs.Laws.Enqueue.{behind}
 
 -- ---- written behind
 

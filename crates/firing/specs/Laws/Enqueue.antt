@@ -1,44 +1,19 @@
 -- New updates written behind the pending ones: what is kept, and what is added at most. Assumes nothing.
 use Prim.Native.Nat.{ℕ, _+_, _≤_}
-use mathlib.Core.Path.{_≡_, refl, _∙_, ap, ap₂}
+use mathlib.Core.Path.{_≡_, refl, _∙_, ap}
 use mathlib.Core.Bool.{Bool, true, false, not, cond}
 use mathlib.Core.List.{List, [], _∷_, _++_}
 use native.Mathlib.Omega.{arith}
-use lib.Dec.{eqb}
-use borrow.Author.Tests.{eqb-true, eq-eqb, not-true}
-use Rattle.lists.specs.Lists.{lists, all, any, eqList}
+use borrow.Author.Tests.{not-true}
+use Rattle.lists.specs.Lists.{lists, all, any}
 use Rattle.lists.specs.Laws.Booleans.{and-both, and-left, and-right, or-false-left, or-false-right, contradiction, not-true→false}
 use Rattle.lists.specs.Laws.Alls.{all-cons, all-append, all-none, all-head, all-tail, any-none}
-use Rattle.lists.specs.Laws.Equalities.{eqZ-true, eqZ-refl, eqList-true, eqList-refl}
 use Rattle.lists.specs.Laws.Sums.{sum-append}
 use Rattle.deck.specs.Deck.{Deck}
 use Rattle.charge.specs.Charge.{updateCharge}
-use Rattle.pool.specs.Updates.{Pair, Update, channels, eqPair, eqUpdate, isAmong, allDifferent, charge}
+use Rattle.pool.specs.Updates.{Update, channels, eqUpdate, isAmong, allDifferent, charge}
+use Rattle.pool.specs.Laws.Equal.{update-true, update-refl}
 use Rattle.firing.specs.Firing.{enqueue}
-
--- ---- equal updates
-
-pair-true : (a b : Pair) → eqPair a b ≡ true → a ≡ b
-unfolding eqPair
-pair-true a b h =
-    let same = eqb (a .channel) (b .channel) in
-    ap₂ (λ c v. record { channel = c; value = v }) (eqb-true (a .channel) (b .channel) (and-left same _ h)) (eqZ-true (a .value) (b .value) (and-right same _ h))
-
-pair-refl : (a : Pair) → eqPair a a ≡ true
-unfolding eqPair
-pair-refl a = and-both (eq-eqb (a .channel) (a .channel) refl) (eqZ-refl (a .value))
-
-pub update-true : (u w : Update) → eqUpdate u w ≡ true → u ≡ w
-unfolding eqUpdate
-update-true u w h =
-    let same = eqb (u .part) (w .part) in
-    ap₂ (λ p l. record { part = p; pairs = l })
-    (eqb-true (u .part) (w .part) (and-left same (eqList eqPair (u .pairs) (w .pairs)) h))
-    (eqList-true eqPair pair-true (u .pairs) (w .pairs) (and-right same (eqList eqPair (u .pairs) (w .pairs)) h))
-
-pub update-refl : (u : Update) → eqUpdate u u ≡ true
-unfolding eqUpdate
-update-refl u = and-both (eq-eqb (u .part) (u .part) refl) (eqList-refl eqPair pair-refl (u .pairs))
 
 -- ---- one update more
 

@@ -16,9 +16,9 @@ use Rattle.pool.specs.Updates.{Pair, Update, channels, valueAt, assign, eqPair,
 use Rattle.pool.specs.States.{Machine}
 use Rattle.pool.specs.Laws.Values.{channelsIn}
 use Rattle.pool.specs.Laws.Good.{Fine}
+use Rattle.pool.specs.Laws.Equal.{update-true, update-refl}
 use Rattle.passing.specs.Check.{within}
 use Rattle.firing.specs.Firing.{setAndFire, pick, without, committed}
-use Rattle.firing.specs.Laws.Enqueue.{update-true, update-refl}
 use Rattle.firing.specs.Laws.Among.{pick-among, without-among}
 use Rattle.firing.specs.Laws.Commits.{pick-known}
 use Rattle.orders.specs.Calculus.{Task, satisfies, updatesFrom, discovered, overridden, executes, enters, tasksOf, sentTasks, Exec, ExecFail, exec, exec-fail, input, programOf, Step, systemOf}
