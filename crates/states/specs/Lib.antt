@@ -1,0 +1,2 @@
+-- The code's answers about a state, and their laws.
+pub mod Answer
