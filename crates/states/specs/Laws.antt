@@ -1,0 +1,3 @@
+-- Laws of the tests of a state, by subject.
+pub mod Fits
+pub mod Places
