@@ -1,7 +1,85 @@
 // The test for a good state (10) and the charge of its pending updates. The definitions are in `pool`.
+ghost use mathlib.Core.Path.{_≡_};
+ghost use mathlib.Core.Bool.{Bool, true, _&&_, _||_};
+ghost use Prim.Native.Nat.{_+_, _*_, _/_, _%_, _<_, _≤_};
+ghost use lib.Dec.{ltb};
+ghost use lib.ListN.{length, getD, drop};
+ghost use lib.IntN.{pos};
+ghost use Rattle.lists.specs.Lists.{all};
+ghost use Rattle.lists.specs.Bits.{maskOf};
+ghost use Rattle.pool.specs.Updates.{channels};
+ghost use Rattle.pool.specs.Places.{isZero, updateOf, wellWritten, places};
+ghost use Rattle.states.specs.Answer.{FitsPlace, FitsPlaces, FitsValues};
+ghost use Rattle.states.specs.Fits.{within, channelsFit};
+use deck::Deck;
 
 // A good state with the charge of its pending updates, or not a good one.
 pub enum Goodness {
     Good(u32),
     Bad,
+}
+
+// The number at an index, where it is from 0 to below the bound, and the bound for the others.
+fn number_at(place: &[i32], i: usize, bound: usize) -> usize
+    requires { ⌜ i < length (now place) ⌝ }
+    ensures { λ r. ⌜ r ≡ within bound (getD (now (place .entry)) i (pos 0)) ⌝ }
+{
+    let x = place[i];
+    if x < 0 {
+        return bound;
+    }
+    let n = x as usize;
+    if n < bound { n } else { bound }
+}
+
+// Whether the channels of the pairs are known ones, and no two are equal.
+fn channels_fit(place: &[i32], count: usize, channels: usize) -> bool
+    requires { ⌜ (2 + 2 * count ≤ length (now place)) × (count < 5) × (channels ≤ 32) ⌝ }
+    ensures { λ r. ⌜ r ≡ channelsFit channels 0 count (drop 2 (now (place .entry))) ⌝ }
+{
+    let mut mask: u64 = 0;
+    let mut i: usize = 0;
+    while i < count {
+        let c = number_at(place, 2 + 2 * i, channels);
+        if c == channels {
+            return false;
+        }
+        if (mask >> c) % 2 == 1 {
+            return false;
+        }
+        mask = mask | (1u64 << c);
+        i += 1;
+    }
+    true
+}
+
+// Whether an index of the value table belongs to a channel of a part, or the number there is 0.
+fn is_used_or_zero(values: &[i32], i: usize, channels: usize, parts: usize) -> bool
+    requires { ⌜ i < length (now values) ⌝ }
+    ensures { λ r. ⌜ r ≡ (ltb (i / 32) parts && ltb (i % 32) channels || isZero (getD (now (values .entry)) i (pos 0))) ⌝ }
+{
+    let x = values[i];
+    if x == 0 {
+        return true;
+    }
+    if i / Deck::CHANNELS < parts {
+        i % Deck::CHANNELS < channels
+    } else {
+        false
+    }
+}
+
+// Whether the numbers of the table that belong to no channel of a part are 0.
+fn values_fit(values: &[i32], channels: usize, parts: usize) -> bool
+    ensures { λ r. ⌜ FitsValues channels parts (now (values .entry)) r ⌝ }
+{
+    let n = values.len();
+    let mut i: usize = 0;
+    while i < n {
+        if !is_used_or_zero(values, i, channels, parts) {
+            return false;
+        }
+        i += 1;
+    }
+    true
 }

@@ -1,0 +1,3 @@
+-- What the functions' proofs share, apart from the places of the code.
+pub mod Numbers
+pub mod Turns
