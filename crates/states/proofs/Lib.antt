@@ -1,3 +1,4 @@
 -- What the functions' proofs share, apart from the places of the code.
 pub mod Numbers
 pub mod Turns
+pub mod Collecting

@@ -19,7 +19,7 @@ use Rattle.states.specs.Fits.{within, channelsFit}
 -- ---- pairs
 
 -- the pair at an index and those behind it
-pair-at : (l : List ℤ) (i : ℕ) → 4 + 2 * i ≤ length l
+pub pair-at : (l : List ℤ) (i : ℕ) → 4 + 2 * i ≤ length l
     → drop (2 + 2 * i) l ≡ getD l (2 + 2 * i) (pos 0) ∷ getD l (suc (2 + 2 * i)) (pos 0) ∷ drop (2 + 2 * (i + 1)) l
 pair-at l i h =
     let e : suc (suc (2 + 2 * i)) ≡ 2 + 2 * (i + 1) = omega arith in

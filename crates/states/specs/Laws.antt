@@ -1,3 +1,4 @@
 -- Laws of the tests of a state, by subject.
 pub mod Fits
 pub mod Places
+pub mod Held

@@ -83,3 +83,19 @@ fn values_fit(values: &[i32], channels: usize, parts: usize) -> bool
     }
     true
 }
+
+// The channels of the update that a place holds, as a set.
+pub fn channels_of(place: &[i32]) -> u64
+    requires { ⌜ (length (now place) ≡ 10) × (wellWritten (now place) ≡ true) × (all (λ c. ltb c 32) (channels (updateOf (now place))) ≡ true) ⌝ }
+    ensures { λ r. ⌜ r ≡ maskOf (channels (updateOf (now (place .entry)))) ⌝ }
+{
+    let count = number_at(place, 1, Deck::ASSIGNMENTS + 1);
+    let mut mask: u64 = 0;
+    let mut i: usize = 0;
+    while i < count {
+        let c = number_at(place, 2 + 2 * i, Deck::CHANNELS);
+        mask = mask | (1u64 << c);
+        i += 1;
+    }
+    mask
+}
