@@ -2,3 +2,4 @@
 pub mod Numbers
 pub mod Turns
 pub mod Collecting
+pub mod Adding

@@ -1,15 +1,17 @@
 -- What the functions of this crate answer. Assumes nothing.
-use Prim.Native.Nat.{ℕ}
+use Prim.Native.Nat.{ℕ, _*_, _≤_}
 use mathlib.Core.Path.{_≡_}
-use mathlib.Core.Bool.{Bool, true, false, _&&_, cond}
+use mathlib.Core.Bool.{Bool, true, _&&_, cond}
 use mathlib.Core.List.{List, map}
+use lib.ListN.{length}
 use lib.IntN.{ℤ}
 use Rattle.lists.specs.Lists.{all}
 use Rattle.deck.specs.Deck.{Deck, R, N}
 use Rattle.deck.specs.Shape.{shapeOf}
-use Rattle.charge.specs.Memo.{Memo}
-use Rattle.pool.specs.Updates.{charge}
-use Rattle.pool.specs.Places.{updateOf, wellWritten, updatesOf}
+use Rattle.charge.specs.Charge.{updateCharge}
+use Rattle.charge.specs.Memo.{Memo, Answered}
+use Rattle.pool.specs.Updates.{channels, charge}
+use Rattle.pool.specs.Places.{updateOf, wellWritten, places, updatesOf}
 use Rattle.pool.specs.States.{Memory, unusedZero, known, good}
 use Rattle.states.specs.declared.Goodness.{Goodness}
 use Rattle.states.specs.declared.Goodness.the-variants.{Good, Bad}
@@ -23,6 +25,25 @@ FitsPlaces R′ N′ ls r = (d : Deck) → R d ≡ R′ → N d ≡ N′ → r �
 
 abbrev pub FitsValues : ℕ → ℕ → List ℤ → Bool → Type 0
 FitsValues R′ N′ values r = (d : Deck) → R d ≡ R′ → N d ≡ N′ → r ≡ unusedZero d 0 values
+
+-- the place of a well written, known update
+pub record Holds (d : Deck) (l : List ℤ) : Type 0 where
+  pub long : length l ≡ 10
+  pub written : wellWritten l ≡ true
+  pub known : known d (updateOf l) ≡ true
+
+-- n such places
+pub record Pending (d : Deck) (n : ℕ) (pool : List ℤ) : Type 0 where
+  pub room : 10 * n ≤ length pool
+  pub written : all wellWritten (places n pool) ≡ true
+  pub known : all (known d) (updatesOf n pool) ≡ true
+
+-- s is the charge of the update that a place holds, or of the pending ones, and the memo that is left is right
+abbrev pub PlaceGives : Deck → List ℤ → List ℕ → ℕ → Type 0
+PlaceGives d l m s = Answered d (updateCharge d (updateOf l .part) (channels (updateOf l))) m s
+
+abbrev pub PendingGives : Deck → ℕ → List ℤ → List ℕ → ℕ → Type 0
+PendingGives d n pool m s = Answered d (charge d (updatesOf n pool)) m s
 
 -- the state and the pool that were lent
 abbrev pub memoryOf : List ℤ → ℕ → List ℤ → Memory

@@ -2,3 +2,4 @@
 pub mod Fits
 pub mod Places
 pub mod Held
+pub mod Charges

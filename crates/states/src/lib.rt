@@ -7,9 +7,11 @@ ghost use lib.ListN.{length, getD, drop};
 ghost use lib.IntN.{pos};
 ghost use Rattle.lists.specs.Lists.{all};
 ghost use Rattle.lists.specs.Bits.{maskOf};
+ghost use Rattle.deck.specs.Shape.{shapeOf};
+ghost use Rattle.charge.specs.Memo.{Ready, capped};
 ghost use Rattle.pool.specs.Updates.{channels};
 ghost use Rattle.pool.specs.Places.{isZero, updateOf, wellWritten, places};
-ghost use Rattle.states.specs.Answer.{FitsPlace, FitsPlaces, FitsValues};
+ghost use Rattle.states.specs.Answer.{FitsValues, Holds, Pending, PlaceGives, PendingGives};
 ghost use Rattle.states.specs.Fits.{within, channelsFit};
 use deck::Deck;
 
@@ -98,4 +100,57 @@ pub fn channels_of(place: &[i32]) -> u64
         i += 1;
     }
     mask
+}
+
+// The charge of the update that a place holds, up to 65,536.
+pub fn place_charge(
+    rules: &[u64],
+    parts: &[u64],
+    memo: &mut [u32],
+    channels: usize,
+    count: usize,
+    parts_count: usize,
+    place: &[i32],
+) -> u32
+    requires { ⌜ Ready (now rules) (now parts) channels count «parts_count» (now memo) × (channels ≤ 32) × Holds (shapeOf (now rules) (now parts) channels count «parts_count») (now place) ⌝ }
+    ensures { λ s. ⌜ PlaceGives (shapeOf (now (rules .entry)) (now (parts .entry)) channels count «parts_count») (now (place .entry)) (now (memo .exit)) s ⌝ }
+{
+    let p = number_at(place, 0, parts_count);
+    let mask = channels_of(place);
+    charge::update_charge(rules, parts, memo, channels, count, parts_count, p, mask)
+}
+
+// A sum that stops at 65,536.
+fn capped_sum(a: u32, b: u32) -> u32
+    requires { ⌜ (a ≤ 65536) × (b ≤ 65536) ⌝ }
+    ensures { λ r. ⌜ r ≡ capped (a + b) ⌝ }
+{
+    let s = a + b;
+    if s < 65536 { s } else { 65536 }
+}
+
+// The charge of the pending updates, up to 65,536.
+fn pending_charge(
+    rules: &[u64],
+    parts: &[u64],
+    memo: &mut [u32],
+    channels: usize,
+    count: usize,
+    parts_count: usize,
+    pool: &[i32],
+    pending: usize,
+) -> u32
+    requires { ⌜ Ready (now rules) (now parts) channels count «parts_count» (now memo) × (channels ≤ 32) × Pending (shapeOf (now rules) (now parts) channels count «parts_count») pending (now pool) ⌝ }
+    ensures { λ s. ⌜ PendingGives (shapeOf (now (rules .entry)) (now (parts .entry)) channels count «parts_count») pending (now (pool .entry)) (now (memo .exit)) s ⌝ }
+{
+    let mut total: u32 = 0;
+    let mut k: usize = 0;
+    while k < pending {
+        let at = 10 * k;
+        let next = at + 10;
+        let c = place_charge(rules, parts, memo, channels, count, parts_count, &pool[at..next]);
+        total = capped_sum(total, c);
+        k += 1;
+    }
+    total
 }
