@@ -3,15 +3,16 @@ use Prim.Native.Nat.{ℕ, _*_, _≤_}
 use mathlib.Core.Path.{_≡_}
 use mathlib.Core.Bool.{Bool, true, _&&_, cond}
 use mathlib.Core.List.{List, map}
-use lib.ListN.{length}
+use lib.Dec.{leb, eqb}
+use lib.ListN.{length, drop}
 use lib.IntN.{ℤ}
 use Rattle.lists.specs.Lists.{all}
 use Rattle.deck.specs.Deck.{Deck, R, N}
 use Rattle.deck.specs.Shape.{shapeOf}
 use Rattle.charge.specs.Charge.{updateCharge}
 use Rattle.charge.specs.Memo.{Memo, Answered}
-use Rattle.pool.specs.Updates.{channels, charge}
-use Rattle.pool.specs.Places.{updateOf, wellWritten, places, updatesOf}
+use Rattle.pool.specs.Updates.{channels, allDifferent, charge}
+use Rattle.pool.specs.Places.{isZero, capacity, updateOf, wellWritten, places, updatesOf}
 use Rattle.pool.specs.States.{Memory, unusedZero, known, good}
 use Rattle.states.specs.declared.Goodness.{Goodness}
 use Rattle.states.specs.declared.Goodness.the-variants.{Good, Bad}
@@ -48,6 +49,22 @@ PendingGives d n pool m s = Answered d (charge d (updatesOf n pool)) m s
 -- the state and the pool that were lent
 abbrev pub memoryOf : List ℤ → ℕ → List ℤ → Memory
 memoryOf values pending pool = record { state = record { values = values; pending = pending }; pool = pool }
+
+-- all that `good` tests but the charge
+unfoldable pub uncharged : Deck → Memory → Bool
+uncharged d m =
+    let n = m .state .pending in
+    let us = updatesOf n (m .pool) in
+    eqb (length (m .state .values)) 512
+    && unusedZero d 0 (m .state .values)
+    && leb n (capacity (length (m .pool)))
+    && all wellWritten (places n (m .pool))
+    && all isZero (drop (10 * n) (m .pool))
+    && all (known d) us
+    && allDifferent us
+
+abbrev pub FitsState : ℕ → ℕ → Memory → Bool → Type 0
+FitsState R′ N′ m r = (d : Deck) → R d ≡ R′ → N d ≡ N′ → r ≡ uncharged d m
 
 abbrev pub goodnessOf : Deck → Memory → Goodness
 goodnessOf d m = cond (good d m) (Good (charge d (updatesOf (m .state .pending) (m .pool)))) Bad

@@ -3,3 +3,4 @@ pub mod Fits
 pub mod Places
 pub mod Held
 pub mod Charges
+pub mod Judged

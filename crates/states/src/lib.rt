@@ -11,7 +11,8 @@ ghost use Rattle.deck.specs.Shape.{shapeOf};
 ghost use Rattle.charge.specs.Memo.{Ready, capped};
 ghost use Rattle.pool.specs.Updates.{channels};
 ghost use Rattle.pool.specs.Places.{isZero, updateOf, wellWritten, places};
-ghost use Rattle.states.specs.Answer.{FitsValues, Holds, Pending, PlaceGives, PendingGives};
+ghost use Rattle.pool.specs.States.{goodLength};
+ghost use Rattle.states.specs.Answer.{FitsPlace, FitsPlaces, FitsValues, FitsState, Holds, Pending, PlaceGives, PendingGives, memoryOf, Judges};
 ghost use Rattle.states.specs.Fits.{within, channelsFit};
 use deck::Deck;
 
@@ -51,6 +52,46 @@ fn channels_fit(place: &[i32], count: usize, channels: usize) -> bool
         }
         mask = mask | (1u64 << c);
         i += 1;
+    }
+    true
+}
+
+// Whether a place is well written and holds a known update.
+pub fn place_fits(place: &[i32], channels: usize, parts: usize) -> bool
+    requires { ⌜ (length (now place) ≡ 10) × (channels ≤ 32) ⌝ }
+    ensures { λ r. ⌜ FitsPlace channels parts (now (place .entry)) r ⌝ }
+{
+    let p = number_at(place, 0, parts);
+    if p == parts {
+        return false;
+    }
+    let count = number_at(place, 1, Deck::ASSIGNMENTS + 1);
+    if count == 0 {
+        return false;
+    }
+    if count == 5 {
+        return false;
+    }
+    if !channels_fit(place, count, channels) {
+        return false;
+    }
+    let end = 2 + 2 * count;
+    pool::all_zero(&place[end..])
+}
+
+// The same for all pending updates.
+fn places_fit(pool: &[i32], pending: usize, channels: usize, parts: usize) -> bool
+    requires { ⌜ (10 * pending ≤ length (now pool)) × (channels ≤ 32) ⌝ }
+    ensures { λ r. ⌜ FitsPlaces channels parts (places pending (now (pool .entry))) r ⌝ }
+{
+    let mut k: usize = 0;
+    while k < pending {
+        let at = 10 * k;
+        let next = at + 10;
+        if !place_fits(&pool[at..next], channels, parts) {
+            return false;
+        }
+        k += 1;
     }
     true
 }
@@ -153,4 +194,54 @@ fn pending_charge(
         k += 1;
     }
     total
+}
+
+// Whether the state is a good one, apart from its charge.
+fn state_fits(values: &[i32], pending: usize, pool: &[i32], channels: usize, parts: usize) -> bool
+    requires { ⌜ channels ≤ 32 ⌝ }
+    ensures { λ r. ⌜ FitsState channels parts (memoryOf (now (values .entry)) pending (now (pool .entry))) r ⌝ }
+{
+    if values.len() != Deck::VALUES {
+        return false;
+    }
+    if !values_fit(values, channels, parts) {
+        return false;
+    }
+    if pool.len() / Deck::PLACE < pending {
+        return false;
+    }
+    if !places_fit(pool, pending, channels, parts) {
+        return false;
+    }
+    let end = 10 * pending;
+    if !pool::all_zero(&pool[end..]) {
+        return false;
+    }
+    pool::all_different(pool, pending)
+}
+
+// 10: whether the state is a good one.
+pub fn judge(
+    rules: &[u64],
+    parts: &[u64],
+    memo: &mut [u32],
+    channels: usize,
+    count: usize,
+    parts_count: usize,
+    values: &[i32],
+    pending: usize,
+    pool: &[i32],
+) -> Goodness
+    requires { ⌜ Ready (now rules) (now parts) channels count «parts_count» (now memo) × (channels ≤ 32) × (goodLength (length (now pool)) ≡ true) ⌝ }
+    ensures { λ r. ⌜ Judges (now (rules .entry)) (now (parts .entry)) channels count «parts_count» (now (values .entry)) pending (now (pool .entry)) (now (memo .exit)) r ⌝ }
+{
+    if !state_fits(values, pending, pool, channels, parts_count) {
+        return Goodness::Bad;
+    }
+    let total = pending_charge(rules, parts, memo, channels, count, parts_count, pool, pending);
+    let places = pool.len() / Deck::PLACE;
+    if places < total as usize {
+        return Goodness::Bad;
+    }
+    Goodness::Good(total)
 }
