@@ -2,17 +2,17 @@
 use Prim.Native.Nat.{ℕ, suc, _+_, _*_, _-_, _<_, _≤_}
 use mathlib.Core.Path.{_≡_, sym, ap, _∙_, subst}
 use mathlib.Core.Bool.{true}
-use mathlib.Core.List.{List, [], _∷_, map}
+use mathlib.Core.List.{List, _∷_, map}
 use native.Mathlib.Omega.{arith}
-use lib.ListN.{length, take, drop, length-take, length-drop}
+use lib.ListN.{take, drop, length-take, length-drop}
 use lib.Seq.{drop-drop}
 use lib.IntN.{ℤ}
-use Rattle.lists.specs.Lists.{lists, all, sum}
+use Rattle.lists.specs.Lists.{lists, all}
 use Rattle.lists.specs.Laws.Alls.{all-head, all-tail}
 use Rattle.deck.specs.Deck.{Deck}
 use Rattle.charge.specs.Charge.{updateCharge}
-use Rattle.charge.specs.Memo.{Memo, Answered, capped}
-use Rattle.pool.specs.Updates.{Update, channels, charge}
+use Rattle.charge.specs.Memo.{Memo, capped}
+use Rattle.pool.specs.Updates.{channels, charge}
 use Rattle.pool.specs.Places.{updateOf, wellWritten, places, updatesOf}
 use Rattle.pool.specs.States.{known}
 use Rattle.states.specs.Answer.{Holds, Pending, PlaceGives, PendingGives}
@@ -81,28 +81,28 @@ module _ (d : Deck) (n : ℕ) (pool : List ℤ) where
     pub adding-place : Holds d lent
     adding-place =
         rw same-place
-            record {
-              long = omega (arith, length-take 10 (drop (10 * k) pool), a .rest .room);
-              written = all-head wellWritten l behind allWritten;
-              known = all-head (known d) (updateOf l) (map updateOf behind) allKnown;
-            }
+        record {
+          long = omega (arith, length-take 10 (drop (10 * k) pool), a .rest .room);
+          written = all-head wellWritten l behind allWritten;
+          known = all-head (known d) (updateOf l) (map updateOf behind) allKnown;
+        }
 
     more : {m′ : List ℕ} {c t : ℕ} → PlaceGives d l m′ c → t ≡ capped (total + c) → Adding d n pool m′ t (k + 1)
     unfolding updatesOf charge lists
     more {m′} {c} {t} g e =
         let u = updateOf l in
         let both : charge d (updatesOf (n - k) (drop (10 * k) pool))
-            ≡ updateCharge d (u .part) (channels u) + charge d (map updateOf behind) = ap (λ ls. charge d (map updateOf ls)) here in
+        ≡ updateCharge d (u .part) (channels u) + charge d (map updateOf behind) = ap (λ ls. charge d (map updateOf ls)) here in
         record {
           reached = omega arith;
           small = omega (arith, e);
           memo = g .memo;
           rest =
-            record {
-              room = omega (arith, length-drop (10 * k) pool, length-drop (10 * (k + 1)) pool, a .rest .room);
-              written = all-tail wellWritten l behind allWritten;
-              known = all-tail (known d) u (map updateOf behind) allKnown;
-            };
+              record {
+                room = omega (arith, length-drop (10 * k) pool, length-drop (10 * (k + 1)) pool, a .rest .room);
+                written = all-tail wellWritten l behind allWritten;
+                known = all-tail (known d) u (map updateOf behind) allKnown;
+              };
           same = omega (arith, e, g .value, both, a .same);
         }
 

@@ -1,7 +1,7 @@
 -- What the loop over the pairs of a place keeps that collects their channels as a set. Assumes nothing.
 use Prim.Native.Nat.{ℕ, suc, _+_, _*_, _-_, _^_, _<_, _≤_}
-use mathlib.Core.Path.{_≡_, refl, sym, ap, ap₂, _∙_}
-use mathlib.Core.Bool.{Bool, true, _&&_}
+use mathlib.Core.Path.{_≡_, sym, ap, ap₂, _∙_}
+use mathlib.Core.Bool.{true, _&&_}
 use mathlib.Core.List.{List, _∷_}
 use native.Mathlib.Omega.{arith}
 use lib.Bits.{bitOr}
@@ -71,7 +71,7 @@ module _ (l : List ℤ) (n : ℕ) where
           reached = omega arith;
           ranged = and-right (ltb c 32) (inRange 32 (n - (i + 1)) behind) tests;
           same =
-            ap (λ x. maskFrom (bitOr m (2 ^ x)) (channelsOf (n - (i + 1)) behind)) (sym number)
-            ∙ sym (ap₂ (λ j t. maskFrom m (channelsOf j t)) left here)
-            ∙ k .same;
+              ap (λ x. maskFrom (bitOr m (2 ^ x)) (channelsOf (n - (i + 1)) behind)) (sym number)
+              ∙ sym (ap₂ (λ j t. maskFrom m (channelsOf j t)) left here)
+              ∙ k .same;
         }

@@ -1,8 +1,8 @@
 -- The tests of a place one by one, and of places one by one. Assumes nothing.
-use Prim.Native.Nat.{ℕ, suc, _+_, _*_, _-_, _<_, _≤_}
+use Prim.Native.Nat.{ℕ, _+_, _*_, _-_, _<_, _≤_}
 use mathlib.Core.Path.{_≡_, refl, sym, ap, ap₂, _∙_}
 use mathlib.Core.Bool.{Bool, true, false, _&&_}
-use mathlib.Core.List.{List, [], _∷_, map}
+use mathlib.Core.List.{List, _∷_, map}
 use native.Mathlib.Omega.{arith}
 use lib.Dec.{ltb}
 use lib.ListN.{length, getD, take, drop, length-take, length-drop}
@@ -11,10 +11,10 @@ use lib.IntN.{ℤ, pos}
 use borrow.Author.Tests.{ltb-true, lt-ltb}
 use Rattle.lists.specs.Lists.{lists, all}
 use Rattle.lists.specs.Laws.Booleans.{Five, five, from-four, contradiction, not-true→false}
-use Rattle.deck.specs.Deck.{Deck, R, N}
+use Rattle.deck.specs.Deck.{Deck}
 use Rattle.pool.specs.Places.{isZero, updateOf, wellWritten, places}
 use Rattle.pool.specs.States.{known}
-use Rattle.states.specs.Answer.{FitsPlace, FitsPlaces}
+use Rattle.states.specs.Answer.{FitsPlace}
 use Rattle.states.specs.Fits.{within, channelsFit, fits}
 use Rattle.states.specs.Laws.Places.{fits-same}
 use Rattle.states.proofs.Adding.{place-at}

@@ -1,15 +1,15 @@
 -- The turns of the loops over pairs, places and values. Assumes nothing.
-use Prim.Native.Nat.{ℕ, zero, suc, _+_, _*_, _-_, _/_, _%_, _^_, _<_, _≤_}
+use Prim.Native.Nat.{ℕ, suc, _+_, _*_, _-_, _/_, _%_, _^_, _<_, _≤_}
 use mathlib.Core.Path.{_≡_, refl, sym, ap, ap₂, _∙_}
 use mathlib.Core.Bool.{Bool, true, false, not, _&&_, _||_}
-use mathlib.Core.List.{List, [], _∷_}
+use mathlib.Core.List.{List, _∷_}
 use native.Mathlib.Omega.{arith}
 use lib.Bits.{bitOr}
 use lib.Dec.{ltb}
 use lib.ListN.{length, getD, drop, drop-of-length-le}
 use lib.Seq.{drop-cons}
 use lib.IntN.{ℤ, pos, negsuc}
-use borrow.Author.Tests.{lt-ltb, le-ltb}
+use borrow.Author.Tests.{lt-ltb, le-ltb, not-true, not-false}
 use Rattle.lists.specs.Bits.{bit}
 use Rattle.deck.specs.Deck.{Deck, R, N}
 use Rattle.pool.specs.Places.{isZero}
@@ -81,11 +81,12 @@ module _ (d : Deck) (r n : ℕ) (eR : R d ≡ r) (eN : N d ≡ n) (values : List
       ∙ ap (λ k. (ltb (i / 32) (N d) && ltb (i % 32) (R d) || isZero (getD values i (pos 0))) && unusedZero d k (drop k values)) e
       ∙ ap₂ (λ x y. (ltb (i / 32) x && ltb (i % 32) y || isZero (getD values i (pos 0))) && later) eN eR
 
-  pub value-next : test ≡ true → unusedZero d i (drop i values) ≡ later
-  value-next e = value-turn ∙ ap (λ b. b && later) e
+  -- the code tests the negation
+  pub value-next : {b : Bool} → b ≡ test → not b ≡ false → unusedZero d i (drop i values) ≡ later
+  value-next {b} e k = value-turn ∙ ap (λ x. x && later) (sym e ∙ not-false b k)
 
-  pub value-stop : test ≡ false → unusedZero d i (drop i values) ≡ false
-  value-stop e = value-turn ∙ ap (λ b. b && later) e
+  pub value-stop : {b : Bool} → b ≡ test → not b ≡ true → unusedZero d i (drop i values) ≡ false
+  value-stop {b} e k = value-turn ∙ ap (λ x. x && later) (sym e ∙ not-true b k)
 
 pub value-end : (d : Deck) (values : List ℤ) (i : ℕ) → length values ≤ i → unusedZero d i (drop i values) ≡ true
 unfolding unusedZero

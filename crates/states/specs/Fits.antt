@@ -35,8 +35,3 @@ unfoldable pub fits : ℕ → ℕ → List ℤ → Bool
 fits R N l =
     let n = within 5 (getD l 1 (pos 0)) in
     ltb (within N (getD l 0 (pos 0))) N && ltb 0 n && ltb n 5 && channelsFit R 0 n (drop 2 l) && all isZero (drop (2 + 2 * n) l)
-
--- to open all definitions of this file, on an `unfolding` line
-unfoldable pub fitting : Unit {0}
-unfolding within inRange channelsFit fits
-fitting = tt

@@ -1,6 +1,6 @@
 // The test for a good state (10) and the charge of its pending updates. The definitions are in `pool`.
 ghost use mathlib.Core.Path.{_≡_};
-ghost use mathlib.Core.Bool.{Bool, true, _&&_, _||_};
+ghost use mathlib.Core.Bool.{true, _&&_, _||_};
 ghost use Prim.Native.Nat.{_+_, _*_, _/_, _%_, _<_, _≤_};
 ghost use lib.Dec.{ltb};
 ghost use lib.ListN.{length, getD, drop};
@@ -189,7 +189,15 @@ fn pending_charge(
     while k < pending {
         let at = 10 * k;
         let next = at + 10;
-        let c = place_charge(rules, parts, memo, channels, count, parts_count, &pool[at..next]);
+        let c = place_charge(
+            rules,
+            parts,
+            memo,
+            channels,
+            count,
+            parts_count,
+            &pool[at..next],
+        );
         total = capped_sum(total, c);
         k += 1;
     }
@@ -238,7 +246,16 @@ pub fn judge(
     if !state_fits(values, pending, pool, channels, parts_count) {
         return Goodness::Bad;
     }
-    let total = pending_charge(rules, parts, memo, channels, count, parts_count, pool, pending);
+    let total = pending_charge(
+        rules,
+        parts,
+        memo,
+        channels,
+        count,
+        parts_count,
+        pool,
+        pending,
+    );
     let places = pool.len() / Deck::PLACE;
     if places < total as usize {
         return Goodness::Bad;

@@ -53,7 +53,7 @@ returns-2 c =
     let i = c .before .before .before .before .loop in
     let n = c .before .before .number-at in
     let twice = fit-twice (s .channels) (i .mask) (s .count) (i .i) (n .result) (s .place .now) (n .ensures) (omega arith) (omega arith)
-        (bit-yes (i .mask) (n .result) (c .if2 .taken)) in
+    (bit-yes (i .mask) (n .result) (c .if2 .taken)) in
     sym (sym (i .inv .1) ∙ twice)
 
 shl-mask : tie.Need-shl-mask Inv-loop μ-loop
@@ -65,11 +65,12 @@ loop-again c =
     let i = c .before .before .before .before .loop in
     let n = c .before .before .number-at in
     let next = fit-next (s .channels) (i .mask) (s .count) (i .i) (n .result) (s .place .now) (n .ensures) (omega arith) (omega arith)
-        (small (c .before)) (bit-no (i .mask) (n .result) (c .if2 .left)) in
-    let one = bit-shifted 64 (n .result) (omega (arith, small (c .before))) in
-    (omega arith,
-    ap (λ m. channelsFit (s .channels) (bitOr (i .mask) m) (s .count - (i .i + 1)) (drop (2 + 2 * (i .i + 1)) (s .place .now))) one
-    ∙ sym next ∙ i .inv .1)
+    (small (c .before)) (bit-no (i .mask) (n .result) (c .if2 .left)) in
+    let one = bit-shifted 64 (n .result) (omega (arith, small (c .before))) in (
+      omega arith,
+      ap (λ m. channelsFit (s .channels) (bitOr (i .mask) m) (s .count - (i .i + 1)) (drop (2 + 2 * (i .i + 1)) (s .place .now))) one
+          ∙ sym next ∙ i .inv .1,
+    )
 
 returns-3 : tie.Need-returns-3 Inv-loop μ-loop
 returns-3 c =

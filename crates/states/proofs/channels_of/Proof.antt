@@ -1,10 +1,7 @@
 -- `states::channels_of` meets its contract. The loop's invariant: with the channels of the pairs from number i on, the set is
 -- that of all pairs. Assumes nothing.
-use Prim.Native.Nat.{_*_, _-_, _≤_}
-use mathlib.Core.Path.{_≡_, sym}
+use Prim.Native.Nat.{_-_}
 use native.Mathlib.Omega.{arith}
-use lib.ListN.{length}
-use lib.Bits.{bitOr}
 use Rattle.lists.specs.Laws.Bits.{bit-shifted}
 use Rattle.states.specs.Laws.Held.{held}
 use Rattle.states.proofs.Collecting.{Collected, collected-none, collected-low, collected-more, collected-all}
@@ -38,7 +35,7 @@ loop-again c =
     let i = c .before .before .loop in
     let low = collected-low l _ (s .pre .0) (i .inv) (c .before .loop-test .taken) (c .number-at2 .ensures) in
     rw (bit-shifted 64 (c .number-at2 .result) (omega (arith, low)))
-        (collected-more l _ (s .pre .0) (i .inv) (c .before .loop-test .taken) (c .number-at2 .ensures))
+    (collected-more l _ (s .pre .0) (i .inv) (c .before .loop-test .taken) (c .number-at2 .ensures))
 
 returns : tie.Need-returns Inv-loop μ-loop
 returns c = collected-all (c .before .before .before .args .place .now) _ (c .before .loop .inv) (omega arith)

@@ -1,6 +1,6 @@
 -- `states::is_used_or_zero` meets its contract. Assumes nothing.
 use Prim.Native.Nat.{_/_, _%_}
-use mathlib.Core.Path.{_≡_, refl, sym, ap, ap₂, _∙_}
+use mathlib.Core.Path.{_≡_, refl, sym, ap₂, _∙_}
 use mathlib.Core.Bool.{Bool, true, false, _&&_, _||_}
 use borrow.Author.Needs.{needs}
 use borrow.Author.Tests.{lt-ltb, le-ltb}
@@ -10,7 +10,6 @@ use lib.IntN.{ℤ, pos}
 use mir.Syntax.{w32}
 use mir.Val.{SFits}
 use Rattle.lists.specs.Laws.Booleans.{or-right}
-use Rattle.pool.specs.Places.{isZero}
 use Rattle.states.proofs.Numbers.{zero-bits, other-bits}
 use Rattle.states.proofs.is_used_or_zero.Statement.{statement}
 use Rattle.states.proofs.is_used_or_zero.Tie as tie

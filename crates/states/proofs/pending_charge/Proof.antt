@@ -7,10 +7,6 @@ use Rattle.deck.specs.Shape.{shapeOf}
 use Rattle.states.proofs.Adding.{Adding, adding-none, adding-place, adding-more, adding-all}
 use Rattle.states.proofs.pending_charge.Statement.{statement}
 use Rattle.states.proofs.pending_charge.Tie as tie
-use Rattle.states.proofs.pending_charge.Reads as reads
-use Rattle.states.proofs.pending_charge.Lts as lts
-use Rattle.states.proofs.capped_sum.Reads as capped-sum-reads
-use Rattle.states.proofs.place_charge.Reads as place-charge-reads
 
 abbrev Inv-loop : tie.InvT-loop
 Inv-loop rules parts memo₀ channels count parts-count pool pending total₀ k₀ memo total k =
@@ -27,10 +23,11 @@ loop-holds c =
 place-charge-requires : tie.Need-place-charge-requires Inv-loop μ-loop
 place-charge-requires c κs =
     let s = c .before .before .before .before .before .before .before in
-    let i = c .before .before .before .loop in
-    (record { tables = s .pre .0 .tables; memo = i .inv .memo },
-    s .pre .1,
-    adding-place _ (s .args .pending) (s .args .pool .now) (i .inv) (omega arith))
+    let i = c .before .before .before .loop in (
+      record { tables = s .pre .0 .tables; memo = i .inv .memo },
+      s .pre .1,
+      adding-place _ (s .args .pending) (s .args .pool .now) (i .inv) (omega arith),
+    )
 
 capped-sum-requires : tie.Need-capped-sum-requires Inv-loop μ-loop
 capped-sum-requires c κs =

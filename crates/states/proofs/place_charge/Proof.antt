@@ -1,20 +1,12 @@
 -- `states::place_charge` meets its contract: part and channels of the place give the charge. Assumes nothing.
-use mathlib.Core.Path.{_∙_, sym}
 use native.Mathlib.Omega.{arith}
 use borrow.Author.Needs.{needs}
-use Rattle.deck.specs.Deck.{Deck}
-use Rattle.deck.specs.Shape.{shapeOf}
 use Rattle.deck.specs.Laws.Shape.{shape-R, shape-N}
 use Rattle.pool.specs.Places.{updateOf}
 use Rattle.states.specs.Laws.Held.{known-low}
 use Rattle.states.specs.Laws.Charges.{holds-part, holds-charge}
 use Rattle.states.proofs.place_charge.Statement.{statement}
 use Rattle.states.proofs.place_charge.Tie as tie
-use Rattle.states.proofs.place_charge.Reads as reads
-use Rattle.states.proofs.place_charge.Lts as lts
-use Rattle.charge.proofs.update_charge.Reads as update-charge-reads
-use Rattle.states.proofs.channels_of.Reads as channels-of-reads
-use Rattle.states.proofs.number_at.Reads as number-at-reads
 
 number-at-requires : tie.Need-number-at-requires
 number-at-requires c κs = omega (arith, c .before .before .before .pre .2 .long)
@@ -30,10 +22,11 @@ channels-of-requires c κs =
 update-charge-requires : tie.Need-update-charge-requires
 update-charge-requires c κs =
     let s = c .before .before .before .before .before .before in
-    let a = s .args in
-    (s .pre .0,
-    holds-part _ (a .parts-count) (shape-N (a .rules .now) (a .parts .now) (a .channels) (a .count) (a .parts-count)) (a .place .now) (s .pre .2)
-    (c .before .before .number-at .ensures))
+    let a = s .args in (
+      s .pre .0,
+      holds-part _ (a .parts-count) (shape-N (a .rules .now) (a .parts .now) (a .channels) (a .count) (a .parts-count)) (a .place .now) (s .pre .2)
+          (c .before .before .number-at .ensures),
+    )
 
 returns : tie.Need-returns
 returns c =

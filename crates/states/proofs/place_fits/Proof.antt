@@ -6,7 +6,6 @@ use borrow.Author.Needs.{needs}
 use borrow.Author.Tests.{not-true, not-false}
 use lib.ListN.{getD}
 use lib.IntN.{pos}
-use Rattle.states.specs.Fits.{within}
 use Rattle.states.proofs.Turns.{within-most}
 use Rattle.states.proofs.Deciding.{no-part, no-pairs, many-pairs, no-channels, only-zeros, tail-zeros, place-answer}
 use Rattle.states.proofs.place_fits.Statement.{statement}

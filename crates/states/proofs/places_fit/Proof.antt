@@ -35,11 +35,14 @@ returns c d eR eN =
     sym (sym (i .inv .1 d eR eN) ∙ place-stop d (s .pending) (i .k) (s .pool .now) (omega arith) test)
 
 loop-again : tie.Need-loop-again Inv-loop μ-loop
-loop-again c = (omega arith, λ d eR eN.
-    let s = c .before .before .before .before .before .args in
-    let i = c .before .before .before .before .loop in
-    let test = sym (c .before .place-fits .ensures d eR eN) ∙ not-false _ (c .if1 .left) in
-    sym (place-next d (s .pending) (i .k) (s .pool .now) (omega arith) test) ∙ i .inv .1 d eR eN)
+loop-again c = (
+  omega arith,
+  λ d eR eN.
+      let s = c .before .before .before .before .before .args in
+      let i = c .before .before .before .before .loop in
+      let test = sym (c .before .place-fits .ensures d eR eN) ∙ not-false _ (c .if1 .left) in
+      sym (place-next d (s .pending) (i .k) (s .pool .now) (omega arith) test) ∙ i .inv .1 d eR eN,
+)
 
 returns-2 : tie.Need-returns-2 Inv-loop μ-loop
 returns-2 c d eR eN =

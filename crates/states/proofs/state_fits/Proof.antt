@@ -4,7 +4,6 @@ use native.Mathlib.Omega.{arith}
 use borrow.Author.Needs.{needs}
 use borrow.Author.Tests.{not-true, not-false}
 use Rattle.lists.specs.Laws.Booleans.{contradiction}
-use Rattle.deck.specs.Deck.{Deck, R, N}
 use Rattle.pool.specs.States.{Memory}
 use Rattle.states.specs.Answer.{memoryOf}
 use Rattle.states.specs.Laws.Judged.{Passed, not-passed, passed-last, passed-written}

@@ -3,7 +3,6 @@
 use Prim.Native.Nat.{_-_, _≤_}
 use mathlib.Core.Path.{_≡_, refl, sym, _∙_}
 use native.Mathlib.Omega.{arith}
-use borrow.Author.Tests.{not-true, not-false}
 use lib.ListN.{length, drop}
 use Rattle.deck.specs.Deck.{Deck, R, N}
 use Rattle.pool.specs.States.{unusedZero}
@@ -28,15 +27,18 @@ returns : tie.Need-returns Inv-loop μ-loop
 returns c d eR eN =
     let s = c .before .before .before .before .args in
     let i = c .before .before .before .loop in
-    let test = sym (c .before .is-used-or-zero .ensures) ∙ not-true _ (c .if1 .taken) in
-    sym (sym (i .inv .1 d eR eN) ∙ value-stop d (s .channels) (s .parts) eR eN (s .values .now) (i .i) (omega arith) test)
+    let stop = value-stop d (s .channels) (s .parts) eR eN (s .values .now) (i .i) (omega arith) (c .before .is-used-or-zero .ensures) (c .if1 .taken) in
+    sym stop ∙ i .inv .1 d eR eN
 
 loop-again : tie.Need-loop-again Inv-loop μ-loop
-loop-again c = (omega arith, λ d eR eN.
-    let s = c .before .before .before .before .args in
-    let i = c .before .before .before .loop in
-    let test = sym (c .before .is-used-or-zero .ensures) ∙ not-false _ (c .if1 .left) in
-    sym (value-next d (s .channels) (s .parts) eR eN (s .values .now) (i .i) (omega arith) test) ∙ i .inv .1 d eR eN)
+loop-again c = (
+  omega arith,
+  λ d eR eN.
+      let s = c .before .before .before .before .args in
+      let i = c .before .before .before .loop in
+      let next = value-next d (s .channels) (s .parts) eR eN (s .values .now) (i .i) (omega arith) (c .before .is-used-or-zero .ensures) (c .if1 .left) in
+      sym next ∙ i .inv .1 d eR eN,
+)
 
 returns-2 : tie.Need-returns-2 Inv-loop μ-loop
 returns-2 c d eR eN =

@@ -7,7 +7,7 @@ use lib.Dec.{ltb}
 use lib.ListN.{getD}
 use lib.IntN.{ℤ, pos}
 use borrow.Author.Tests.{ltb-true}
-use Rattle.lists.specs.Lists.{all, member}
+use Rattle.lists.specs.Lists.{all}
 use Rattle.lists.specs.Bits.{maskOf}
 use Rattle.lists.specs.Laws.Members.{all-member}
 use Rattle.deck.specs.Deck.{Deck, R, N}
@@ -54,5 +54,5 @@ module _ (d : Deck) (n : ℕ) (e : N d ≡ n) (l : List ℤ) (h : Holds d l) whe
   holds-charge few q k a =
       let cs = channels (updateOf l) in
       let same = ap₂ (λ p x. updateCharge d p (bitsOf 32 x)) (q ∙ part) k
-          ∙ mask-charge d (updateOf l .part) cs (known-low d (updateOf l) (h .known) few) in
+      ∙ mask-charge d (updateOf l .part) cs (known-low d (updateOf l) (h .known) few) in
       record { value = a .value ∙ ap capped same; memo = a .memo }

@@ -1,24 +1,23 @@
 -- A place is well written and holds a known update exactly if it passes the tests of its numbers. Assumes nothing.
-use Prim.Native.Nat.{ℕ, zero, suc, _+_, _*_, _-_, _^_, _<_, _≤_, min}
+use Prim.Native.Nat.{ℕ, zero, suc, _*_, _^_, _<_, _≤_}
 use mathlib.Core.Path.{_≡_, refl, sym, ap, ap₂, _∙_}
-use mathlib.Core.Logic.{⊎-elim}
 use mathlib.Core.Bool.{Bool, true, false, not, _&&_, _||_, false≢true}
 use mathlib.Core.List.{List, [], _∷_, _++_, map}
 use native.Mathlib.Omega.{arith}
 use lib.Bits.{bitOr}
 use lib.Dec.{ltb, eqb}
-use lib.ListN.{length, getD, take, drop}
+use lib.ListN.{length, take, drop}
 use lib.IntN.{ℤ, pos, negsuc, natAbs}
 use borrow.Author.Tests.{ltb-true, lt-ltb, eq-eqb, eqb-true, not-true}
 use Rattle.lists.specs.Lists.{lists, all, flatMap, distinct, member}
 use Rattle.lists.specs.Bits.{bit}
 use Rattle.lists.specs.Laws.Booleans.{and-both, and-left, and-right, or-false-both, or-false-left, or-right, contradiction, not-true→false}
-use Rattle.lists.specs.Laws.Alls.{all-head, all-tail, all-cons, all-weaken}
+use Rattle.lists.specs.Laws.Alls.{all-head, all-tail, all-weaken}
 use Rattle.lists.specs.Laws.Members.{all-member}
-use Rattle.lists.specs.Laws.Bits.{bit-or, bit-power, bit-zero}
+use Rattle.lists.specs.Laws.Bits.{bit-or, bit-power}
 use Rattle.pool.specs.Updates.{Pair}
 use Rattle.pool.specs.Places.{pairsOf}
-use Rattle.states.specs.Fits.{within, channelsFit, fits, fitting}
+use Rattle.states.specs.Fits.{within, channelsFit}
 
 pub within-below : (b : ℕ) (z : ℤ) → within b z < b → z ≡ pos (within b z)
 unfolding within
@@ -108,13 +107,14 @@ module _ (R : ℕ) where
       let r = fit-known (bitOr m (2 ^ k)) n t (and-right tests (channelsFit R (bitOr m (2 ^ k)) n t) h) in
       let cs = channelsOf n t in
       let new = not-again m k cs (r .0 .outside) in
-      let two : 2 * suc n ≡ suc (suc (2 * n)) = omega arith in
-      (record {
-        ranged = ap (λ x. ltb x R && all (λ c. ltb c R) cs) same ∙ and-both (and-left (ltb k R) (not (bit m k)) front) (r .0 .ranged);
-        different = ap (λ x. not (member x cs) && distinct cs) same ∙ and-both (ap not new) (r .0 .different);
-        outside =
-          ap (λ x. not (bit m x) && all (λ c. not (bit m c)) cs) same
-          ∙ and-both (and-right (ltb k R) (not (bit m k)) front) (outside-fewer m k cs (r .0 .outside));
-      },
-      ap₂ (λ a b. a ∷ v ∷ b) (ap pos same ∙ sym first) (ap (λ j. flatMap numbers (take n (pairsOf t)) ++ drop j (c ∷ v ∷ t)) two ∙ r .1),
-      omega (arith, r .2))
+      let two : 2 * suc n ≡ suc (suc (2 * n)) = omega arith in (
+        record {
+          ranged = ap (λ x. ltb x R && all (λ c. ltb c R) cs) same ∙ and-both (and-left (ltb k R) (not (bit m k)) front) (r .0 .ranged);
+          different = ap (λ x. not (member x cs) && distinct cs) same ∙ and-both (ap not new) (r .0 .different);
+          outside =
+              ap (λ x. not (bit m x) && all (λ c. not (bit m c)) cs) same
+              ∙ and-both (and-right (ltb k R) (not (bit m k)) front) (outside-fewer m k cs (r .0 .outside));
+        },
+        ap₂ (λ a b. a ∷ v ∷ b) (ap pos same ∙ sym first) (ap (λ j. flatMap numbers (take n (pairsOf t)) ++ drop j (c ∷ v ∷ t)) two ∙ r .1),
+        omega (arith, r .2),
+      )

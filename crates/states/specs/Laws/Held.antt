@@ -1,7 +1,7 @@
 -- What a place holds that is well written: its part, and the channels of its pairs. Assumes nothing.
 use Prim.Native.Nat.{ℕ, zero, suc, _*_, _-_, _<_, _≤_}
 use mathlib.Core.Path.{_≡_, refl, sym, ap, _∙_}
-use mathlib.Core.Bool.{Bool, true, not, _&&_}
+use mathlib.Core.Bool.{true, not}
 use mathlib.Core.List.{List, [], _∷_, _++_, map}
 use native.Mathlib.Omega.{arith}
 use lib.Dec.{ltb}
@@ -17,7 +17,7 @@ use Rattle.pool.specs.Places.{zeros, pairsOf, updateOf, wellWritten}
 use Rattle.pool.specs.States.{known}
 use Rattle.states.specs.Fits.{within, inRange}
 use Rattle.states.specs.Laws.Fits.{within-pos, numbers, channelsOf}
-use Rattle.states.specs.Laws.Places.{Written, written}
+use Rattle.states.specs.Laws.Places.{written}
 
 module _ (d : Deck) (u : Update) (h : known d u ≡ true) where
   known-tests : (u .part < N d) × (all (λ c. ltb c (R d)) (channels u) ≡ true)

@@ -1,6 +1,6 @@
 -- A good state by the code's tests in their order: all but the charge, then the charge. Assumes nothing.
 use Prim.Native.Nat.{ℕ, _*_, _/_, _%_, _<_, _≤_}
-use mathlib.Core.Path.{_≡_, refl, sym, ap, ap₂, _∙_}
+use mathlib.Core.Path.{_≡_, refl, sym, ap, _∙_}
 use mathlib.Core.Bool.{Bool, true, false, _&&_, cond}
 use mathlib.Core.List.{List, map}
 use native.Mathlib.Omega.{arith}
@@ -8,13 +8,12 @@ use lib.Dec.{leb, eqb}
 use lib.ListN.{length, drop}
 use borrow.Author.Tests.{leb-true, le-leb, lt-leb, eqb-true, eq-eqb}
 use Rattle.lists.specs.Lists.{all}
-use Rattle.lists.specs.Laws.Booleans.{and-both, and-left, and-right, five, from-five, contradiction, not-true→false}
+use Rattle.lists.specs.Laws.Booleans.{and-both, and-left, and-right, five, from-five, not-true→false}
 use Rattle.deck.specs.Deck.{Deck}
 use Rattle.charge.specs.Memo.{capped}
 use Rattle.pool.specs.Updates.{Update, allDifferent, charge}
 use Rattle.pool.specs.Places.{isZero, capacity, updateOf, wellWritten, places, updatesOf}
 use Rattle.pool.specs.States.{Memory, goodLength, unusedZero, known, good}
-use Rattle.states.specs.declared.Goodness.{Goodness}
 use Rattle.states.specs.declared.Goodness.the-variants.{Good, Bad}
 use Rattle.states.specs.Answer.{Pending, uncharged, goodnessOf}
 
@@ -46,7 +45,7 @@ module _ (d : Deck) (m : Memory) where
   passed h =
       let front = and-left (ofPool && all (known d) us) (allDifferent us) h in
       let t = five (eqb (length (m .state .values)) 512) (unusedZero d 0 (m .state .values)) (leb n (length (m .pool) / 10))
-          (all wellWritten (places n (m .pool))) (all isZero (drop (10 * n) (m .pool))) (and-left ofPool (all (known d) us) front) in
+      (all wellWritten (places n (m .pool))) (all isZero (drop (10 * n) (m .pool))) (and-left ofPool (all (known d) us) front) in
       record {
         long = eqb-true (length (m .state .values)) 512 (t .0);
         unused = t .1;

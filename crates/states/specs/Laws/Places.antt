@@ -1,11 +1,11 @@
 -- A place is well written and holds a known update exactly if it passes the tests of its numbers. Assumes nothing.
 use Prim.Native.Nat.{ℕ, zero, suc, _+_, _*_, _-_, _<_, _≤_}
 use mathlib.Core.Path.{_≡_, refl, sym, ap, ap₂, _∙_}
-use mathlib.Core.Bool.{Bool, true, false, not, _&&_, false≢true}
+use mathlib.Core.Bool.{true, not, _&&_, false≢true}
 use mathlib.Core.List.{List, [], _∷_, _++_, map}
 use native.Mathlib.Omega.{arith}
 use lib.Dec.{ltb}
-use lib.ListN.{length, getD, take, drop, length-take, length-drop}
+use lib.ListN.{length, take, drop, length-take, length-drop}
 use lib.Seq.{drop-at}
 use lib.IntN.{ℤ, pos, natAbs}
 use borrow.Author.Tests.{ltb-true, lt-ltb}
@@ -17,7 +17,7 @@ use Rattle.lists.specs.Laws.Alls.{all-head, all-tail, all-every, all-replicate}
 use Rattle.lists.specs.Laws.Equalities.{eqZ-true, eqZ-refl, eqList-true, eqList-refl}
 use Rattle.lists.specs.Laws.Bits.{bit-zero}
 use Rattle.deck.specs.Deck.{Deck, R, N}
-use Rattle.pool.specs.Updates.{Pair, Update, channels}
+use Rattle.pool.specs.Updates.{Pair, channels}
 use Rattle.pool.specs.Places.{zeros, isZero, place, pairsOf, updateOf, wellWritten}
 use Rattle.pool.specs.States.{known}
 use Rattle.states.specs.Fits.{within, channelsFit, fits}
@@ -117,13 +117,15 @@ module _ (a b : ℤ) (t : List ℤ) (long : length t ≡ 8) where
         let back : flatMap numbers ps ++ zeros (2 * (4 - length ps)) ≡ t = ap₂ (λ x y. flatMap numbers x ++ y) pairs behind ∙ k .1 in
         let written : place (updateOf l) ≡ l = λ i. (ap pos (ap natAbs first) ∙ sym first) i ∷ (ap pos count ∙ sym second) i ∷ back i in
         let cs = map (λ (x : Pair). x .channel) ps in
-        let same : cs ≡ channelsOf n t = ap (map (λ x. x .channel)) pairs in
-        (ap (λ m. eqList eqZ m l) written ∙ eqList-refl eqZ eqZ-refl l,
-        from-four (ltb (natAbs a) (N d)) (not (isEmpty ps)) (all (λ c. ltb c (R d)) cs) (distinct cs)
-        (ap (λ z. ltb (natAbs z) (N d)) first ∙ tests .0,
-        some ps (omega (arith, count, ltb-true 0 n (tests .1))),
-        ap (all (λ c. ltb c (R d))) same ∙ k .0 .ranged,
-        ap distinct same ∙ k .0 .different))
+        let same : cs ≡ channelsOf n t = ap (map (λ x. x .channel)) pairs in (
+          ap (λ m. eqList eqZ m l) written ∙ eqList-refl eqZ eqZ-refl l,
+          from-four (ltb (natAbs a) (N d)) (not (isEmpty ps)) (all (λ c. ltb c (R d)) cs) (distinct cs) (
+            ap (λ z. ltb (natAbs z) (N d)) first ∙ tests .0,
+            some ps (omega (arith, count, ltb-true 0 n (tests .1))),
+            ap (all (λ c. ltb c (R d))) same ∙ k .0 .ranged,
+            ap distinct same ∙ k .0 .different,
+          ),
+        )
 
     known-fits : Written → known d (updateOf l) ≡ true → fits (R d) (N d) l ≡ true
     unfolding fits known updateOf channels
@@ -141,12 +143,13 @@ module _ (a b : ℤ) (t : List ℤ) (long : length t ≡ 8) where
         let taken = take n (pairsOf t) in
         let two = numbers-length taken ∙ ap (λ k. 2 * k) (pairs-length n t (omega (arith, w .few))) in
         let rest : drop (2 * n) t ≡ zs = sym (ap (drop (2 * n)) (w .back)) ∙ drop-at (flatMap numbers taken) zs (2 * n) two in
-        from-five (ltb (within (N d) a) (N d)) (ltb 0 n) (ltb n 5) (channelsFit (R d) 0 n t) (all isZero (drop (2 + 2 * n) l))
-        (ap (λ x. ltb x (N d)) part ∙ tests .0,
-        lt-ltb 0 n (omega (arith, w .count, not-none ps (tests .1))),
-        lt-ltb n 5 (w .few),
-        known-fit (R d) 0 n t zs (omega (arith, w .few)) (w .back) k,
-        ap (all isZero) (two-on n ∙ rest) ∙ zeros-zero (2 * (4 - n)))
+        from-five (ltb (within (N d) a) (N d)) (ltb 0 n) (ltb n 5) (channelsFit (R d) 0 n t) (all isZero (drop (2 + 2 * n) l)) (
+          ap (λ x. ltb x (N d)) part ∙ tests .0,
+          lt-ltb 0 n (omega (arith, w .count, not-none ps (tests .1))),
+          lt-ltb n 5 (w .few),
+          known-fit (R d) 0 n t zs (omega (arith, w .few)) (w .back) k,
+          ap (all isZero) (two-on n ∙ rest) ∙ zeros-zero (2 * (4 - n)),
+        )
 
 -- the tests of ten numbers
 pub fits-same : (d : Deck) (l : List ℤ) → length l ≡ 10 → fits (R d) (N d) l ≡ (wellWritten l && known d (updateOf l))
