@@ -42,7 +42,7 @@ module _ (r n p c : ℕ) (l : List ℤ) (ep : p ≡ within n (getD l 0 (pos 0)))
   pub no-pairs : c ≡ 0 → fits r n l ≡ false
   no-pairs h = not-true→false (fits r n l) (λ t. let k = ltb-true 0 c (tests t .1) in omega arith)
 
-  pub many-pairs : c ≡ 5 → fits r n l ≡ false
+  pub many-pairs : 4 < c → fits r n l ≡ false
   many-pairs h = not-true→false (fits r n l) (λ t. let k = ltb-true c 5 (tests t .2) in omega arith)
 
   pub no-channels : channelsFit r 0 c (drop 2 l) ≡ false → fits r n l ≡ false

@@ -4,3 +4,4 @@ pub mod Places
 pub mod Held
 pub mod Charges
 pub mod Judged
+pub mod Shape

@@ -37,7 +37,7 @@ fn number_at(place: &[i32], i: usize, bound: usize) -> usize
 
 // Whether the channels of the pairs are known ones, and no two are equal.
 fn channels_fit(place: &[i32], count: usize, channels: usize) -> bool
-    requires { ⌜ (2 + 2 * count ≤ length (now place)) × (count < 5) × (channels ≤ 32) ⌝ }
+    requires { ⌜ (2 + 2 * count ≤ length (now place)) × (channels ≤ 32) ⌝ }
     ensures { λ r. ⌜ r ≡ channelsFit channels 0 count (drop 2 (now (place .entry))) ⌝ }
 {
     let mut mask: u64 = 0;
@@ -69,7 +69,7 @@ pub fn place_fits(place: &[i32], channels: usize, parts: usize) -> bool
     if count == 0 {
         return false;
     }
-    if count == 5 {
+    if Deck::ASSIGNMENTS < count {
         return false;
     }
     if !channels_fit(place, count, channels) {

@@ -28,9 +28,7 @@ claims = (
 
 -- the count is one of 1 to 4
 few : (c : lts.Else3 claims reads.Pre reads.Post) → c .before .before .number-at2 .result < 5
-few c =
-    let l = c .before .before .before .before .before .args .place .now in
-    omega (arith, c .before .before .number-at2 .ensures, within-most 5 (getD l 1 (pos 0)))
+few c = omega arith
 
 returns : tie.Need-returns
 returns c =
@@ -57,7 +55,7 @@ returns-3 c =
 channels-fit-requires : tie.Need-channels-fit-requires
 channels-fit-requires c κs =
     let s = c .before .before .before .before .before in
-    (omega (arith, few c, s .pre .0), few c, s .pre .1)
+    (omega (arith, few c, s .pre .0), s .pre .1)
 
 returns-4 : tie.Need-returns-4
 returns-4 c =

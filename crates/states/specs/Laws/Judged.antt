@@ -84,7 +84,7 @@ module _ (d : Deck) (m : Memory) where
 
   -- ---- with the charge
 
-  charged : good d m ≡ (uncharged d m && leb (charge d us) (capacity (length (m .pool))))
+  pub charged : good d m ≡ (uncharged d m && leb (charge d us) (capacity (length (m .pool))))
   unfolding good uncharged
   charged = refl
 
