@@ -109,3 +109,19 @@ module _ (d : Deck) (m : Memory) where
         let most = leb-true size 655350 (and-right (leb 10 size) (leb size 655350) (and-left (leb 10 size && leb size 655350) (eqb (size % 10) 0) g)) in
         let same : total ≡ charge d us = omega arith in
         ap Good same ∙ answer true (bounded ∙ le-leb (charge d us) (size / 10) (omega arith))
+
+  -- ---- what an answer says
+
+  pub good-answer : {s : ℕ} → Good s ≡ goodnessOf d m → (good d m ≡ true) × (s ≡ charge d us)
+  good-answer {s} = go (good d m)
+    where
+      go : (b : Bool) → Good s ≡ cond b (Good (charge d us)) Bad → (b ≡ true) × (s ≡ charge d us)
+      go true e = (refl, cc)
+      go false e = let q : _≡_ {A = ℕ} 0 1 = cc in absurd (omega arith)
+
+  pub bad-answer : Bad ≡ goodnessOf d m → good d m ≡ false
+  bad-answer = go (good d m)
+    where
+      go : (b : Bool) → Bad ≡ cond b (Good (charge d us)) Bad → b ≡ false
+      go true e = let q : _≡_ {A = ℕ} 0 1 = cc in absurd (omega arith)
+      go false e = refl
