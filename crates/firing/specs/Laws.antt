@@ -4,3 +4,4 @@ pub mod Enqueue
 pub mod Charges
 pub mod Commits
 pub mod Among
+pub mod Evaluated
