@@ -5,3 +5,4 @@ pub mod Charges
 pub mod Commits
 pub mod Among
 pub mod Evaluated
+pub mod Changed

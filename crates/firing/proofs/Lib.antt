@@ -1,0 +1,2 @@
+-- Lemmas that several proofs use.
+pub mod Bits
