@@ -6,3 +6,4 @@ pub mod Commits
 pub mod Among
 pub mod Evaluated
 pub mod Changed
+pub mod Pairs
