@@ -7,3 +7,5 @@ pub mod Among
 pub mod Evaluated
 pub mod Changed
 pub mod Pairs
+pub mod Lined
+pub mod Written
