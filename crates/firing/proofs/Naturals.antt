@@ -21,3 +21,7 @@ index-there x c e h = rw (back-small x c e h) (tt, record { fits = omega arith }
 
 pub index-is : (x : ℤ) (c : ℕ) → x ≡ pos c → c < 2 ^ 31 → natAbs (back x) ≡ c
 index-is x c e h = ap natAbs (back-small x c e h)
+
+-- a small number, cast to a signed one
+pub cast-small : (n : ℕ) → n < 2 ^ 31 → toZ w32 n ≡ pos n
+cast-small n h = toZ-ofZ w32 (pos n) (record { sfits = h })
