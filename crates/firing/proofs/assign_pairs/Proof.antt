@@ -1,7 +1,7 @@
 -- `firing::assign_pairs` meets its contract. The loop's invariant: setting the pairs from i on gives what setting all of them
 -- gave at first. Assumes nothing.
-use Prim.Native.Nat.{ℕ, _+_, _*_, _-_, _/_, _≤_, _<_}
-use mathlib.Core.Path.{_≡_, refl, sym, ap, _∙_}
+use Prim.Native.Nat.{ℕ, _+_, _*_, _-_, _≤_, _<_}
+use mathlib.Core.Path.{_≡_, refl, _∙_}
 use native.Mathlib.Omega.{arith}
 use lib.ListN.{length, drop, getD, length-set}
 use lib.IntN.{ℤ, pos, natAbs}

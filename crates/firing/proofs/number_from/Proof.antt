@@ -1,5 +1,5 @@
 -- `firing::number_from` meets its contract: the length byte, and the value of the bytes that it counts. Assumes nothing.
-use mathlib.Core.Path.{_≡_, sym, ap, _∙_}
+use mathlib.Core.Path.{sym, _∙_}
 use native.Mathlib.Omega.{arith}
 use native.Mathlib.Nat.{add-sub-cancel-left}
 use mir.Syntax.{w32}

@@ -1,23 +1,23 @@
 -- An action that can be read at an offset of the deck: its count stands there, and its assignments behind it, one behind the
 -- other. Assumes nothing.
 use Prim.Native.Nat.{ℕ, zero, suc, _+_, _≤_, _<_}
-use mathlib.Core.Path.{_≡_, refl, sym, ap, ap₂, _∙_, subst}
+use mathlib.Core.Path.{_≡_, refl, sym, ap, _∙_, subst}
 use mathlib.Core.Bool.{Bool, true, false, not}
 use mathlib.Core.List.{List, [], _∷_}
 use native.Mathlib.Omega.{arith}
 use native.Mathlib.Decide.{decLt, decLe}
-use lib.ListN.{length, getD, take, drop}
+use lib.ListN.{length, getD, drop}
 use Rattle.lists.specs.Lists.{member}
-use Rattle.refusals.specs.Outcome.{refused, accepted}
+use Rattle.refusals.specs.Outcome.{accepted}
 use Rattle.refusals.specs.Laws.Outcomes.{refused≢accepted, accepted-inj}
-use Rattle.expression.specs.Syntax.{Num}
-use Rattle.expression.specs.Reading.{Read, got, Scope, wholeNum}
-use Rattle.deck.specs.Deck.{Assignment, Action}
-use Rattle.deck.specs.Reader.{Got, Reader, _>>=_, _>>_, give, fault, here, require, number}
+use Rattle.expression.specs.Reading.{Read, Scope, wholeNum}
+use Rattle.deck.specs.Deck.{Action}
+use Rattle.deck.specs.Reader.{Got, _>>=_, _>>_, give, fault, here, require, number}
 use Rattle.deck.specs.Layout.{judged, expression, assignments, action}
 use Rattle.deck.specs.Laws.Turns.{number-ends, number-small, number-large, number-reads}
 use Rattle.deck.specs.Laws.Offsets.{whole-there}
-use Rattle.deck.specs.Laws.Points.{Tracks, ReadsAt, then-tracks, give-tracks, here-tracks, number-tracks, expression-tracks, then-at, here-at, given}
+use Rattle.deck.specs.Laws.Points.{ReadsAt, then-at, here-at, given}
+use Rattle.deck.specs.Laws.Points.{Tracks, then-tracks, give-tracks, here-tracks, number-tracks, expression-tracks}
 use Rattle.passing.specs.Stands.{Stands}
 use Rattle.passing.specs.Laws.Stands.{stands}
 
@@ -98,13 +98,15 @@ assignments-tracks sc (suc n) ts =
     then-tracks (require (not (member t ts)) 4 at) _ (require-tracks (not (member t ts)) 4 at)
     (λ _.
     then-tracks (expression (wholeNum sc)) _ (expression-tracks (wholeNum sc))
-    (λ e. then-tracks (assignments sc n (t ∷ ts)) _ (assignments-tracks sc n (t ∷ ts)) (λ rest. give-tracks (record { target = t; value = e } ∷ rest))))))
+    (λ e.
+    then-tracks (assignments sc n (t ∷ ts)) _ (assignments-tracks sc n (t ∷ ts))
+    (λ rest. give-tracks (record { target = t; value = e } ∷ rest))))))
 
 abbrev LinedUp : Scope → List ℕ → ℕ → ℕ → Action → Type 0
 LinedUp sc s at n a = (length a ≡ n) × Lined sc s at a
 
-assignments-lined : (sc : Scope) (s : List ℕ) (n : ℕ) (ts : List ℕ) (at : ℕ) (g : Got Action) → assignments sc n ts (drop at s) at ≡ accepted g
-    → LinedUp sc s at n (g .value)
+assignments-lined : (sc : Scope) (s : List ℕ) (n : ℕ) (ts : List ℕ) (at : ℕ) (g : Got Action)
+    → assignments sc n ts (drop at s) at ≡ accepted g → LinedUp sc s at n (g .value)
 unfolding assignments _>>=_ _>>_ Lined
 assignments-lined sc s zero ts at g e = subst (LinedUp sc s at 0) (given [] (drop at s) at g e) (refl, tt)
 assignments-lined sc s (suc n) ts at g e =

@@ -2,12 +2,11 @@
 use Prim.Native.Nat.{ℕ, suc, _+_, _*_, _/_, _≤_, _<_}
 use mathlib.Core.Path.{_≡_, refl, sym, ap, ap₂, _∙_}
 use mathlib.Core.List.{List, [], _∷_}
-use native.Mathlib.Numerals.{add-one}
 use native.Mathlib.Omega.{arith}
 use lib.ListN.{length, getD, set, drop, length-drop}
 use lib.Seq.{drop-cons}
-use lib.IntN.{ℤ, pos, natAbs}
-use Rattle.pool.specs.Updates.{Pair, assign, indexOf, updates}
+use lib.IntN.{ℤ, pos}
+use Rattle.pool.specs.Updates.{assign, updates}
 use Rattle.pool.specs.Places.{pairsOf}
 
 -- pair i, and those behind it

@@ -1,14 +1,14 @@
 -- The place of the update that an action makes, as a loop writes it, pair by pair. Assumes nothing.
-use Prim.Native.Nat.{ℕ, zero, suc, _+_, _*_, _-_, _≤_, _<_}
-use mathlib.Core.Path.{_≡_, refl, sym, ap, ap₂, _∙_, subst}
-use mathlib.Core.List.{List, [], _∷_, _++_, map, append-assoc, append-nil}
+use Prim.Native.Nat.{ℕ, suc, _+_, _*_, _-_, _≤_, _<_}
+use mathlib.Core.Path.{_≡_, refl, sym, ap, ap₂, _∙_}
+use mathlib.Core.List.{List, [], _∷_, _++_, append-assoc, append-nil}
 use native.Mathlib.Omega.{arith}
-use lib.ListN.{length, getD, set, replicate, length-append, length-replicate}
+use lib.ListN.{length, getD, set, replicate, length-append}
 use lib.Seq.{set-at, append-snoc}
 use lib.IntN.{ℤ, pos}
 use borrow.Author.Tests.{le-leb}
 use Rattle.lists.specs.Lists.{lists, flatMap}
-use Rattle.expression.specs.Reading.{Scope, wholeNum}
+use Rattle.expression.specs.Reading.{wholeNum}
 use Rattle.expression.specs.Answers.{scope, numIn}
 use Rattle.deck.specs.Deck.{Assignment, Action}
 use Rattle.deck.specs.Layout.{action}
@@ -18,7 +18,7 @@ use Rattle.pool.specs.Places.{zeros, place, pools}
 use Rattle.pool.specs.Laws.Places.{short, place-length}
 use Rattle.passing.specs.Stands.{Stands}
 use Rattle.firing.specs.Evaluated.{updateBy}
-use Rattle.firing.specs.Laws.Lined.{Lined, ActionStands, action-stands}
+use Rattle.firing.specs.Laws.Lined.{Lined, action-stands}
 
 pub pairs-length : (own far : List ℤ) (q : ℕ) (a : Action) → length (updateBy own far q a .pairs) ≡ length a
 unfolding updateBy
@@ -109,7 +109,6 @@ pub record Turn (own far : List ℤ) (q : ℕ) (s : List ℕ) (a : Action) (numb
   pub inside : at < length s
   pub target : getD s at 0 ≡ one .target
   pub value : Stands (wholeNum (scope (length own) (length far))) s (at + 1) (one .value)
-  pub row : length numbers ≡ 10
   pub next : Writing own far q s a (set (set numbers (2 + 2 * i) (pos (one .target))) (3 + 2 * i) (numIn own far (one .value)))
       (at + 2 + getD s (at + 1) 0) (i + 1)
 
@@ -128,14 +127,6 @@ module _ (own far : List ℤ) (q : ℕ) (s : List ℕ) (a : Action) where
         row = row-start own far q (getD s at 0) ∙ ap (λ n. rowOf own far q n 0 []) (h .count);
       }
 
-  row-size : (count i : ℕ) (done : Action) → length done ≡ i → i ≤ 4 → length (rowOf own far q count i done) ≡ 10
-  unfolding rowOf zeros
-  row-size count i done e h =
-      let w = written-length own far done in
-      let l = length-append (written own far done) (replicate (2 * (4 - i)) (pos 0)) in
-      let z = length-replicate (2 * (4 - i)) (pos 0) in
-      omega arith
-
   pub writing-next : (row : List ℤ) (at i : ℕ) → i < length a → Writing own far q s a row at i → Turn own far q s a row at i
   unfolding Lined
   writing-next row at i h w = go (w .rest) (w .whole) (w .lined)
@@ -151,7 +142,6 @@ module _ (own far : List ℤ) (q : ℕ) (s : List ℕ) (a : Action) where
             inside = l .0;
             target = l .1;
             value = l .2;
-            row = ap length (w .row) ∙ row-size (length a) i (w .done) (w .size) (omega (arith, small));
             next = record {
               done = w .done ++ (x ∷ []);
               rest = rest;
