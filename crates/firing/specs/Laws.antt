@@ -4,3 +4,8 @@ pub mod Enqueue
 pub mod Charges
 pub mod Commits
 pub mod Among
+pub mod Evaluated
+pub mod Changed
+pub mod Pairs
+pub mod Lined
+pub mod Written
