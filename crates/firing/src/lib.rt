@@ -23,7 +23,7 @@ fn number_from(deck: &[u8], at: usize, own: &[i32], far: &[i32]) -> i32
 }
 
 // The place of the update that the action at an offset makes for a part.
-fn evaluate(deck: &[u8], at: usize, part: usize, own: &[i32], far: &[i32]) -> [i32; 10]
+pub fn evaluate(deck: &[u8], at: usize, part: usize, own: &[i32], far: &[i32]) -> [i32; 10]
     requires { ⌜ HasAction (now deck) at (length (now own)) (length (now far)) × (part < 16) ⌝ }
     ensures { λ r. ⌜ ActionIs (now (deck .entry)) at part (now (own .entry)) (now (far .entry)) r ⌝ }
 {

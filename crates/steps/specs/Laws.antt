@@ -1,0 +1,2 @@
+-- Laws of new updates that are offered one by one.
+pub mod Queue

@@ -1,0 +1,3 @@
+-- The firing and the commits in code: what its functions take and leave.
+pub mod Queue
+pub mod Laws
