@@ -1,0 +1,82 @@
+// Reads a deck from a descriptor and prints the line of its check. What is read and written is tested and not proved.
+ghost use Rattle.report.specs.Input.{Within};
+use deck::Deck;
+use engine::CheckAnswer;
+
+// How many bytes were read, or that a read failed.
+pub enum Input {
+    Bytes(usize),
+    Failed,
+}
+
+// One read. 0 bytes: the input has ended.
+fn read_some(fd: i32, buf: &mut [u8]) -> Input
+    ensures { λ r. ⌜ Within r (now (buf .exit)) ⌝ }
+{
+    let got = libc::read(fd, buf);
+    if got < 0 {
+        return Input::Failed;
+    }
+    Input::Bytes(io::count(got, buf))
+}
+
+// Reads until buf is full or the input ends.
+fn read_all(fd: i32, buf: &mut [u8]) -> Input
+    ensures { λ r. ⌜ Within r (now (buf .exit)) ⌝ }
+{
+    let mut done: usize = 0;
+    while done < buf.len() {
+        let got = read_some(fd, &mut buf[done..]);
+        let Input::Bytes(n) = got else {
+            return Input::Failed;
+        };
+        if n == 0 {
+            return Input::Bytes(done);
+        }
+        done = done + n;
+    }
+    Input::Bytes(done)
+}
+
+// Prints a space and a number.
+fn print_number(n: u32) -> bool {
+    io::write_all(libc::STDOUT_FILENO, b" ") && io::print_decimal(libc::STDOUT_FILENO, n as u64)
+}
+
+// Prints the line of an answer.
+fn print(answer: CheckAnswer) -> bool {
+    match answer {
+        CheckAnswer::Passed {
+            channels,
+            rules,
+            parts,
+            charge,
+        } => {
+            io::write_all(libc::STDOUT_FILENO, b"passed")
+                && print_number(channels)
+                && print_number(rules)
+                && print_number(parts)
+                && print_number(charge)
+                && io::write_all(libc::STDOUT_FILENO, b"\n")
+        }
+        CheckAnswer::Refused { number, place } => {
+            io::write_all(libc::STDOUT_FILENO, b"refused")
+                && print_number(number)
+                && print_number(place)
+                && io::write_all(libc::STDOUT_FILENO, b"\n")
+        }
+    }
+}
+
+// Reads a deck and prints the line of its check. One byte more than the longest deck that can pass already shows the fault.
+// Where a read or a write fails, says so on standard error.
+pub fn report(fd: i32) {
+    let mut buf = [0u8; Deck::BYTES + 1];
+    let Input::Bytes(n) = read_all(fd, &mut buf) else {
+        os::fail(b"cannot read the deck");
+        return;
+    };
+    if !print(engine::check(&buf[..n])) {
+        os::fail(b"cannot write the line");
+    }
+}
