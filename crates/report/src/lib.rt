@@ -38,34 +38,11 @@ fn read_all(fd: i32, buf: &mut [u8]) -> Input
     Input::Bytes(done)
 }
 
-// Prints a space and a number.
-fn print_number(n: u32) -> bool {
-    io::write_all(libc::STDOUT_FILENO, b" ") && io::print_decimal(libc::STDOUT_FILENO, n as u64)
-}
-
 // Prints the line of an answer.
 fn print(answer: CheckAnswer) -> bool {
-    match answer {
-        CheckAnswer::Passed {
-            channels,
-            rules,
-            parts,
-            charge,
-        } => {
-            io::write_all(libc::STDOUT_FILENO, b"passed")
-                && print_number(channels)
-                && print_number(rules)
-                && print_number(parts)
-                && print_number(charge)
-                && io::write_all(libc::STDOUT_FILENO, b"\n")
-        }
-        CheckAnswer::Refused { number, place } => {
-            io::write_all(libc::STDOUT_FILENO, b"refused")
-                && print_number(number)
-                && print_number(place)
-                && io::write_all(libc::STDOUT_FILENO, b"\n")
-        }
-    }
+    let mut text = [0u8; 64];
+    let n = line::put_line(answer, &mut text);
+    io::write_all(libc::STDOUT_FILENO, &text[..n])
 }
 
 // Reads a deck and prints the line of its check. One byte more than the longest deck that can pass already shows the fault.
