@@ -1,4 +1,4 @@
-// The line that the program prints for an answer of `check`. Document 01, "Calls"; specs/Line.antt of `engine` has its definition.
+// The line that the program prints for a deck. Document 01, "Calls"; specs/Line.antt of `engine` has its definition.
 ghost use mathlib.Core.Path.{_≡_};
 ghost use mathlib.Core.List.{[], _∷_};
 ghost use Prim.Native.Nat.{_+_, _≤_, _<_};
@@ -6,6 +6,7 @@ ghost use lib.ListN.{length, take};
 ghost use Rattle.io.specs.Counts.{Counts};
 ghost use Rattle.engine.specs.Line.{digits};
 ghost use Rattle.engine.specs.Line.{line as Line·line};
+ghost use Rattle.engine.specs.Calls.{check};
 ghost use Rattle.engine.specs.Answers.{checkOutcome};
 ghost use Rattle.line.specs.Put.{Put};
 use engine::CheckAnswer;
@@ -55,7 +56,7 @@ fn put_number(out: &mut [u8], at: usize, n: u32) -> usize
 }
 
 // Puts the line of an answer at the start of a buffer, and answers its length.
-pub fn put_line(answer: CheckAnswer, out: &mut [u8; 64]) -> usize
+fn put_line(answer: CheckAnswer, out: &mut [u8; 64]) -> usize
     ensures { λ r. ⌜ Counts r (now (out .exit)) ⌝ }
     ensures { λ r. ⌜ take r (now (out .exit)) ≡ Line·line (checkOutcome answer) ⌝ }
 {
@@ -80,4 +81,12 @@ pub fn put_line(answer: CheckAnswer, out: &mut [u8; 64]) -> usize
             put_byte(out, c, b'\n')
         }
     }
+}
+
+// Checks a deck, puts the line of the answer at the start of a buffer, and answers its length.
+pub fn check_line(deck: &[u8], out: &mut [u8; 64]) -> usize
+    ensures { λ r. ⌜ Counts r (now (out .exit)) ⌝ }
+    ensures { λ r. ⌜ take r (now (out .exit)) ≡ Line·line (check (now (deck .entry))) ⌝ }
+{
+    put_line(engine::check(deck), out)
 }

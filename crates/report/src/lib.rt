@@ -1,7 +1,6 @@
 // Reads a deck from a descriptor and prints the line of its check. What is read and written is tested and not proved.
 ghost use Rattle.report.specs.Input.{Within};
 use deck::Deck;
-use engine::CheckAnswer;
 
 // How many bytes were read, or that a read failed.
 pub enum Input {
@@ -38,10 +37,10 @@ fn read_all(fd: i32, buf: &mut [u8]) -> Input
     Input::Bytes(done)
 }
 
-// Prints the line of an answer.
-fn print(answer: CheckAnswer) -> bool {
+// Prints the line of a deck.
+fn print(deck: &[u8]) -> bool {
     let mut text = [0u8; 64];
-    let n = line::put_line(answer, &mut text);
+    let n = line::check_line(deck, &mut text);
     io::write_all(libc::STDOUT_FILENO, &text[..n])
 }
 
@@ -53,7 +52,7 @@ pub fn report(fd: i32) {
         os::fail(b"cannot read the deck");
         return;
     };
-    if !print(engine::check(&buf[..n])) {
+    if !print(&buf[..n]) {
         os::fail(b"cannot write the line");
     }
 }

@@ -6,8 +6,8 @@ use Rattle.report.proofs.report.Tie as tie
 array-share-prefix-buf : tie.Need-array-share-prefix-buf
 array-share-prefix-buf c = (rw (c .before .n .given .1) at (c .before .before .before .before .read-all .ensures)) .0
 
-slice-aggregate-check : tie.Need-slice-aggregate-check
-slice-aggregate-check c = (rw (c .before .before .n .given .1) at (c .before .before .before .before .before .read-all .ensures)) .1
+slice-aggregate-print : tie.Need-slice-aggregate-print
+slice-aggregate-print c = (rw (c .before .before .n .given .1) at (c .before .before .before .before .before .read-all .ensures)) .1
 
 pub report-spec : {M : Type 1} → statement M
 report-spec =
@@ -21,8 +21,7 @@ report-spec =
     (λ c κs. search needs)
     (λ c. search needs)
     array-share-prefix-buf
-    slice-aggregate-check
-    (λ c κs. search needs)
+    slice-aggregate-print
     (λ c κs. search needs)
     (λ c. search needs)
     (λ c κs. search needs)
