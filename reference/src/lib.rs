@@ -14,6 +14,7 @@ pub mod random;
 pub mod refusal;
 pub mod script;
 pub mod state;
+pub mod stored;
 
 pub use engine::{check, commit, input, section, settle, start};
 pub use refusal::Refusal;
