@@ -23,7 +23,7 @@ pub enum Goodness {
 }
 
 // The number at an index, where it is from 0 to below the bound, and the bound for the others.
-fn number_at(place: &[i32], i: usize, bound: usize) -> usize
+pub fn number_at(place: &[i32], i: usize, bound: usize) -> usize
     requires { ⌜ i < length (now place) ⌝ }
     ensures { λ r. ⌜ r ≡ within bound (getD (now (place .entry)) i (pos 0)) ⌝ }
 {

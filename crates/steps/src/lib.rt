@@ -14,7 +14,10 @@ ghost use Rattle.passing.specs.Judged.{shape};
 ghost use Rattle.firing.specs.Firing.{firedHere, firedThere, fired};
 ghost use Rattle.firing.specs.Evaluated.{HasAction};
 ghost use Rattle.steps.specs.Queue.{Offering, Offered, Offers, Sound, FiresAll, Fires};
+ghost use Rattle.pool.specs.Updates.{assign};
+ghost use Rattle.steps.specs.Commits.{Reacting, Reacts, Appliable, Committing, Commits};
 use deck::Deck;
+use pool::State;
 
 // The pending number and the charge of the pending updates; full where a new one would have passed the capacity.
 pub struct Queue {
@@ -268,4 +271,116 @@ pub fn fire(
 {
     let first = fire_all_here(deck, counts, rules, parts, memo, pool, capacity, queue, values, p, changed);
     fire_all_others(deck, counts, rules, parts, memo, pool, capacity, first, values, p, changed)
+}
+
+// The firing that follows when part p's values became `after`, with the pending updates that the pool holds.
+pub fn react(
+    deck: &[u8],
+    counts: Deck,
+    rules: &[u64],
+    parts: &[u64],
+    memo: &mut [u32],
+    pool: &mut [i32],
+    capacity: u32,
+    pending: usize,
+    charge: u32,
+    before: &[i32],
+    after: &[i32],
+    p: usize,
+) -> Queue
+    requires { ⌜ Reacting (now deck) counts (now rules) (now parts) (now memo) (now pool) capacity pending charge × (length (now before) ≡ 512) × (length (now after) ≡ 512) × (p < counts .parts) ⌝ }
+    ensures { λ r. ⌜ Reacts (deckOf (now (deck .entry))) (shape (now (rules .entry)) (now (parts .entry)) counts) capacity pending charge (now (before .entry)) (now (after .entry)) p (now (pool .entry)) (now (memo .exit)) (now (pool .exit)) r ⌝ }
+{
+    let mask = firing::changed(before, after, p, counts.channels);
+    let queue = Queue {
+        pending: pending,
+        charge: charge,
+        full: false,
+    };
+    fire(deck, counts, rules, parts, memo, pool, capacity, queue, after, p, mask)
+}
+
+// A value table with an update applied, and the part of the update.
+pub struct Applied {
+    pub part: usize,
+    pub values: [i32; Deck::VALUES],
+}
+
+// The update that a place holds, applied.
+fn apply(values: [i32; Deck::VALUES], place: &[i32], parts: usize) -> Applied
+    requires { ⌜ Appliable (now place) parts ⌝ }
+    ensures { λ r. ⌜ (r .part ≡ updateOf (now (place .entry)) .part) × (r .values ≡ assign (updateOf (now (place .entry)) .part) (updateOf (now (place .entry)) .pairs) values) ⌝ }
+{
+    let part = states::number_at(place, 0, parts);
+    let count = states::number_at(place, 1, 5);
+    let to = 2 + 2 * count;
+    let mut after = values;
+    firing::assign_pairs(&mut after, part, &place[2..to]);
+    Applied {
+        part: part,
+        values: after,
+    }
+}
+
+// A state after a commit, the charge then pending, and whether the update was applied.
+pub struct Step {
+    pub state: State,
+    pub charge: u32,
+    pub applied: bool,
+}
+
+// The commit of place k.
+pub fn commit(
+    deck: &[u8],
+    counts: Deck,
+    rules: &[u64],
+    parts: &[u64],
+    memo: &mut [u32],
+    pool: &mut [i32],
+    capacity: u32,
+    state: State,
+    charge: u32,
+    k: usize,
+) -> Step
+    requires { ⌜ Committing (now deck) counts (now rules) (now parts) (now memo) (now pool) capacity (state .values) (state .pending) charge × (k < state .pending) ⌝ }
+    ensures { λ r. ⌜ Commits (deckOf (now (deck .entry))) (shape (now (rules .entry)) (now (parts .entry)) counts) capacity k (now (pool .entry)) (state .values) (state .pending) charge (now (memo .exit)) (now (pool .exit)) (r .state .values) (r .state .pending) (r .charge) (r .applied) ⌝ }
+{
+    let n = state.pending as usize;
+    let values = state.values;
+    let at = 10 * k;
+    let end = at + 10;
+    let c = states::place_charge(
+        rules,
+        parts,
+        memo,
+        counts.channels,
+        counts.rules,
+        counts.parts,
+        &pool[at..end],
+    );
+    let done = apply(values, &pool[at..end], counts.parts);
+    pool::take_out(pool, n, k);
+    let part = done.part;
+    let after = done.values;
+    let left = charge - c;
+    if passing::within(deck, counts, parts, &after, part) {
+        let queue = react(deck, counts, rules, parts, memo, pool, capacity, n - 1, left, &values, &after, part);
+        Step {
+            state: State {
+                values: after,
+                pending: queue.pending as u32,
+            },
+            charge: queue.charge,
+            applied: true,
+        }
+    } else {
+        Step {
+            state: State {
+                values: values,
+                pending: (n - 1) as u32,
+            },
+            charge: left,
+            applied: false,
+        }
+    }
 }
