@@ -130,7 +130,7 @@ pairs-few [] = omega arith
 pairs-few (c ∷ []) = omega arith
 pairs-few (c ∷ v ∷ l) = let e = pairs-few l in omega arith
 
-place-short : (l : List ℤ) → length l ≤ 10 → short (updateOf l) ≡ true
+pub place-short : (l : List ℤ) → length l ≤ 10 → short (updateOf l) ≡ true
 unfolding short updateOf
 place-short l h =
     let count = natAbs (getD l 1 (pos 0)) in

@@ -32,7 +32,7 @@ pub update-back : (u : Update) → updateOf (place u) ≡ u
 unfolding pools
 update-back u = ap (λ l. record { part = u .part; pairs = l }) (pairs-back (u .pairs) (zeros (2 * (4 - length (u .pairs)))))
 
-numbers-length : (l : List Pair) → length (flatMap numbers l) ≡ 2 * length l
+pub numbers-length : (l : List Pair) → length (flatMap numbers l) ≡ 2 * length l
 unfolding lists
 numbers-length [] = refl
 numbers-length (a ∷ l) = let e = numbers-length l in omega arith
