@@ -10,14 +10,15 @@ use Rattle.deck.specs.Deck.{Deck, R, N}
 use Rattle.deck.specs.declared.Deck as Counted
 use Rattle.graph.specs.Laws.Cycles.{Acyclic}
 use Rattle.charge.specs.Memo.{Memo, Ready}
-use Rattle.pool.specs.Updates.{Update, charge}
-use Rattle.pool.specs.States.{Machine}
+use Rattle.lists.specs.Lists.{all}
+use Rattle.pool.specs.Updates.{Update, assign, charge}
+use Rattle.pool.specs.States.{Machine, known}
 use Rattle.pool.specs.Moves.{Laid}
 use Rattle.pool.specs.Laws.Good.{Fine}
 use Rattle.states.specs.Answer.{Holds}
 use Rattle.passing.specs.Tabled.{deckOf, Tabled}
 use Rattle.passing.specs.Judged.{shape}
-use Rattle.firing.specs.Firing.{fired, changed, committed}
+use Rattle.firing.specs.Firing.{fired, changed, pick, without, committed}
 use Rattle.steps.specs.Queue.{Grown}
 use Rattle.steps.specs.declared.Queue.{Queue}
 
@@ -43,6 +44,28 @@ pub record Reacts (d e : Deck) (C pending total : ℕ) (before after : List ℤ)
 -- ten numbers that hold a known update of a deck with so many parts
 abbrev pub Appliable : List ℤ → ℕ → Type 0
 Appliable l parts = (d : Deck) × Holds d l × (N d ≡ parts) × (N d ≤ 16) × (R d ≤ 32)
+
+-- a pool that holds exactly so many known updates of so much charge, and one of their places
+pub record Taking (k : Counted.Deck) (rules parts memo : List ℕ) (pool : List ℤ) (pending total j : ℕ) : Type 0 where
+  pub ready : Ready rules parts (k .channels) (k .rules) (k .parts) memo
+  pub few : k .channels ≤ 32
+  pub low : total ≤ 65535
+  pub us : List Update
+  pub laid : Laid pool us
+  pub count : pending ≡ length us
+  pub known : all (known (shape rules parts k)) us ≡ true
+  pub charged : total ≡ charge (shape rules parts k) us
+  pub place : j < pending
+
+-- that update is out; its part, the values with it applied, and the charge of the others
+pub record Takes (e : Deck) (j pending total : ℕ) (vs pool₀ : List ℤ) (m : List ℕ) (pool : List ℤ) (part : ℕ) (after : List ℤ) (left : ℕ) : Type 0 where
+  pub result : (us : List Update) → Laid pool₀ us → pending ≡ length us → all (known e) us ≡ true → total ≡ charge e us
+      → (part ≡ pick j us .part)
+      × (after ≡ assign (pick j us .part) (pick j us .pairs) vs)
+      × Laid pool (without j us)
+      × (left ≡ charge e (without j us))
+  pub memo : Memo e m
+  pub long : length pool ≡ length pool₀
 
 -- the numbers stand for the values and pending updates x, a good state with C places
 pub record Stored (d : Deck) (C : ℕ) (x : Machine) (vs : List ℤ) (pending total : ℕ) (pool : List ℤ) : Type 0 where

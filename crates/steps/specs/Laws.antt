@@ -1,3 +1,5 @@
 -- Laws of new updates that are offered one by one.
 pub mod Queue
 pub mod Applying
+pub mod Taking
+pub mod Reacting

@@ -15,7 +15,7 @@ ghost use Rattle.firing.specs.Firing.{firedHere, firedThere, fired};
 ghost use Rattle.firing.specs.Evaluated.{HasAction};
 ghost use Rattle.steps.specs.Queue.{Offering, Offered, Offers, Sound, FiresAll, Fires};
 ghost use Rattle.pool.specs.Updates.{assign};
-ghost use Rattle.steps.specs.Commits.{Reacting, Reacts, Appliable, Committing, Commits};
+ghost use Rattle.steps.specs.Commits.{Reacting, Reacts, Appliable, Taking, Takes, Committing, Commits};
 use deck::Deck;
 use pool::State;
 
@@ -322,6 +322,49 @@ fn apply(values: [i32; Deck::VALUES], place: &[i32], parts: usize) -> Applied
     }
 }
 
+// What taking out an update leaves: its part, the values with it applied, and the charge of the other pending updates.
+pub struct Taken {
+    pub part: usize,
+    pub values: [i32; Deck::VALUES],
+    pub charge: u32,
+}
+
+// Update k is taken out and later places move down.
+fn take(
+    counts: Deck,
+    rules: &[u64],
+    parts: &[u64],
+    memo: &mut [u32],
+    pool: &mut [i32],
+    values: [i32; Deck::VALUES],
+    pending: usize,
+    charge: u32,
+    k: usize,
+) -> Taken
+    requires { ⌜ Taking counts (now rules) (now parts) (now memo) (now pool) pending charge k ⌝ }
+    ensures { λ r. ⌜ Takes (shape (now (rules .entry)) (now (parts .entry)) counts) k pending charge values (now (pool .entry)) (now (memo .exit)) (now (pool .exit)) (r .part) (r .values) (r .charge) ⌝ }
+{
+    let at = 10 * k;
+    let end = at + 10;
+    let c = states::place_charge(
+        rules,
+        parts,
+        memo,
+        counts.channels,
+        counts.rules,
+        counts.parts,
+        &pool[at..end],
+    );
+    let done = apply(values, &pool[at..end], counts.parts);
+    pool::take_out(pool, pending, k);
+    let after = done.values;
+    Taken {
+        part: done.part,
+        values: after,
+        charge: charge - c,
+    }
+}
+
 // A state after a commit, the charge then pending, and whether the update was applied.
 pub struct Step {
     pub state: State,
@@ -346,25 +389,12 @@ pub fn commit(
     ensures { λ r. ⌜ Commits (deckOf (now (deck .entry))) (shape (now (rules .entry)) (now (parts .entry)) counts) capacity k (now (pool .entry)) (state .values) (state .pending) charge (now (memo .exit)) (now (pool .exit)) (r .state .values) (r .state .pending) (r .charge) (r .applied) ⌝ }
 {
     let n = state.pending as usize;
-    let values = state.values;
-    let at = 10 * k;
-    let end = at + 10;
-    let c = states::place_charge(
-        rules,
-        parts,
-        memo,
-        counts.channels,
-        counts.rules,
-        counts.parts,
-        &pool[at..end],
-    );
-    let done = apply(values, &pool[at..end], counts.parts);
-    pool::take_out(pool, n, k);
-    let part = done.part;
-    let after = done.values;
-    let left = charge - c;
+    let before = state.values;
+    let taken = take(counts, rules, parts, memo, pool, before, n, charge, k);
+    let part = taken.part;
+    let after = taken.values;
     if passing::within(deck, counts, parts, &after, part) {
-        let queue = react(deck, counts, rules, parts, memo, pool, capacity, n - 1, left, &values, &after, part);
+        let queue = react(deck, counts, rules, parts, memo, pool, capacity, n - 1, taken.charge, &before, &after, part);
         Step {
             state: State {
                 values: after,
@@ -376,10 +406,10 @@ pub fn commit(
     } else {
         Step {
             state: State {
-                values: values,
+                values: before,
                 pending: (n - 1) as u32,
             },
-            charge: left,
+            charge: taken.charge,
             applied: false,
         }
     }
