@@ -3,3 +3,4 @@ pub mod Queue
 pub mod Applying
 pub mod Taking
 pub mod Reacting
+pub mod Committing
