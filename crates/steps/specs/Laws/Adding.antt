@@ -121,6 +121,12 @@ module _ {d : Deck} {C : ℕ} {us new : List Update} {pool : List ℤ} {q : Queu
                 over = λ f. contradiction f refl;
               }
 
+-- every pending one has a charge of at least 1
+pub few-pending : {d : Deck} {C : ℕ} {us new : List Update} {pool : List ℤ} {q : Queue} (g : Grown d C us new pool q) → q .full ≡ false → q .pending ≤ C
+few-pending {d} {us} g f =
+    let r = g .room f in
+    omega (arith, g .pending, count-bounded d (us ++ g .extra), r .1, r .2)
+
 -- ---- the numbers of a place
 
 held-short : {d : Deck} (row : List ℤ) → Holds d row → short (updateOf row) ≡ true
