@@ -1,5 +1,4 @@
 -- `steps::add` meets its contract: each way out leaves what the offered update makes of the pool. Assumes nothing.
-use Prim.Native.Nat.{_+_, _*_, _≤_, _<_}
 use mathlib.Core.Path.{sym, _∙_}
 use native.Mathlib.Omega.{arith}
 use borrow.Author.Needs.{needs}
@@ -40,8 +39,9 @@ returns-3 c =
     let k = c .before .before .before .before in
     let n = k .before .before .before in
     let f = n .before .before in
+    let new = sym (n .is-pending .ensures) ∙ k .before .before .if2 .left in
     let s = f .before .before .before .before in
-    added-over (s .pre .1) (s .pre .0 .bounded) (f .if1 .left) (sym (n .is-pending .ensures) ∙ k .before .before .if2 .left) (k .place-charge .ensures)
+    added-over (s .pre .1) (s .pre .0 .bounded) (f .if1 .left) new (k .place-charge .ensures)
     (omega arith)
 
 push-requires : tie.Need-push-requires
@@ -49,10 +49,11 @@ push-requires c κs =
     let k = c .before .before .before .before .before in
     let n = k .before .before .before in
     let f = n .before .before in
+    let new = sym (n .is-pending .ensures) ∙ k .before .before .if2 .left in
     let s = f .before .before .before .before in
     let o = s .pre .0 in (
       s .pre .1 .long,
-      added-room (s .pre .1) (o .bounded) (f .if1 .left) (sym (n .is-pending .ensures) ∙ k .before .before .if2 .left) (k .place-charge .ensures)
+      added-room (s .pre .1) (o .bounded) (f .if1 .left) new (k .place-charge .ensures)
           (omega arith) (o .places) (o .grown),
     )
 
@@ -68,10 +69,11 @@ returns-4 c =
     let k = p .before .before .before .before .before .before in
     let n = k .before .before .before in
     let f = n .before .before in
+    let new = sym (n .is-pending .ensures) ∙ k .before .before .if2 .left in
     let s = f .before .before .before .before in
     let o = s .pre .0 in
     rw (p .push .ensures)
-    (added-more (s .pre .1) (o .bounded) (f .if1 .left) (sym (n .is-pending .ensures) ∙ k .before .before .if2 .left) (k .place-charge .ensures)
+    (added-more (s .pre .1) (o .bounded) (f .if1 .left) new (k .place-charge .ensures)
     (omega arith) (o .places) (o .grown))
 
 pub add-spec : {M : Type 1} → statement M

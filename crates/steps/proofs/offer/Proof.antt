@@ -1,8 +1,6 @@
 -- `steps::offer` meets its contract: an empty action makes no update, another one's update is a known one. Assumes nothing.
-use Prim.Native.Nat.{_+_, _≤_, _<_}
-use mathlib.Core.Path.{_≡_}
 use native.Mathlib.Omega.{arith}
-use lib.ListN.{length, getD}
+use lib.ListN.{length}
 use borrow.Author.Needs.{needs}
 use Rattle.expression.specs.Answers.{scope}
 use Rattle.deck.specs.Laws.Shape.{shape-R, shape-N}

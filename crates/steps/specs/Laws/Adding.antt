@@ -42,7 +42,7 @@ charge-one d w = omega arith
 
 -- ---- the counts, and the updates in the pool
 
-abbrev counted : ℕ → ℕ → Bool → Queue
+abbrev pub counted : ℕ → ℕ → Bool → Queue
 counted n c b = record { pending = n; charge = c; full = b }
 
 module _ {d : Deck} {C : ℕ} {us new : List Update} {pool : List ℤ} {q : Queue} (g : Grown d C us new pool q) (w : Update) where
@@ -87,7 +87,7 @@ module _ {d : Deck} {C : ℕ} {us new : List Update} {pool : List ℤ} {q : Queu
       -- its charge passes C
       grown-over : C < q .charge + c → Grown d C us (new ++ w ∷ []) pool (counted (q .pending) (q .charge) true)
       grown-over l =
-          let total : charge d (enqueue us (new ++ w ∷ [])) ≡ q .charge + updateCharge d (w .part) (channels w) = ap (charge d) one-more ∙ more-charge in
+          let total = ap (charge d) one-more ∙ more-charge in
           record {
             extra = g .extra;
             laid = g .laid;
@@ -103,26 +103,31 @@ module _ {d : Deck} {C : ℕ} {us new : List Update} {pool : List ℤ} {q : Queu
 
         push-room : 10 * C ≤ length pool → 10 * length (us ++ g .extra) + 10 ≤ length pool
         push-room r =
-            omega (arith, r, l, exact, more-charge, count-bounded d ((us ++ g .extra) ++ w ∷ []), length-append (us ++ g .extra) (w ∷ []))
+            let few = count-bounded d ((us ++ g .extra) ++ w ∷ []) in
+            omega (arith, r, l, exact, more-charge, few, length-append (us ++ g .extra) (w ∷ []))
 
         module _ (s : short w ≡ true) (r : 10 * C ≤ length pool) where
-          long-still : length (written pool (10 * length (us ++ g .extra)) (place w)) ≡ length pool
+          abbrev after : List ℤ
+          after = written pool (10 * length (us ++ g .extra)) (place w)
+
+          long-still : length after ≡ length pool
           long-still = pushed-length (g .laid) w s (push-room r)
 
-          grown-more : Grown d C us (new ++ w ∷ []) (written pool (10 * length (us ++ g .extra)) (place w)) (counted (q .pending + 1) (q .charge + c) false)
+          grown-more : Grown d C us (new ++ w ∷ []) after (counted (q .pending + 1) (q .charge + c) false)
           grown-more =
               let there = append-assoc us (g .extra) (w ∷ []) in
-              let total : charge d (us ++ (g .extra ++ w ∷ [])) ≡ q .charge + c = ap (charge d) (sym there) ∙ more-charge ∙ ap (λ x. q .charge + x) (sym exact) in
+              let total = ap (charge d) (sym there) ∙ more-charge ∙ ap (λ x. q .charge + x) (sym exact) in
               record {
                 extra = g .extra ++ w ∷ [];
-                laid = subst (Laid (written pool (10 * length (us ++ g .extra)) (place w))) there (laid-pushed (g .laid) w s (push-room r));
+                laid = subst (Laid after) there (laid-pushed (g .laid) w s (push-room r));
                 pending = omega (arith, g .pending, length-append (us ++ g .extra) (w ∷ []), ap length there);
                 room = λ _. (sym there ∙ sym one-more, sym total, l);
                 over = λ f. contradiction f refl;
               }
 
 -- every pending one has a charge of at least 1
-pub few-pending : {d : Deck} {C : ℕ} {us new : List Update} {pool : List ℤ} {q : Queue} (g : Grown d C us new pool q) → q .full ≡ false → q .pending ≤ C
+pub few-pending : {d : Deck} {C : ℕ} {us new : List Update} {pool : List ℤ} {q : Queue} (g : Grown d C us new pool q)
+    → q .full ≡ false → q .pending ≤ C
 few-pending {d} {us} g f =
     let r = g .room f in
     omega (arith, g .pending, count-bounded d (us ++ g .extra), r .1, r .2)
@@ -140,7 +145,8 @@ abbrev pub amongPlaces : ℕ → List ℤ → List ℤ → Bool
 amongPlaces n pool row = any (λ w. eqList eqZ w row) (places n pool)
 
 module _ {d : Deck} {C : ℕ} {pool : List ℤ} {q : Queue} {row : List ℤ} (h : Holds d row) where
-  among : {us new : List Update} (g : Grown d C us new pool q) → amongPlaces (q .pending) pool row ≡ isAmong (updateOf row) (us ++ g .extra)
+  among : {us new : List Update} (g : Grown d C us new pool q)
+      → amongPlaces (q .pending) pool row ≡ isAmong (updateOf row) (us ++ g .extra)
   among {us} g =
       ap (λ n. amongPlaces n pool row) (g .pending)
       ∙ ap (amongPlaces (length (us ++ g .extra)) pool) (sym (written-same row (h .written)))
@@ -154,9 +160,10 @@ module _ {d : Deck} {C : ℕ} {pool : List ℤ} {q : Queue} {row : List ℤ} (h 
   pub added-same : {m : List ℕ} → Memo d m → amongPlaces (q .pending) pool row ≡ true → Offered d C (updateOf row ∷ []) pool q m pool q
   added-same r f = record { grows = λ us new g. grown-same g (updateOf row) (sym (among g) ∙ f); memo = r; long = refl }
 
-  module _ (few : C ≤ 65535) (f : q .full ≡ false) (a : amongPlaces (q .pending) pool row ≡ false) {m : List ℕ} {c : ℕ} (p : PlaceGives d row m c) where
+  module _ (few : C ≤ 65535) (f : q .full ≡ false) (a : amongPlaces (q .pending) pool row ≡ false)
+      {m : List ℕ} {c : ℕ} (p : PlaceGives d row m c) where
     -- its charge is too much
-    pub added-over : C < q .charge + c → Offered d C (updateOf row ∷ []) pool q m pool (record { pending = q .pending; charge = q .charge; full = true })
+    pub added-over : C < q .charge + c → Offered d C (updateOf row ∷ []) pool q m pool (counted (q .pending) (q .charge) true)
     added-over l =
         record { grows = λ us new g. grown-over g (updateOf row) f (sym (among g) ∙ a) few (p .value) l; memo = p .memo; long = refl }
 
@@ -171,7 +178,8 @@ module _ {d : Deck} {C : ℕ} {pool : List ℤ} {q : Queue} {row : List ℤ} (h 
           ap (λ n. written pool (10 * n) (place (updateOf row))) (sym (g .pending))
           ∙ ap (written pool (10 * q .pending)) (written-same row (h .written))
 
-      pub added-more : Offered d C (updateOf row ∷ []) pool q m (written pool (10 * q .pending) row) (record { pending = q .pending + 1; charge = q .charge + c; full = false })
+      pub added-more : Offered d C (updateOf row ∷ []) pool q m (written pool (10 * q .pending) row)
+          (counted (q .pending + 1) (q .charge + c) false)
       added-more =
           let w = updateOf row in
           record {
@@ -179,5 +187,6 @@ module _ {d : Deck} {C : ℕ} {pool : List ℤ} {q : Queue} {row : List ℤ} (h 
                 subst (λ x. Grown d C us (new ++ w ∷ []) x (counted (q .pending + 1) (q .charge + c) false)) (same-numbers g)
                 (grown-more g w f (sym (among g) ∙ a) few (p .value) l (held-short row h) r);
             memo = p .memo;
-            long = ap length (sym (same-numbers g₀)) ∙ long-still g₀ w f (sym (among g₀) ∙ a) few (p .value) l (held-short row h) r;
+            long = ap length (sym (same-numbers g₀))
+                ∙ long-still g₀ w f (sym (among g₀) ∙ a) few (p .value) l (held-short row h) r;
           }

@@ -1,7 +1,7 @@
 -- An action offered: its update is a known one, and an empty action makes none. Assumes nothing.
 use Prim.Native.Nat.{ℕ, _<_}
-use mathlib.Core.Path.{_≡_, refl, sym, ap, ap₂, _∙_, subst}
-use mathlib.Core.Bool.{Bool, true, not, _&&_}
+use mathlib.Core.Path.{_≡_, refl, sym, ap, _∙_, subst}
+use mathlib.Core.Bool.{true, not}
 use mathlib.Core.List.{List, [], _∷_}
 use native.Mathlib.Omega.{arith}
 use lib.Dec.{ltb}
@@ -27,7 +27,7 @@ use Rattle.steps.specs.Queue.{Offered, Offers, Sound, sentBy}
 use Rattle.steps.specs.Laws.Queue.{offered-none}
 use Rattle.steps.specs.declared.Queue.{Queue}
 
--- "far channels and targets the receiver's": the channels of an action's update are its targets
+-- the channels of an action's update are its targets
 targeted : (own far : List ℤ) (q : ℕ) (a : Action) → channels (updateBy own far q a) ≡ targets a
 unfolding channels updateBy targets
 targeted own far q [] = refl
@@ -68,8 +68,9 @@ module _ (s : List ℕ) (at : ℕ) (own far : List ℤ) (part : ℕ) where
   count a x = action-count (scope (length own) (length far)) s at a x .0
 
   -- the numbers that the code writes are the place of a known update
-  pub offer-holds : (d : Deck) (channels parts : ℕ) → R d ≡ channels → N d ≡ parts → Sound s at (length own) (length far) channels → part < parts
-      → (getD s at 0 ≡ 0 → ⊥) → (row : List ℤ) → ActionIs s at part own far row → Holds d row
+  pub offer-holds : (d : Deck) (channels parts : ℕ) → R d ≡ channels → N d ≡ parts
+      → Sound s at (length own) (length far) channels → part < parts → (getD s at 0 ≡ 0 → ⊥)
+      → (row : List ℤ) → ActionIs s at part own far row → Holds d row
   offer-holds d channels parts eR eN sound l some row is =
       let a = sound .0 in
       let there = action-stands (scope (length own) (length far)) s at a (sound .1) in
