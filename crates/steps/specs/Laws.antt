@@ -1,5 +1,8 @@
--- Laws of new updates that are offered one by one.
+-- Laws of new updates that are offered one by one, and of a commit.
 pub mod Queue
+pub mod Adding
+pub mod Offers
+pub mod Sent
 pub mod Applying
 pub mod Taking
 pub mod Reacting
