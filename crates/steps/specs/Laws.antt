@@ -1,2 +1,3 @@
 -- Laws of new updates that are offered one by one.
 pub mod Queue
+pub mod Sent
