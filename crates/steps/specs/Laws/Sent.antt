@@ -1,12 +1,12 @@
 -- What a rule sends, evaluated on the stretches of channels that are lent, and what stands at the offsets in its row. Assumes
 -- nothing.
-use Prim.Native.Nat.{ℕ, _+_, _*_, _≤_, _<_}
+use Prim.Native.Nat.{ℕ, _+_, _*_, _-_, _≤_, _<_}
 use mathlib.Core.Path.{_≡_, refl, sym, ap, ap₂, _∙_, subst}
 use mathlib.Core.Bool.{Bool, true, false, not, _&&_, cond}
 use mathlib.Core.List.{List, [], _∷_, _++_, map, append-nil}
 use native.Mathlib.Omega.{arith}
 use lib.Dec.{ltb}
-use lib.ListN.{length, getD}
+use lib.ListN.{length, getD, take, drop}
 use lib.IntN.{ℤ}
 use Rattle.lists.specs.Lists.{lists, all}
 use Rattle.lists.specs.Laws.Booleans.{and-left, and-right}
@@ -40,26 +40,36 @@ pub record Lent (sc : Scope) (values : List ℤ) (p q : ℕ) (own far : List ℤ
   pub own-value : (c : ℕ) → c < sc .owns → valueIn own c ≡ valueAt values p c
   pub far-value : (c : ℕ) → c < sc .fars → valueIn far c ≡ valueAt values q c
 
+-- the n channels of part p, as code lends them: from 32 p to 32 p + n
+abbrev pub sliceOf : ℕ → ℕ → List ℤ → List ℤ
+sliceOf n p values = take (32 * p + n - 32 * p) (drop (32 * p) values)
+
+slice-is : (n p : ℕ) (values : List ℤ) → sliceOf n p values ≡ stretchOf n p values
+slice-is n p values = let e : 32 * p + n - 32 * p ≡ n = omega arith in ap (λ m. take m (drop (32 * p) values)) e
+
 module _ (n p q : ℕ) (values : List ℤ) (fits : 32 * p + n ≤ length values) where
-  pub lent-own : Lent (ownOnly n) values p q (stretchOf n p values) []
+  pub lent-own : Lent (ownOnly n) values p q (sliceOf n p values) []
   unfolding ownOnly
   lent-own =
-      record {
+      subst (λ l. Lent (ownOnly n) values p q l []) (sym (slice-is n p values))
+      (record {
         owns = stretch-length n p values fits;
         fars = refl;
         own-value = stretch-value n p values fits;
         far-value = λ c h. absurd (omega arith);
-      }
+      })
 
-  pub lent-both : 32 * q + n ≤ length values → Lent (ownAndFar n) values p q (stretchOf n p values) (stretchOf n q values)
+  pub lent-both : 32 * q + n ≤ length values → Lent (ownAndFar n) values p q (sliceOf n p values) (sliceOf n q values)
   unfolding ownAndFar
   lent-both far =
-      record {
+      subst (λ l. Lent (ownAndFar n) values p q l (sliceOf n q values)) (sym (slice-is n p values))
+      (subst (λ l. Lent (ownAndFar n) values p q (stretchOf n p values) l) (sym (slice-is n q values))
+      (record {
         owns = stretch-length n p values fits;
         fars = stretch-length n q values far;
         own-value = stretch-value n p values fits;
         far-value = stretch-value n q values far;
-      }
+      }))
 
 abbrev pairOf : ℕ → ℤ → Pair
 pairOf c v = record { channel = c; value = v }
@@ -172,7 +182,7 @@ module _ {s : List ℕ} {k : Counted.Deck} {rules parts : List ℕ} (t : Tabled 
 
   module _ (p r : ℕ) (hp : p < k .parts) (hr : r < k .rules) where
     abbrev own : List ℤ
-    own = stretchOf (k .channels) p values
+    own = sliceOf (k .channels) p values
 
     abbrev rule : Rule
     rule = ruleAt d r
@@ -182,7 +192,7 @@ module _ {s : List ℕ} {k : Counted.Deck} {rules parts : List ℕ} (t : Tabled 
 
     here : Lent (ownOnly (R d)) values p p own []
     here =
-        subst (λ n. Lent (ownOnly (R d)) values p p (stretchOf n p values) []) (sym (t .counts .channels))
+        subst (λ n. Lent (ownOnly (R d)) values p p (sliceOf n p values) []) (sym (t .counts .channels))
         (lent-own (R d) p p values (part-fits p hp))
 
     sound : {a : Action} → Formed.Sound (R d) a → Formed.Sound (k .channels) a
@@ -208,11 +218,11 @@ module _ {s : List ℕ} {k : Counted.Deck} {rules parts : List ℕ} (t : Tabled 
     task-here e = rw e here
 
     pub task-there : (q : ℕ) → q < k .parts → rule .everywhere ≡ true
-        → Lent (taskScope (R d) (rule .everywhere)) values p q own (stretchOf (k .channels) q values)
+        → Lent (taskScope (R d) (rule .everywhere)) values p q own (sliceOf (k .channels) q values)
     unfolding taskScope
     task-there q hq e =
         rw e
-        (subst (λ n. Lent (ownAndFar (R d)) values p q (stretchOf n p values) (stretchOf n q values)) (sym (t .counts .channels))
+        (subst (λ n. Lent (ownAndFar (R d)) values p q (sliceOf n p values) (sliceOf n q values)) (sym (t .counts .channels))
         (lent-both (R d) p q values (part-fits p hp) (part-fits q hq)))
 
     module _ {q : ℕ} {far : List ℤ} (l : Lent (taskScope (R d) (rule .everywhere)) values p q own far) where
