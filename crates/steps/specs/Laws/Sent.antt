@@ -5,10 +5,9 @@ use mathlib.Core.Path.{_≡_, refl, sym, ap, ap₂, _∙_, subst}
 use mathlib.Core.Bool.{Bool, true, false, not, _&&_, cond}
 use mathlib.Core.List.{List, [], _∷_, _++_, map, append-nil}
 use native.Mathlib.Omega.{arith}
-use lib.Dec.{ltb}
 use lib.ListN.{length, getD, take, drop}
 use lib.IntN.{ℤ}
-use Rattle.lists.specs.Lists.{lists, all}
+use Rattle.lists.specs.Lists.{lists}
 use Rattle.lists.specs.Laws.Booleans.{and-left, and-right}
 use Rattle.expression.specs.Syntax.{Truth}
 use Rattle.expression.specs.Values.{truthValue}
@@ -16,7 +15,7 @@ use Rattle.expression.specs.Reading.{Scope, wholeTruth}
 use Rattle.expression.specs.Answers.{scope, valueIn, numIn}
 use Rattle.expression.specs.Encoding.{goodNum, goodTruth}
 use Rattle.expression.specs.Laws.Agreement.{num-agree, truth-agree}
-use Rattle.deck.specs.Deck.{Deck, Action, Assignment, Rule, R, M, N, ruleAt}
+use Rattle.deck.specs.Deck.{Deck, Action, Assignment, Rule, R, M, ruleAt}
 use Rattle.deck.specs.Layout.{expression, action, ownOnly, ownAndFar, taskScope}
 use Rattle.deck.specs.Encoding.{kindByte}
 use Rattle.deck.specs.declared.Deck as Counted
@@ -48,7 +47,7 @@ slice-is : (n p : ℕ) (values : List ℤ) → sliceOf n p values ≡ stretchOf 
 slice-is n p values = let e : 32 * p + n - 32 * p ≡ n = omega arith in ap (λ m. take m (drop (32 * p) values)) e
 
 module _ (n p q : ℕ) (values : List ℤ) (fits : 32 * p + n ≤ length values) where
-  pub lent-own : Lent (ownOnly n) values p q (sliceOf n p values) []
+  lent-own : Lent (ownOnly n) values p q (sliceOf n p values) []
   unfolding ownOnly
   lent-own =
       subst (λ l. Lent (ownOnly n) values p q l []) (sym (slice-is n p values))
@@ -59,7 +58,7 @@ module _ (n p q : ℕ) (values : List ℤ) (fits : 32 * p + n ≤ length values)
         far-value = λ c h. absurd (omega arith);
       })
 
-  pub lent-both : 32 * q + n ≤ length values → Lent (ownAndFar n) values p q (sliceOf n p values) (sliceOf n q values)
+  lent-both : 32 * q + n ≤ length values → Lent (ownAndFar n) values p q (sliceOf n p values) (sliceOf n q values)
   unfolding ownAndFar
   lent-both far =
       subst (λ l. Lent (ownAndFar n) values p q l (sliceOf n q values)) (sym (slice-is n p values))
@@ -103,10 +102,10 @@ module _ {sc : Scope} {values : List ℤ} {p q : ℕ} {own far : List ℤ} (l : 
     there : ReadsAt s (action (scope (length own) (length far))) at a
     there = subst (λ c. ReadsAt s (action c) at a) (sym scope-is) r
 
-    pub action-sound : {n : ℕ} → Formed.Sound n a → Sound s at (length own) (length far) n
+    action-sound : {n : ℕ} → Formed.Sound n a → Sound s at (length own) (length far) n
     action-sound f = (a, there, f .known, f .different)
 
-    pub action-offered : {d : Deck} {C : ℕ} {pool₀ pool : List ℤ} {q₀ q′ : Queue} {m : List ℕ} → allIn sc a ≡ true
+    action-offered : {d : Deck} {C : ℕ} {pool₀ pool : List ℤ} {q₀ q′ : Queue} {m : List ℕ} → allIn sc a ≡ true
         → Offers s at own far q d C pool₀ q₀ m pool q′ → Offered d C (sent values p q a) pool₀ q₀ m pool q′
     action-offered {d} {C} {pool₀} {pool} {q₀} {q′} {m} h o =
         subst (λ us. Offered d C us pool₀ q₀ m pool q′) (sent-agree a h) (o a there)
@@ -118,10 +117,10 @@ module _ {sc : Scope} {values : List ℤ} {p q : ℕ} {own far : List ℤ} (l : 
         stands (wholeTruth (scope (length own) (length far))) s at t
         (subst (λ c. ReadsAt s (expression (wholeTruth c)) at t) (sym scope-is) r)
 
-    pub truth-known : HasTruth s at (length own) (length far)
+    truth-known : HasTruth s at (length own) (length far)
     truth-known = (t, truth-stands)
 
-    pub truth-value : {b : Bool} → goodTruth sc t ≡ true → TruthIs s at own far b
+    truth-value : {b : Bool} → goodTruth sc t ≡ true → TruthIs s at own far b
         → b ≡ truthValue (valueAt values p) (valueAt values q) t
     truth-value h is =
         is t truth-stands
@@ -129,11 +128,11 @@ module _ {sc : Scope} {values : List ℤ} {p q : ℕ} {own far : List ℤ} (l : 
 
 -- ---- kinds
 
-pub kind-wide : (e : Bool) → kindByte e ≡ 1 → e ≡ true
+kind-wide : (e : Bool) → kindByte e ≡ 1 → e ≡ true
 kind-wide true h = refl
 kind-wide false h = absurd (omega (arith, h))
 
-pub kind-here : (e : Bool) → (kindByte e ≡ 1 → ⊥) → e ≡ false
+kind-here : (e : Bool) → (kindByte e ≡ 1 → ⊥) → e ≡ false
 kind-here true h = absurd (h refl)
 kind-here false h = refl
 
@@ -148,7 +147,9 @@ module _ (values : List ℤ) (p : ℕ) (r : Rule) where
   unfolding firedHere
   here-false h = go (r .everywhere)
     where
-      go : (e : Bool) → sent values p p (r .default) ++ cond (not e && holds values p p r) (sent values p p (r .action)) [] ≡ sent values p p (r .default)
+      go : (e : Bool)
+          → sent values p p (r .default) ++ cond (not e && holds values p p r) (sent values p p (r .action)) []
+          ≡ sent values p p (r .default)
       go true = append-nil _
       go false = rw h (append-nil _)
 
@@ -172,71 +173,86 @@ module _ (values : List ℤ) (p : ℕ) (r : Rule) where
 
 -- ---- the row of a rule
 
-module _ {s : List ℕ} {k : Counted.Deck} {rules parts : List ℕ} (t : Tabled s k rules parts) (values : List ℤ) (long : length values ≡ 512)
-    where
+-- a table of values, and a known rule at a known part
+pub record Firing (s : List ℕ) (k : Counted.Deck) (rules parts : List ℕ) (values : List ℤ) (p r : ℕ) : Type 0 where
+  pub tabled : Tabled s k rules parts
+  pub long : length values ≡ 512
+  pub part : p < k .parts
+  pub rule : r < k .rules
+
+module _ {s : List ℕ} {k : Counted.Deck} {rules parts : List ℕ} {values : List ℤ} {p r : ℕ} (x : Firing s k rules parts values p r) where
   abbrev d : Deck
   d = deckOf s
 
-  pub part-fits : (p : ℕ) → p < k .parts → 32 * p + R d ≤ length values
-  part-fits p h = omega (arith, t .counts .parts, t .counts .formed .channels, t .counts .formed .parts)
+  abbrev rule : Rule
+  rule = ruleAt d r
 
-  module _ (p r : ℕ) (hp : p < k .parts) (hr : r < k .rules) where
-    abbrev own : List ℤ
-    own = sliceOf (k .channels) p values
+  abbrev own : List ℤ
+  own = sliceOf (k .channels) p values
 
-    abbrev rule : Rule
-    rule = ruleAt d r
+  fits : (q : ℕ) → q < k .parts → 32 * q + R d ≤ length values
+  fits q h =
+      let t = x .tabled .counts in
+      omega (arith, x .long, t .parts, t .formed .channels, t .formed .parts)
 
-    known : r < M d
-    known = omega (arith, t .counts .rules)
+  known : r < M d
+  known = omega (arith, x .rule, x .tabled .counts .rules)
 
-    here : Lent (ownOnly (R d)) values p p own []
-    here =
-        subst (λ n. Lent (ownOnly (R d)) values p p (sliceOf n p values) []) (sym (t .counts .channels))
-        (lent-own (R d) p p values (part-fits p hp))
+  sound : (a : Action) → Formed.Sound (R d) a → Formed.Sound (k .channels) a
+  sound a f = subst (λ n. Formed.Sound n a) (sym (x .tabled .counts .channels)) f
 
-    sound : {a : Action} → Formed.Sound (R d) a → Formed.Sound (k .channels) a
-    sound {a} f = subst (λ n. Formed.Sound n a) (sym (t .counts .channels)) f
+  -- what the default action is lent
+  here : Lent (ownOnly (R d)) values p p own []
+  here =
+      subst (λ n. Lent (ownOnly (R d)) values p p (sliceOf n p values) []) (sym (x .tabled .counts .channels))
+      (lent-own (R d) p p values (fits p (x .part)))
 
-    pub default-sound : Sound s (getD rules (8 * r + 4) 0) (length own) 0 (k .channels)
-    default-sound = action-sound here _ (getD rules (8 * r + 4) 0) _ (t .ruleTable .default r known) (sound (t .counts .formed .default r))
+  pub default-sound : Sound s (getD rules (8 * r + 4) 0) (length own) 0 (k .channels)
+  default-sound =
+      action-sound here s (getD rules (8 * r + 4) 0) _ (x .tabled .ruleTable .default r known)
+      (sound (rule .default) (x .tabled .counts .formed .default r))
 
-    pub default-offered : {e : Deck} {C : ℕ} {pool₀ pool : List ℤ} {q₀ q : Queue} {m : List ℕ}
-        → Offers s (getD rules (8 * r + 4) 0) own [] p e C pool₀ q₀ m pool q
-        → Offered e C (sent values p p (rule .default)) pool₀ q₀ m pool q
-    default-offered o = action-offered here _ (getD rules (8 * r + 4) 0) _ (t .ruleTable .default r known) (t .counts .scoped .default r) o
+  pub default-offered : {e : Deck} {C : ℕ} {pool₀ pool : List ℤ} {q₀ q : Queue} {m : List ℕ}
+      → Offers s (getD rules (8 * r + 4) 0) own [] p e C pool₀ q₀ m pool q
+      → Offered e C (sent values p p (rule .default)) pool₀ q₀ m pool q
+  default-offered o =
+      action-offered here s (getD rules (8 * r + 4) 0) _ (x .tabled .ruleTable .default r known) (x .tabled .counts .scoped .default r) o
 
-    pub is-wide : getD rules (8 * r + 3) 0 ≡ 1 → rule .everywhere ≡ true
-    is-wide h = kind-wide (rule .everywhere) (sym (t .sets .kind r) ∙ h)
+  pub is-wide : getD rules (8 * r + 3) 0 ≡ 1 → rule .everywhere ≡ true
+  is-wide h = kind-wide (rule .everywhere) (sym (x .tabled .sets .kind r) ∙ h)
 
-    pub is-here : (getD rules (8 * r + 3) 0 ≡ 1 → ⊥) → rule .everywhere ≡ false
-    is-here h = kind-here (rule .everywhere) (λ e. h (t .sets .kind r ∙ e))
+  pub is-here : (getD rules (8 * r + 3) 0 ≡ 1 → ⊥) → rule .everywhere ≡ false
+  is-here h = kind-here (rule .everywhere) (λ e. h (x .tabled .sets .kind r ∙ e))
 
-    -- what condition and action are lent, by the kind
-    pub task-here : rule .everywhere ≡ false → Lent (taskScope (R d) (rule .everywhere)) values p p own []
-    unfolding taskScope
-    task-here e = rw e here
+  -- what condition and action are lent, by the kind
+  pub task-here : rule .everywhere ≡ false → Lent (taskScope (R d) (rule .everywhere)) values p p own []
+  unfolding taskScope
+  task-here e = rw e here
 
-    pub task-there : (q : ℕ) → q < k .parts → rule .everywhere ≡ true
-        → Lent (taskScope (R d) (rule .everywhere)) values p q own (sliceOf (k .channels) q values)
-    unfolding taskScope
-    task-there q hq e =
-        rw e
-        (subst (λ n. Lent (ownAndFar (R d)) values p q (sliceOf n p values) (sliceOf n q values)) (sym (t .counts .channels))
-        (lent-both (R d) p q values (part-fits p hp) (part-fits q hq)))
+  pub task-there : (q : ℕ) → q < k .parts → rule .everywhere ≡ true
+      → Lent (taskScope (R d) (rule .everywhere)) values p q own (sliceOf (k .channels) q values)
+  unfolding taskScope
+  task-there q h e =
+      rw e
+      (subst (λ n. Lent (ownAndFar (R d)) values p q (sliceOf n p values) (sliceOf n q values)) (sym (x .tabled .counts .channels))
+      (lent-both (R d) p q values (fits p (x .part)) (fits q h)))
 
-    module _ {q : ℕ} {far : List ℤ} (l : Lent (taskScope (R d) (rule .everywhere)) values p q own far) where
-      pub condition-known : HasTruth s (getD rules (8 * r + 5) 0) (length own) (length far)
-      condition-known = truth-known l _ (getD rules (8 * r + 5) 0) _ (t .ruleTable .condition r known)
+  module _ {q : ℕ} {far : List ℤ} (l : Lent (taskScope (R d) (rule .everywhere)) values p q own far) where
+    pub condition-known : HasTruth s (getD rules (8 * r + 5) 0) (length own) (length far)
+    condition-known = truth-known l s (getD rules (8 * r + 5) 0) _ (x .tabled .ruleTable .condition r known)
 
-      pub condition-value : {b : Bool} → TruthIs s (getD rules (8 * r + 5) 0) own far b → b ≡ holds values p q rule
-      unfolding holds
-      condition-value is = truth-value l _ (getD rules (8 * r + 5) 0) _ (t .ruleTable .condition r known) (t .counts .scoped .condition r) is
+    pub condition-value : {b : Bool} → TruthIs s (getD rules (8 * r + 5) 0) own far b → b ≡ holds values p q rule
+    unfolding holds
+    condition-value is =
+        truth-value l s (getD rules (8 * r + 5) 0) _ (x .tabled .ruleTable .condition r known) (x .tabled .counts .scoped .condition r) is
 
-      pub task-sound : Sound s (getD rules (8 * r + 6) 0) (length own) (length far) (k .channels)
-      task-sound = action-sound l _ (getD rules (8 * r + 6) 0) _ (t .ruleTable .action r known) (sound (t .counts .formed .action r))
+    pub task-sound : Sound s (getD rules (8 * r + 6) 0) (length own) (length far) (k .channels)
+    task-sound =
+        action-sound l s (getD rules (8 * r + 6) 0) _ (x .tabled .ruleTable .action r known)
+        (sound (rule .action) (x .tabled .counts .formed .action r))
 
-      pub task-offered : {e : Deck} {C : ℕ} {pool₀ pool : List ℤ} {q₀ q′ : Queue} {m : List ℕ}
-          → Offers s (getD rules (8 * r + 6) 0) own far q e C pool₀ q₀ m pool q′
-          → Offered e C (sent values p q (rule .action)) pool₀ q₀ m pool q′
-      task-offered o = action-offered l _ (getD rules (8 * r + 6) 0) _ (t .ruleTable .action r known) (t .counts .scoped .action r) o
+    pub task-offered : {e : Deck} {C : ℕ} {pool₀ pool : List ℤ} {q₀ q′ : Queue} {m : List ℕ}
+        → Offers s (getD rules (8 * r + 6) 0) own far q e C pool₀ q₀ m pool q′
+        → Offered e C (sent values p q (rule .action)) pool₀ q₀ m pool q′
+    task-offered o =
+        action-offered l s (getD rules (8 * r + 6) 0) _ (x .tabled .ruleTable .action r known) (x .tabled .counts .scoped .action r) o
