@@ -1,3 +1,5 @@
--- Laws of new updates that are offered one by one, and turn by turn of a loop.
+-- Laws of new updates that are offered one by one, and turn by turn of the firing's loops.
 pub mod Queue
 pub mod Turns
+pub mod Halves
+pub mod Sets

@@ -1,27 +1,20 @@
--- Laws of updates that a loop offers turn by turn: what the numbers below n that pass a test give, one number at a time. And
--- the tests of the firing: which rules hear the changed channels, which parts are other ones. Assumes nothing.
-use Prim.Native.Nat.{ℕ, zero, suc, _+_, _/_, _%_, _^_, _*_, _<_}
-use mathlib.Core.Path.{_≡_, refl, sym, ap, ap₂, _∙_, subst}
-use mathlib.Core.Bool.{Bool, true, false, not, _&&_}
-use mathlib.Core.List.{List, [], _∷_, _++_, map, append-nil, append-assoc}
-use native.Mathlib.Nat.{add-zero, div-div-eq-div-mul, pow-suc, mul-comm, div-one}
+-- Laws of updates that a loop offers turn by turn: what the numbers below n that pass a test give, one number at a time.
+-- Assumes nothing.
+use Prim.Native.Nat.{ℕ, zero, suc, _+_}
+use mathlib.Core.Path.{_≡_, refl, sym, ap, _∙_, subst}
+use mathlib.Core.Bool.{Bool, true, false, not}
+use mathlib.Core.List.{List, [], _∷_, _++_, append-nil, append-assoc}
+use native.Mathlib.Nat.{add-zero}
 use native.Mathlib.Numerals.{add-one}
 use native.Mathlib.Omega.{arith}
-use lib.Dec.{eqb, ltb}
-use lib.ListN.{getD}
+use lib.Dec.{eqb}
 use lib.IntN.{ℤ}
-use Rattle.lists.specs.Lists.{lists, all, any, keep, filter, flatMap, from, below, member}
-use Rattle.lists.specs.Bits.{bit, maskOf}
-use Rattle.lists.specs.Laws.Same.{any-same}
-use Rattle.lists.specs.Laws.Bits.{maskOf-bit}
-use Rattle.deck.specs.Deck.{Deck, Rule, M, N, ruleAt, partAt, carries, active}
-use Rattle.deck.specs.Shape.{bitsOf}
-use Rattle.deck.specs.Tables.{TablesOf, Ranged}
-use Rattle.deck.specs.Laws.Tables.{bits-of-mask}
+use borrow.Author.Tests.{eq-eqb, ne-eqb}
+use Rattle.lists.specs.Lists.{lists, keep, filter, flatMap, from, below}
+use Rattle.deck.specs.Deck.{Deck, N}
 use Rattle.charge.specs.Charge.{others}
-use Rattle.charge.specs.Memo.{Memo, hearing}
+use Rattle.charge.specs.Memo.{Memo}
 use Rattle.pool.specs.Updates.{Update}
-use Rattle.firing.specs.Firing.{firedHere, firedThere, fired}
 use Rattle.steps.specs.Queue.{Offered}
 use Rattle.steps.specs.Laws.Queue.{offered-none, offered-then}
 use Rattle.steps.specs.declared.Queue.{Queue}
@@ -31,7 +24,8 @@ module _ {A : Type 0} (f : ℕ → Bool) (g : ℕ → List A) where
   unfoldable pub turns : ℕ → List A
   turns n = flatMap g (filter f (below n))
 
-  turns-from : (a n : ℕ) → flatMap g (filter f (from a (suc n))) ≡ flatMap g (filter f (from a n)) ++ flatMap g (keep (f (a + n)) (a + n) [])
+  turns-from : (a n : ℕ) → flatMap g (filter f (from a (suc n)))
+      ≡ flatMap g (filter f (from a n)) ++ flatMap g (keep (f (a + n)) (a + n) [])
   unfolding lists
   turns-from a zero = ap (λ k. flatMap g (keep (f k) k [])) (sym (add-zero a))
   turns-from a (suc n) =
@@ -67,12 +61,6 @@ module _ {A : Type 0} (f : ℕ → Bool) (g : ℕ → List A) where
   unfolding lists
   turns-fail n e = turns-next n false e ∙ append-nil (turns n)
 
--- behind a map
-flatMap-map : {A B C : Type 0} (h : B → List C) (k : A → B) (l : List A) → flatMap h (map k l) ≡ flatMap (λ x. h (k x)) l
-unfolding lists
-flatMap-map h k [] = refl
-flatMap-map h k (x ∷ l) = ap (λ m. h (k x) ++ m) (flatMap-map h k l)
-
 -- ---- what a loop has offered
 
 module _ {d : Deck} {C : ℕ} {pool₀ : List ℤ} {q₀ : Queue} (f : ℕ → Bool) (g : ℕ → List Update) where
@@ -90,43 +78,33 @@ module _ {d : Deck} {C : ℕ} {pool₀ : List ℤ} {q₀ : Queue} (f : ℕ → B
     pub turned-fail : f n ≡ false → Offered d C (turns f g (n + 1)) pool₀ q₀ m pool q
     turned-fail e = subst (λ l. Offered d C l pool₀ q₀ m pool q) (sym (turns-fail f g n e)) x
 
--- ---- the tests of the firing
+-- where two ways of a turn meet
+pub offered-came : {d : Deck} {C : ℕ} {fresh : List Update} {pool₀ : List ℤ} {q₀ : Queue}
+    {m m′ : List ℕ} {pool pool′ : List ℤ} {q q′ : Queue} → m ≡ m′ → pool ≡ pool′ → q ≡ q′
+    → Offered d C fresh pool₀ q₀ m′ pool′ q′ → Offered d C fresh pool₀ q₀ m pool q
+offered-came {d} {C} {fresh} {pool₀} {q₀} {m} {m′} {pool} {pool′} {q} {q′} a b c x =
+    subst (λ m. Offered d C fresh pool₀ q₀ m pool q) (sym a)
+    (subst (λ pool. Offered d C fresh pool₀ q₀ m′ pool q) (sym b)
+    (subst (λ q. Offered d C fresh pool₀ q₀ m′ pool′ q) (sym c) x))
+
+-- ---- the other parts
 
 -- q is another part than p
 unfoldable pub other : ℕ → ℕ → Bool
 other p q = not (eqb q p)
 
-pub others-turns : (d : Deck) (p n : ℕ) (g : ℕ → List Update) → n ≡ N d → flatMap g (others d p) ≡ turns (other p) g n
+pub other-so : (p q : ℕ) → (q ≡ p → ⊥) → other p q ≡ true
+unfolding other
+other-so p q h = ap not (ne-eqb q p h)
+
+pub other-not : (p q : ℕ) → q ≡ p → other p q ≡ false
+unfolding other
+other-not p q e = ap not (eq-eqb q p e)
+
+-- all of them had their turn
+pub turned-others : {d : Deck} {C : ℕ} {pool₀ : List ℤ} {q₀ : Queue} {m : List ℕ} {pool : List ℤ} {q : Queue}
+    (e : Deck) (p n : ℕ) (g : ℕ → List Update) → n ≡ N e
+    → Offered d C (turns (other p) g n) pool₀ q₀ m pool q → Offered d C (flatMap g (others e p)) pool₀ q₀ m pool q
 unfolding others other turns
-others-turns d p n g e = ap (λ k. flatMap g (filter (other p) (below k))) (sym e)
-
--- part p carries rule r, which has a channel of cs among its events
-unfoldable pub heard : Deck → ℕ → List ℕ → ℕ → Bool
-heard d p cs r = carries d p r && any (λ c. member c (ruleAt d r .events)) cs
-
-pub active-turns : (d : Deck) (p : ℕ) (cs : List ℕ) (n : ℕ) (g : Rule → List Update) → n ≡ M d
-    → flatMap g (map (ruleAt d) (active d p cs)) ≡ turns (heard d p cs) (λ r. g (ruleAt d r)) n
-unfolding active heard turns
-active-turns d p cs n g e =
-    flatMap-map g (ruleAt d) (active d p cs) ∙ ap (λ k. flatMap (λ r. g (ruleAt d r)) (filter (heard d p cs) (below k))) (sym e)
-
--- the test on the masks of the tables is the same
-pub hearing-heard : {d : Deck} {rules parts : List ℕ} → TablesOf d rules parts → Ranged d → (p r : ℕ) (cs : List ℕ)
-    → ((c : ℕ) → member c cs ≡ true → c < 32) → hearing rules parts p r (maskOf cs) ≡ heard d p cs r
-unfolding heard carries
-hearing-heard {d} {rules} {parts} t g p r cs h =
-    ap₂ (λ a b. a && b)
-    (ap (λ m. bit m r) (t .carried p) ∙ maskOf-bit (partAt d p .carried) r)
-    (any-same (λ c. member c (bitsOf 32 (getD rules (8 * r) 0))) (λ c. member c (ruleAt d r .events)) (bitsOf 32 (maskOf cs)) cs
-    (bits-of-mask 32 cs h)
-    (λ c.
-    ap (λ m. member c (bitsOf 32 m)) (t .events r)
-    ∙ bits-of-mask 32 (ruleAt d r .events) (λ b z. omega (arith, g .events r b z, g .channels)) c))
-
--- the firing is both halves
-pub fired-halves : (d : Deck) (values : List ℤ) (p : ℕ) (cs : List ℕ)
-    → fired d values p cs
-    ≡ flatMap (λ r. firedHere values p r) (map (ruleAt d) (active d p cs))
-    ++ flatMap (λ r. flatMap (firedThere values p r) (others d p)) (map (ruleAt d) (active d p cs))
-unfolding fired
-fired-halves d values p cs = refl
+turned-others {d} {C} {pool₀} {q₀} {m} {pool} {q} e p n g k x =
+    subst (λ n. Offered d C (flatMap g (filter (λ q. not (eqb q p)) (below n))) pool₀ q₀ m pool q) k x
