@@ -3,6 +3,9 @@ pub mod Queue
 pub mod Adding
 pub mod Offers
 pub mod Sent
+pub mod Turns
+pub mod Halves
+pub mod Sets
 pub mod Applying
 pub mod Taking
 pub mod Reacting
