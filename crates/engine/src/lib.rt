@@ -196,7 +196,7 @@ pub enum Tested {
 }
 
 // Every call tests afresh what it is given: 1 to 10.
-fn tested(
+fn test_lent(
     deck: &[u8],
     rules: &mut [u64],
     parts: &mut [u64],
@@ -333,7 +333,7 @@ pub fn input(deck: &[u8], pool: &mut [i32], state: State, part: u32, pairs: &[i3
     let mut parts = [0u64; 64];
     let mut memo = [0u32; 1024];
     let values = state.values;
-    let found = tested(deck, &mut rules, &mut parts, &mut memo, pool, &values, state.pending);
+    let found = test_lent(deck, &mut rules, &mut parts, &mut memo, pool, &values, state.pending);
     match found {
         Tested::Refused { number, place } => Entered {
             answer: InputAnswer::Refused {
@@ -366,7 +366,7 @@ pub fn commit(deck: &[u8], pool: &mut [i32], state: State, place: u32) -> Commit
     let mut parts = [0u64; 64];
     let mut memo = [0u32; 1024];
     let values = state.values;
-    let found = tested(deck, &mut rules, &mut parts, &mut memo, pool, &values, state.pending);
+    let found = test_lent(deck, &mut rules, &mut parts, &mut memo, pool, &values, state.pending);
     match found {
         Tested::Refused { number, place: p } => Committed {
             answer: CommitAnswer::Refused {
@@ -454,7 +454,7 @@ pub fn settle(deck: &[u8], pool: &mut [i32], state: State, budget: u32) -> Settl
     let mut parts = [0u64; 64];
     let mut memo = [0u32; 1024];
     let values = state.values;
-    let found = tested(deck, &mut rules, &mut parts, &mut memo, pool, &values, state.pending);
+    let found = test_lent(deck, &mut rules, &mut parts, &mut memo, pool, &values, state.pending);
     match found {
         Tested::Refused { number, place } => Settled {
             answer: SettleAnswer::Refused {
