@@ -1,19 +1,24 @@
 -- What the functions behind the calls take and leave, once deck, pool and state are tested. Assumes nothing.
 use Prim.Native.Nat.{ℕ, _-_}
 use mathlib.Core.Path.{_≡_}
-use mathlib.Core.Bool.{Bool, cond}
+use mathlib.Core.Logic.{_⊎_}
+use mathlib.Core.Bool.{Bool, true, false, cond}
 use mathlib.Core.List.{List}
 use lib.Dec.{eqb, leb, ltb}
 use lib.ListN.{length}
 use lib.IntN.{ℤ}
 use Rattle.lists.specs.Lists.{isEmpty}
 use Rattle.refusals.specs.Outcome.{Outcome, refused, accepted, _>>_, require}
-use Rattle.refusals.specs.Numbers.{unknownPart, badInput, overCapacity}
+use Rattle.refusals.specs.Numbers.{badPool, badState, unknownPart, badInput, overCapacity}
 use Rattle.deck.specs.Deck.{Deck, R, N}
 use Rattle.deck.specs.declared.Deck as Counted
 use Rattle.pool.specs.Updates.{charge}
 use Rattle.pool.specs.Places.{capacity, pairsOf}
-use Rattle.pool.specs.States.{Machine, Memory, load}
+use Rattle.pool.specs.States.{Machine, Memory, load, goodLength}
+use Rattle.charge.specs.Memo.{Memo}
+use Rattle.states.specs.Answer.{goodnessOf}
+use Rattle.states.specs.declared.Goodness.the-variants.{Good, Bad}
+use Rattle.passing.specs.Judged.{shape}
 use Rattle.passing.specs.Tabled.{deckOf}
 use Rattle.firing.specs.Firing.{setAndFire}
 use Rattle.steps.specs.Commits.{Stored, Committing}
@@ -29,6 +34,20 @@ GoodInput channels pairs r = (d : Deck) → R d ≡ channels → r ≡ goodInput
 -- as many places as the pool has
 abbrev pub Entering : List ℕ → Counted.Deck → List ℕ → List ℕ → List ℕ → List ℤ → List ℤ → ℕ → ℕ → Type 0
 Entering s k rules parts memo pool vs pending total = Committing s k rules parts memo pool (capacity (length pool)) vs pending total
+
+-- the tests 9 and 10, by the shape of the tables: the refusal, or a good state with its charge
+abbrev pub TestsState : Counted.Deck → List ℕ → List ℕ → List ℕ → List ℤ → List ℤ → ℕ → Tested → Type 0
+TestsState k rules parts memo pool vs pending (Ready c total) =
+    (c ≡ k)
+    × (goodLength (length pool) ≡ true)
+    × (Good total ≡ goodnessOf (shape rules parts k) (memoryOf (record { values = vs; pending = pending }) pool))
+    × Memo (shape rules parts k) memo
+TestsState k rules parts memo pool vs pending (Refused n p) =
+    (p ≡ 0)
+    × (((n ≡ badPool) × (goodLength (length pool) ≡ false))
+    ⊎ ((n ≡ badState)
+    × (goodLength (length pool) ≡ true)
+    × (Bad ≡ goodnessOf (shape rules parts k) (memoryOf (record { values = vs; pending = pending }) pool))))
 
 -- the tests 1 to 10: the refusal, or all that the rest of a call needs
 pub record Passed (s rules parts memo : List ℕ) (m : Memory) (k : Counted.Deck) (total : ℕ) : Type 0 where

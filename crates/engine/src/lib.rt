@@ -10,7 +10,8 @@ ghost use Rattle.refusals.specs.Outcome.{refused, accepted};
 ghost use Rattle.pool.specs.States.{goodLength};
 ghost use Rattle.engine.specs.Calls as Calls;
 ghost use Rattle.engine.specs.Answers.{checkOutcome, sectionOf, startOutcome, inputOutcome, commitOutcome, settleOutcome, memoryOf, replyOf};
-ghost use Rattle.engine.specs.Tested.{GoodInput, Tests, Entering, Enters, Settles};
+ghost use Rattle.engine.specs.Tested.{GoodInput, TestsState, Tests, Entering, Enters, Settles};
+ghost use Rattle.charge.specs.Memo.{Ready};
 ghost use Rattle.steps.specs.Commits.{Committing};
 use deck::Deck;
 use passing::Judged;
@@ -195,6 +196,39 @@ pub enum Tested {
     Refused { number: u32, place: u32 },
 }
 
+// 9 and 10, for a deck that passes.
+fn test_state(
+    counts: Deck,
+    rules: &[u64],
+    parts: &[u64],
+    memo: &mut [u32],
+    pool: &[i32],
+    values: &[i32],
+    pending: u32,
+) -> Tested
+    requires { ⌜ Ready (now rules) (now parts) (counts .channels) (counts .rules) (counts .parts) (now memo) × (counts .channels ≤ 32) ⌝ }
+    ensures { λ r. ⌜ TestsState counts (now (rules .entry)) (now (parts .entry)) (now (memo .exit)) (now (pool .entry)) (now (values .entry)) pending r ⌝ }
+{
+    if !good_length(pool.len()) {
+        return Tested::Refused {
+            number: refusals::BAD_POOL,
+            place: 0,
+        };
+    }
+    let n = pending as usize;
+    let good = states::judge(rules, parts, memo, counts.channels, counts.rules, counts.parts, values, n, pool);
+    match good {
+        states::Goodness::Good(charge) => Tested::Ready {
+            counts: counts,
+            charge: charge,
+        },
+        states::Goodness::Bad => Tested::Refused {
+            number: refusals::BAD_STATE,
+            place: 0,
+        },
+    }
+}
+
 // Every call tests afresh what it is given: 1 to 10.
 fn test_lent(
     deck: &[u8],
@@ -215,24 +249,7 @@ fn test_lent(
             place: place,
         },
         Judged::Passing { counts, charge: _ } => {
-            if !good_length(pool.len()) {
-                return Tested::Refused {
-                    number: refusals::BAD_POOL,
-                    place: 0,
-                };
-            }
-            let n = pending as usize;
-            let good = states::judge(rules, parts, memo, counts.channels, counts.rules, counts.parts, values, n, pool);
-            match good {
-                states::Goodness::Good(charge) => Tested::Ready {
-                    counts: counts,
-                    charge: charge,
-                },
-                states::Goodness::Bad => Tested::Refused {
-                    number: refusals::BAD_STATE,
-                    place: 0,
-                },
-            }
+            test_state(counts, rules, parts, memo, pool, values, pending)
         }
     }
 }
