@@ -6,3 +6,6 @@ pub mod Settling
 pub mod Inputs
 pub mod SectionAnswers
 pub mod Tested
+pub mod StoredMemory
+pub mod StartAnswers
+pub mod CommitAnswers
