@@ -1,9 +1,7 @@
 -- Settle answers the refusal of the tests, a budget that is too large, or what the turns come to. Assumes nothing.
 use Prim.Native.Nat.{ℕ, _/_, _≤_, _<_}
-use mathlib.Core.Path.{_≡_, refl, sym, ap, ap₂, _∙_, subst}
-use mathlib.Core.Bool.{true, false}
+use mathlib.Core.Path.{_≡_, sym, ap₂, _∙_}
 use mathlib.Core.List.{List}
-use native.Mathlib.Omega.{arith}
 use lib.ListN.{length}
 use lib.IntN.{ℤ}
 use borrow.Author.Tests.{le-leb, lt-leb}
@@ -13,11 +11,10 @@ use Rattle.deck.specs.Deck.{Deck}
 use Rattle.deck.specs.declared.Deck as Counted
 use Rattle.pool.specs.Places.{capacity}
 use Rattle.pool.specs.States.{Memory, load, store}
-use Rattle.pool.specs.declared.State.{State}
 use Rattle.passing.specs.Tabled.{deckOf}
 use Rattle.steps.specs.Commits.{Committing}
 use Rattle.engine.specs.Calls.{Answer, reply, tested, settling, settle}
-use Rattle.engine.specs.Answers.{memoryOf, replyOf}
+use Rattle.engine.specs.Answers.{replyOf}
 use Rattle.engine.specs.Tested.{Passed, settledAs, Settles}
 use Rattle.engine.specs.Laws.StoredMemory.{stored-memory}
 

@@ -80,7 +80,8 @@ rested-answer n y pending h =
 -- ---- the turns of the code
 
 -- the numbers after some turns stand for what is left to settle, for whatever they stood for at first
-pub record Turning (s : List ℕ) (k : Counted.Deck) (rules parts : List ℕ) (C budget : ℕ) (vs₀ : List ℤ) (pending₀ total₀ : ℕ) (pool₀ : List ℤ) (memo : List ℕ) (pool vs : List ℤ) (pending total made : ℕ) : Type 0 where
+pub record Turning (s : List ℕ) (k : Counted.Deck) (rules parts : List ℕ) (C budget : ℕ)
+    (vs₀ : List ℤ) (pending₀ total₀ : ℕ) (pool₀ : List ℤ) (memo : List ℕ) (pool vs : List ℤ) (pending total made : ℕ) : Type 0 where
   pub within : made ≤ budget
   pub committing : Committing s k rules parts memo pool C vs pending total
   pub long : length pool ≡ length pool₀
@@ -95,7 +96,8 @@ module _ {s : List ℕ} {k : Counted.Deck} {rules parts : List ℕ} {C : ℕ} wh
   first-turn budget w =
       record { within = omega arith; committing = w; long = refl; left = λ x st. (x, st, none-afterwards (deckOf s) budget x) }
 
-  module _ {budget : ℕ} {vs₀ : List ℤ} {pending₀ total₀ : ℕ} {pool₀ : List ℤ} {memo : List ℕ} {pool vs : List ℤ} {pending total made : ℕ}
+  module _ {budget : ℕ} {vs₀ : List ℤ} {pending₀ total₀ : ℕ} {pool₀ : List ℤ}
+      {memo : List ℕ} {pool vs : List ℤ} {pending total made : ℕ}
       (t : Turning s k rules parts C budget vs₀ pending₀ total₀ pool₀ memo pool vs pending total made) where
     pub next-turn : {m : List ℕ} {pool₁ vs₁ : List ℤ} {pending₁ total₁ : ℕ} {applied : Bool}
         → made < budget → 0 < pending
@@ -106,15 +108,15 @@ module _ {s : List ℕ} {k : Counted.Deck} {rules parts : List ℕ} {C : ℕ} wh
         record {
           within = omega arith;
           committing =
-            record {
-              tabled = w .tabled;
-              ready = record { tables = w .ready .tables; memo = c .memo };
-              acyclic = w .acyclic;
-              bounded = w .bounded;
-              places = omega (arith, w .places, c .long);
-              machine = committed (deckOf s) 0 (w .machine) .machine;
-              stored = c .result (w .machine) (w .stored) .0;
-            };
+              record {
+                tabled = w .tabled;
+                ready = record { tables = w .ready .tables; memo = c .memo };
+                acyclic = w .acyclic;
+                bounded = w .bounded;
+                places = omega (arith, w .places, c .long);
+                machine = committed (deckOf s) 0 (w .machine) .machine;
+                stored = c .result (w .machine) (w .stored) .0;
+              };
           long = c .long ∙ t .long;
           left = left;
         }
@@ -154,7 +156,8 @@ module _ {s : List ℕ} {k : Counted.Deck} {rules parts : List ℕ} {C : ℕ} wh
         ended (ap (λ n. accepted (cond (eqb n 0) (settled made) (spent made))) (sym h))
         (λ y st. settling-rests (deckOf s) (budget - made) y (none-pending (y .pending) (sym (st .count) ∙ h)))
 
-    pub turns-spent : {answer : Outcome Answer} → budget ≤ made → answer ≡ accepted (cond (eqb pending 0) (settled made) (spent made))
+    pub turns-spent : {answer : Outcome Answer} → budget ≤ made
+        → answer ≡ accepted (cond (eqb pending 0) (settled made) (spent made))
         → Settles s C vs₀ pending₀ total₀ pool₀ budget answer vs pending pool
     turns-spent used h =
         ended h (λ y st. ap (λ b. settling (deckOf s) b y) (omega (arith, used)) ∙ settling-spent (deckOf s) y)
