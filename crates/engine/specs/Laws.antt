@@ -2,10 +2,12 @@
 pub mod Opening
 pub mod Checks
 pub mod CheckAnswers
-pub mod Settling
-pub mod Inputs
 pub mod SectionAnswers
+pub mod Inputs
+pub mod Settling
 pub mod Tested
 pub mod StoredMemory
 pub mod StartAnswers
 pub mod CommitAnswers
+pub mod SettleTurns
+pub mod SettleAnswers
