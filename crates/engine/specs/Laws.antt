@@ -5,3 +5,4 @@ pub mod CheckAnswers
 pub mod Settling
 pub mod Inputs
 pub mod SectionAnswers
+pub mod StoredMemory
