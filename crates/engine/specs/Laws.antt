@@ -6,3 +6,5 @@ pub mod Settling
 pub mod Inputs
 pub mod SectionAnswers
 pub mod StoredMemory
+pub mod InputTests
+pub mod Entering
