@@ -8,3 +8,4 @@ pub mod SectionAnswers
 pub mod StoredMemory
 pub mod InputTests
 pub mod Entering
+pub mod InputAnswers

@@ -60,12 +60,13 @@ loop-again c =
     let s = i .before .before .before .before .args in
     let n = c .before .before .number-at in
     let count = length (s .pairs .now) / 2 in
-    let next = pair-next (s .channels) (i .loop .seen) count (i .loop .i) (n .result) (s .pairs .now) (n .ensures)
+    let next = i .loop .i + 1 in
+    let turn = pair-next (s .channels) (i .loop .seen) count (i .loop .i) (n .result) (s .pairs .now) (n .ensures)
     (omega arith) (omega arith) (small (c .before)) (bit-no (i .loop .seen) (n .result) (c .if5 .left)) in
     let one = bit-shifted 64 (n .result) (omega (arith, small (c .before))) in (
       omega arith,
-      ap (λ m. channelsFit (s .channels) (bitOr (i .loop .seen) m) (count - (i .loop .i + 1)) (drop (2 * (i .loop .i + 1)) (s .pairs .now))) one
-          ∙ sym next ∙ i .loop .inv .1,
+      ap (λ m. channelsFit (s .channels) (bitOr (i .loop .seen) m) (count - next) (drop (2 * next) (s .pairs .now))) one
+          ∙ sym turn ∙ i .loop .inv .1,
     )
 
 returns-6 : tie.Need-returns-6 Inv-loop μ-loop

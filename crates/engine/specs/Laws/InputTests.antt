@@ -50,7 +50,8 @@ module _ (r : ℕ) where
   inside-pos (pos a) h = refl
   inside-pos (negsuc a) h = absurd (false≢true h)
 
-  inside-back : (n : ℕ) (l : List ℤ) → length l ≡ 2 * n → all (inside r) (channelsOf l) ≡ true → flatMap numbers (take n (pairsOf l)) ++ [] ≡ l
+  inside-back : (n : ℕ) (l : List ℤ) → length l ≡ 2 * n → all (inside r) (channelsOf l) ≡ true
+      → flatMap numbers (take n (pairsOf l)) ++ [] ≡ l
   unfolding channelsOf pairsOf lists
   inside-back zero [] e h = refl
   inside-back zero (c ∷ l) e h = absurd (omega arith)
