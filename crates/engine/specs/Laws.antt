@@ -8,6 +8,9 @@ pub mod Settling
 pub mod Tested
 pub mod StoredMemory
 pub mod StartAnswers
+pub mod InputTests
+pub mod Entering
+pub mod InputAnswers
 pub mod CommitAnswers
 pub mod SettleTurns
 pub mod SettleAnswers

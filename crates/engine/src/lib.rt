@@ -269,10 +269,11 @@ fn good_input(pairs: &[i32], channels: usize) -> bool
     if n % 2 != 0 {
         return false;
     }
+    let count = n / 2;
     let mut seen: u64 = 0;
     let mut i: usize = 0;
-    while i < n {
-        let c = states::number_at(pairs, i, channels);
+    while i < count {
+        let c = states::number_at(pairs, 2 * i, channels);
         if c == channels {
             return false;
         }
@@ -280,7 +281,7 @@ fn good_input(pairs: &[i32], channels: usize) -> bool
             return false;
         }
         seen = seen | (1u64 << c);
-        i += 2;
+        i += 1;
     }
     true
 }
