@@ -5,8 +5,9 @@ ghost use mathlib.Core.Bool.{cond};
 ghost use Prim.Native.Nat.{_≤_};
 ghost use lib.Dec.{eqb};
 ghost use lib.IntN.{pos};
-ghost use lib.ListN.{replicate};
+ghost use lib.ListN.{length, replicate};
 ghost use Rattle.refusals.specs.Outcome.{refused, accepted};
+ghost use Rattle.pool.specs.Places.{zeros};
 ghost use Rattle.pool.specs.States.{goodLength};
 ghost use Rattle.engine.specs.Calls as Calls;
 ghost use Rattle.engine.specs.Answers.{checkOutcome, sectionOf, startOutcome, inputOutcome, commitOutcome, settleOutcome, memoryOf, replyOf};
@@ -162,6 +163,17 @@ fn start_refused(number: u32, place: u32) -> Started
     }
 }
 
+// A start that is accepted leaves the pool all 0.
+fn begin(pool: &mut [i32], state: State) -> Started
+    ensures { λ r. ⌜ (startOutcome (r .answer) ≡ accepted Calls.started) × (r .state ≡ state) × (now (pool .exit) ≡ zeros (length (now (pool .entry)))) ⌝ }
+{
+    pool::clear(pool);
+    Started {
+        answer: StartAnswer::Started,
+        state: state,
+    }
+}
+
 // The opening values, nothing pending, and the pool all 0. A refused start hands back a state of zeros.
 pub fn start(deck: &[u8], pool: &mut [i32]) -> Started
     ensures { λ r. ⌜ replyOf (startOutcome (r .answer)) (r .state) (now (pool .exit)) ≡ Calls.start (now (deck .entry)) (now (pool .entry)) ⌝ }
@@ -177,15 +189,11 @@ pub fn start(deck: &[u8], pool: &mut [i32]) -> Started
                 return start_refused(refusals::BAD_POOL, 0);
             }
             passing::open_parts(&mut values, deck, counts, &parts);
-            pool::clear(pool);
             let state = State {
                 values: values,
                 pending: 0,
             };
-            Started {
-                answer: StartAnswer::Started,
-                state: state,
-            }
+            begin(pool, state)
         }
     }
 }

@@ -50,5 +50,6 @@ start-spec =
     let i = o .before .before .before in
     let f = i .before .before .before in
     let w = rw (f .found2 .given .1) at (f .before .before .before .before .judge .ensures) in
-    reply-is refl (o .open-parts .ensures) refl (c .before .clear .ensures)
+    let b = c .before .begin .ensures in
+    reply-is (b .0) (ap (λ k. k .values) (b .1) ∙ o .open-parts .ensures) (ap (λ k. k .pending) (b .1)) (b .2)
     ∙ sym (start-done _ _ (w .passes) (sym (i .before .good-length .ensures) ∙ not-false _ (i .if1 .left)))))
