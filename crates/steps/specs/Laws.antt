@@ -5,7 +5,6 @@ pub mod Offers
 pub mod Sent
 pub mod Turns
 pub mod Halves
-pub mod Sets
 pub mod Applying
 pub mod Taking
 pub mod Reacting

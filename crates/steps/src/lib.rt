@@ -209,7 +209,7 @@ fn fire_all_here(
     changed: u64,
 ) -> Queue
     requires { ⌜ Tabled (now deck) counts (now rules) (now parts) × Offering (now rules) (now parts) counts capacity (now memo) (now pool) queue × (length (now values) ≡ 512) × (p < counts .parts) ⌝ }
-    ensures { λ s. ⌜ FiresAll (deckOf (now (deck .entry))) (λ r. firedHere (now (values .entry)) p r) p changed (shape (now (rules .entry)) (now (parts .entry)) counts) capacity (now (pool .entry)) queue (now (memo .exit)) (now (pool .exit)) s ⌝ }
+    ensures { λ s. ⌜ FiresAll (deckOf (now (deck .entry))) (λ r. firedHere (now (values .entry)) p r) p changed (shape (now (rules .entry)) (now (parts .entry)) counts) capacity (now (pool .entry)) queue (now (memo .exit)) (now (pool .exit)) s × Offering (now (rules .entry)) (now (parts .entry)) counts capacity (now (memo .exit)) (now (pool .exit)) s ⌝ }
 {
     let n = counts.rules;
     let mut out = queue;
@@ -252,7 +252,7 @@ fn fire_all_others(
     out
 }
 
-// The firing at part p for the changed channels, reading the new values. A set with a number above 31 is none of channels.
+// The firing at part p for the changed channels, reading the new values.
 pub fn fire(
     deck: &[u8],
     counts: Deck,
@@ -269,9 +269,6 @@ pub fn fire(
     requires { ⌜ Tabled (now deck) counts (now rules) (now parts) × Offering (now rules) (now parts) counts capacity (now memo) (now pool) queue × (length (now values) ≡ 512) × (p < counts .parts) ⌝ }
     ensures { λ s. ⌜ Fires (deckOf (now (deck .entry))) (now (values .entry)) p changed (shape (now (rules .entry)) (now (parts .entry)) counts) capacity (now (pool .entry)) queue (now (memo .exit)) (now (pool .exit)) s ⌝ }
 {
-    if changed > 4294967295 {
-        return queue;
-    }
     let first = fire_all_here(deck, counts, rules, parts, memo, pool, capacity, queue, values, p, changed);
     fire_all_others(deck, counts, rules, parts, memo, pool, capacity, first, values, p, changed)
 }

@@ -57,12 +57,6 @@ push-requires c κs =
           (omega arith) (o .places) (o .grown),
     )
 
-add-t20 : tie.Need-add-t20
-add-t20 c =
-    let f = c .before .before .before .before .before .before .before .before .before .before .before .before .before in
-    let s = f .before .before .before .before in
-    omega (arith, few-pending (s .pre .0 .grown) (f .if1 .left), s .pre .0 .bounded)
-
 returns-4 : tie.Need-returns-4
 returns-4 c =
     let p = c .before .before in
@@ -90,7 +84,10 @@ add-spec =
     (λ c. search needs)
     returns-3
     push-requires
-    add-t20
+    (λ c.
+    let f = c .before .before .before .before .before .before .before .before .before .before .before .before .before in
+    let s = f .before .before .before .before in
+    omega (arith, few-pending (s .pre .0 .grown) (f .if1 .left), s .pre .0 .bounded))
     (λ c. search needs)
     (λ c. search needs)
     returns-4)

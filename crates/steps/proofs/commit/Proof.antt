@@ -12,18 +12,21 @@ take-requires c κs =
     let s = c .before .before .before .before .before .before .before .before in
     commit-taking (s .pre .0) (s .args .k) (s .pre .1)
 
+-- both value tables have 512 values; which one decides is a matter of `returns`
 lent-after : tie.Need-slice-aggregate-within
 lent-after c =
     let t = c .before .before .before .before .before in
     let s = t .before .before .before .before .before .before .before .before .before in
-    sym (after-long (s .pre .0) (s .args .k) (s .pre .1) (t .take .ensures))
+    let b = ap length (s .pre .0 .stored .values) ∙ s .pre .0 .stored .fine .long in
+    omega (arith, b, after-long (s .pre .0) (s .args .k) (s .pre .1) (t .take .ensures))
 
 within-requires : tie.Need-within-requires
 within-requires c κs =
     let t = c .before .before .before .before .before in
-    let s = t .before .before .before .before .before .before .before .before .before in (
+    let s = t .before .before .before .before .before .before .before .before .before in
+    let b = ap length (s .pre .0 .stored .values) ∙ s .pre .0 .stored .fine .long in (
       record { counts = s .pre .0 .tabled .counts; table = s .pre .0 .tabled .partTable },
-      after-long (s .pre .0) (s .args .k) (s .pre .1) (t .take .ensures),
+      omega (arith, b, after-long (s .pre .0) (s .args .k) (s .pre .1) (t .take .ensures)),
       part-known (s .pre .0) (s .args .k) (s .pre .1) (t .take .ensures),
     )
 

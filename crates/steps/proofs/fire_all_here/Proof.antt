@@ -55,7 +55,8 @@ same-length-2 c = c .before .loop .inv .1 .long
 returns : tie.Need-returns Inv-loop μ-loop
 returns c =
     let s = c .before .before .before .before .before .before in
-    half-all (omega (arith, s .pre .0 .counts .rules, c .loop-test .left)) (c .before .loop .inv .1)
+    let x = c .before .loop .inv .1 in
+    (half-all (omega (arith, s .pre .0 .counts .rules, c .loop-test .left)) x, x .offering)
 
 pub fire-all-here-spec : {M : Type 1} → statement M
 fire-all-here-spec =
