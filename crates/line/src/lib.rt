@@ -34,7 +34,7 @@ pub fn put_text(out: &mut [u8], at: usize, text: &[u8]) -> usize
 }
 
 // Puts a number in decimal at a place, and answers the place after it.
-pub fn put_digits(out: &mut [u8], at: usize, n: u32) -> usize
+fn put_digits(out: &mut [u8], at: usize, n: u32) -> usize
     requires { ⌜ at + length (digits n n) ≤ length (now out) ⌝ }
     ensures { λ r. ⌜ Put (now (out .entry)) at (digits n n) (now (out .exit)) r ⌝ }
 {

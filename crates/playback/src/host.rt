@@ -1,13 +1,17 @@
 // The memory that a host holds and lends, and what a line does to it.
+ghost use mathlib.Core.Path.{_≡_};
 ghost use Prim.Native.Nat.{_≤_};
+ghost use lib.ListN.{length};
 use deck::Deck;
 use engine::CommitAnswer;
 use engine::InputAnswer;
 use engine::SettleAnswer;
 use engine::StartAnswer;
+use engine::Started;
 use crate::lines::Answer;
 use pool::State;
 use script::Request;
+use script::KEPT;
 
 // The longest pool that a line may lend.
 pub const LONGEST_POOL: usize = 700000;
@@ -42,13 +46,22 @@ pub fn new() -> Host
     }
 }
 
-fn fill(pool: &mut [i32]) {
-    let n = pool.len();
+fn fill(pool: &mut [i32], n: usize)
+    requires { ⌜ n ≤ length (now pool) ⌝ }
+{
     let mut i: usize = 0;
     while i < n {
         pool[i] = LENT;
         i += 1;
     }
+}
+
+// Lends the first n numbers, all 7 before the call.
+fn start_with(deck: &[u8], pool: &mut [i32], n: usize) -> Started
+    requires { ⌜ n ≤ length (now pool) ⌝ }
+{
+    fill(pool, n);
+    engine::start(deck, &mut pool[..n])
 }
 
 fn start(deck: &[u8], pool: &mut [i32; LONGEST_POOL], host: Host, length: u32) -> Turn
@@ -62,8 +75,7 @@ fn start(deck: &[u8], pool: &mut [i32; LONGEST_POOL], host: Host, length: u32) -
             host: host,
         };
     }
-    fill(&mut pool[..n]);
-    let called = engine::start(deck, &mut pool[..n]);
+    let called = start_with(deck, pool, n);
     let given = called.answer;
     let answer = match given {
         StartAnswer::Started => Answer::Started,
@@ -80,10 +92,11 @@ fn start(deck: &[u8], pool: &mut [i32; LONGEST_POOL], host: Host, length: u32) -
     }
 }
 
-fn input(deck: &[u8], pool: &mut [i32], state: State, part: u32, pairs: &[i32], length: usize) -> Turn
-    ensures { λ r. ⌜ r .host .length ≤ length ⌝ }
+fn input(deck: &[u8], pool: &mut [i32], n: usize, state: State, part: u32, numbers: &[i32], count: usize) -> Turn
+    requires { ⌜ (n ≤ length (now pool)) × (count ≤ length (now numbers)) ⌝ }
+    ensures { λ r. ⌜ r .host .length ≡ n ⌝ }
 {
-    let called = engine::input(deck, pool, state, part, pairs);
+    let called = engine::input(deck, &mut pool[..n], state, part, &numbers[..count]);
     let given = called.answer;
     let answer = match given {
         InputAnswer::Added(charge) => Answer::Added(charge),
@@ -92,7 +105,7 @@ fn input(deck: &[u8], pool: &mut [i32], state: State, part: u32, pairs: &[i32], 
     let later = called.state;
     let left = Host {
         state: later,
-        length: length,
+        length: n,
     };
     Turn {
         answer: answer,
@@ -100,10 +113,11 @@ fn input(deck: &[u8], pool: &mut [i32], state: State, part: u32, pairs: &[i32], 
     }
 }
 
-fn commit(deck: &[u8], pool: &mut [i32], state: State, place: u32, length: usize) -> Turn
-    ensures { λ r. ⌜ r .host .length ≤ length ⌝ }
+fn commit(deck: &[u8], pool: &mut [i32], n: usize, state: State, place: u32) -> Turn
+    requires { ⌜ n ≤ length (now pool) ⌝ }
+    ensures { λ r. ⌜ r .host .length ≡ n ⌝ }
 {
-    let called = engine::commit(deck, pool, state, place);
+    let called = engine::commit(deck, &mut pool[..n], state, place);
     let given = called.answer;
     let answer = match given {
         CommitAnswer::Applied(charge) => Answer::Applied(charge),
@@ -113,7 +127,7 @@ fn commit(deck: &[u8], pool: &mut [i32], state: State, place: u32, length: usize
     let later = called.state;
     let left = Host {
         state: later,
-        length: length,
+        length: n,
     };
     Turn {
         answer: answer,
@@ -121,10 +135,11 @@ fn commit(deck: &[u8], pool: &mut [i32], state: State, place: u32, length: usize
     }
 }
 
-fn settle(deck: &[u8], pool: &mut [i32], state: State, budget: u32, length: usize) -> Turn
-    ensures { λ r. ⌜ r .host .length ≤ length ⌝ }
+fn settle(deck: &[u8], pool: &mut [i32], n: usize, state: State, budget: u32) -> Turn
+    requires { ⌜ n ≤ length (now pool) ⌝ }
+    ensures { λ r. ⌜ r .host .length ≡ n ⌝ }
 {
-    let called = engine::settle(deck, pool, state, budget);
+    let called = engine::settle(deck, &mut pool[..n], state, budget);
     let given = called.answer;
     let answer = match given {
         SettleAnswer::Settled(made) => Answer::Settled(made),
@@ -134,7 +149,7 @@ fn settle(deck: &[u8], pool: &mut [i32], state: State, budget: u32, length: usiz
     let later = called.state;
     let left = Host {
         state: later,
-        length: length,
+        length: n,
     };
     Turn {
         answer: answer,
@@ -190,9 +205,11 @@ fn set_value(host: Host, index: u32, v: i32) -> Turn
 }
 
 // Writes into the pool that is lent, to try damaged memory.
-fn set_pool(pool: &mut [i32], index: u32, v: i32) -> Answer {
+fn set_pool(pool: &mut [i32], n: usize, index: u32, v: i32) -> Answer
+    requires { ⌜ n ≤ length (now pool) ⌝ }
+{
     let at = index as usize;
-    if at >= pool.len() {
+    if at >= n {
         return Answer::Unreadable;
     }
     pool[at] = v;
@@ -216,25 +233,29 @@ fn set_pending(host: Host, n: u32) -> Turn
 }
 
 // The number that stands second in a line of two fields.
-fn second(numbers: &[i32]) -> i32 {
-    if numbers.len() == 0 {
-        return 0;
-    }
+fn second(numbers: &[i32; KEPT]) -> i32 {
     numbers[0]
 }
 
 // Does what a line asks for.
-pub fn perform(deck: &[u8], pool: &mut [i32; LONGEST_POOL], host: Host, request: Request, numbers: &[i32]) -> Turn
-    requires { ⌜ host .length ≤ 700000 ⌝ }
+pub fn perform(
+    deck: &[u8],
+    pool: &mut [i32; LONGEST_POOL],
+    host: Host,
+    request: Request,
+    numbers: &[i32; KEPT],
+    count: usize,
+) -> Turn
+    requires { ⌜ (host .length ≤ 700000) × (count ≤ 128) ⌝ }
     ensures { λ r. ⌜ r .host .length ≤ 700000 ⌝ }
 {
     let n = host.length;
     let state = host.state;
     match request {
         Request::Start(length) => start(deck, pool, host, length),
-        Request::Input(part) => input(deck, &mut pool[..n], state, part, numbers, n),
-        Request::Commit(place) => commit(deck, &mut pool[..n], state, place, n),
-        Request::Settle(budget) => settle(deck, &mut pool[..n], state, budget, n),
+        Request::Input(part) => input(deck, pool, n, state, part, numbers, count),
+        Request::Commit(place) => commit(deck, pool, n, state, place),
+        Request::Settle(budget) => settle(deck, pool, n, state, budget),
         Request::Value(index) => set_value(host, index, second(numbers)),
         Request::Pending(pending) => set_pending(host, pending),
         Request::Section(number) => {
@@ -245,7 +266,7 @@ pub fn perform(deck: &[u8], pool: &mut [i32; LONGEST_POOL], host: Host, request:
             }
         }
         Request::Pool(index) => {
-            let answer = set_pool(&mut pool[..n], index, second(numbers));
+            let answer = set_pool(pool, n, index, second(numbers));
             Turn {
                 answer: answer,
                 host: host,

@@ -37,7 +37,7 @@ fn end_line(
     let before = session.host;
     let count = line.kept();
     let request = line.request(numbers);
-    let turn = host::perform(deck, pool, before, request, &numbers[..count]);
+    let turn = host::perform(deck, pool, before, request, numbers, count);
     let answer = turn.answer;
     let after = turn.host;
     let waiting = output::print(answer, out, session.waiting);
@@ -150,8 +150,7 @@ pub fn play(deck: &[u8], fd: i32) {
     let read = play_text(deck, &mut pool, first, &mut numbers, &mut out, fd);
     let last = end_line(deck, &mut pool, read, &mut numbers, &mut out);
     let left = last.host;
-    let waiting = output::print_memory(left, &pool, &mut out, last.waiting);
-    output::flush(&out, waiting);
+    output::finish(left, &pool, &mut out, last.waiting);
 }
 
 // Reads a deck from one descriptor and goes through the calls that come from another. One byte more than the longest deck that

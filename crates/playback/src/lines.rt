@@ -1,7 +1,6 @@
 // The lines that are printed.
 ghost use Prim.Native.Nat.{_≤_, _+_};
 ghost use lib.ListN.{length};
-ghost use Rattle.io.specs.Counts.{Counts};
 
 // What one line says.
 pub enum Answer {
@@ -20,13 +19,22 @@ pub enum Answer {
     Pool(u32, i32),
 }
 
+// A signed number that is not below 0.
+fn natural(v: i32) -> u32
+    ensures { λ r. ⌜ r ≤ 2147483647 ⌝ }
+{
+    if v < 0 {
+        return 0;
+    }
+    v as u32
+}
+
 // How far a number lies from 0.
 fn magnitude(v: i32) -> u32 {
-    if v >= 0 {
-        return v as u32;
+    if v < 0 {
+        return natural(!v) + 1;
     }
-    let below = !v;
-    below as u32 + 1
+    natural(v)
 }
 
 // Puts a space and a signed number.
@@ -34,17 +42,21 @@ fn put_signed(out: &mut [u8], at: usize, v: i32) -> usize
     requires { ⌜ at + 12 ≤ length (now out) ⌝ }
     ensures { λ r. ⌜ r ≤ at + 12 ⌝ }
 {
-    if v >= 0 {
-        return line::put_number(out, at, magnitude(v));
+    let n = magnitude(v);
+    if v < 0 {
+        // the minus sign goes where the number has its space
+        let a = line::put_byte(out, at, b' ');
+        let b = line::put_number(out, a, n);
+        line::put_byte(out, a, b'-');
+        return b;
     }
-    let a = line::put_text(out, at, b" -");
-    line::put_digits(out, a, magnitude(v))
+    line::put_number(out, at, n)
 }
 
 // A word alone.
 fn put_word(out: &mut [u8; 64], word: &[u8]) -> usize
     requires { ⌜ length (now word) ≤ 10 ⌝ }
-    ensures { λ r. ⌜ Counts r (now (out .exit)) ⌝ }
+    ensures { λ r. ⌜ r ≤ 64 ⌝ }
 {
     let a = line::put_text(out, 0, word);
     line::put_byte(out, a, b'\n')
@@ -53,7 +65,7 @@ fn put_word(out: &mut [u8; 64], word: &[u8]) -> usize
 // A word and a number.
 fn put_one(out: &mut [u8; 64], word: &[u8], n: u32) -> usize
     requires { ⌜ length (now word) ≤ 10 ⌝ }
-    ensures { λ r. ⌜ Counts r (now (out .exit)) ⌝ }
+    ensures { λ r. ⌜ r ≤ 64 ⌝ }
 {
     let a = line::put_text(out, 0, word);
     let b = line::put_number(out, a, n);
@@ -63,7 +75,7 @@ fn put_one(out: &mut [u8; 64], word: &[u8], n: u32) -> usize
 // A word and two numbers.
 fn put_two(out: &mut [u8; 64], word: &[u8], n: u32, m: u32) -> usize
     requires { ⌜ length (now word) ≤ 10 ⌝ }
-    ensures { λ r. ⌜ Counts r (now (out .exit)) ⌝ }
+    ensures { λ r. ⌜ r ≤ 64 ⌝ }
 {
     let a = line::put_text(out, 0, word);
     let b = line::put_number(out, a, n);
@@ -74,7 +86,7 @@ fn put_two(out: &mut [u8; 64], word: &[u8], n: u32, m: u32) -> usize
 // A word, an index and a signed number.
 fn put_entry(out: &mut [u8; 64], word: &[u8], i: u32, v: i32) -> usize
     requires { ⌜ length (now word) ≤ 10 ⌝ }
-    ensures { λ r. ⌜ Counts r (now (out .exit)) ⌝ }
+    ensures { λ r. ⌜ r ≤ 64 ⌝ }
 {
     let a = line::put_text(out, 0, word);
     let b = line::put_number(out, a, i);
@@ -84,7 +96,7 @@ fn put_entry(out: &mut [u8; 64], word: &[u8], i: u32, v: i32) -> usize
 
 // Puts a line with its newline at the start of a buffer, and answers its length.
 pub fn put_answer(answer: Answer, out: &mut [u8; 64]) -> usize
-    ensures { λ r. ⌜ Counts r (now (out .exit)) ⌝ }
+    ensures { λ r. ⌜ r ≤ 64 ⌝ }
 {
     match answer {
         Answer::Nothing => 0,
