@@ -2,16 +2,16 @@
 ghost use mathlib.Core.Path.{_≡_};
 ghost use Prim.Native.Nat.{_≤_};
 ghost use lib.ListN.{length};
+use crate::lines::Answer;
 use deck::Deck;
 use engine::CommitAnswer;
 use engine::InputAnswer;
 use engine::SettleAnswer;
 use engine::StartAnswer;
 use engine::Started;
-use crate::lines::Answer;
 use pool::State;
-use script::Request;
 use script::KEPT;
+use script::Request;
 
 // The longest pool that a line may lend.
 pub const LONGEST_POOL: usize = 700000;
@@ -92,7 +92,15 @@ fn start(deck: &[u8], pool: &mut [i32; LONGEST_POOL], host: Host, length: u32) -
     }
 }
 
-fn input(deck: &[u8], pool: &mut [i32], n: usize, state: State, part: u32, numbers: &[i32], count: usize) -> Turn
+fn input(
+    deck: &[u8],
+    pool: &mut [i32],
+    n: usize,
+    state: State,
+    part: u32,
+    numbers: &[i32],
+    count: usize,
+) -> Turn
     requires { ⌜ (n ≤ length (now pool)) × (count ≤ length (now numbers)) ⌝ }
     ensures { λ r. ⌜ r .host .length ≡ n ⌝ }
 {
@@ -172,10 +180,16 @@ fn section(deck: &[u8], number: u32) -> Answer {
     }
     let mut from: u32 = 0;
     if number > 0 {
-        from = after(from, engine::section(deck, 0, &mut refusal, &mut place).len());
+        from = after(
+            from,
+            engine::section(deck, 0, &mut refusal, &mut place).len(),
+        );
     }
     if number > 1 {
-        from = after(from, engine::section(deck, 1, &mut refusal, &mut place).len());
+        from = after(
+            from,
+            engine::section(deck, 1, &mut refusal, &mut place).len(),
+        );
     }
     Answer::Section(from, after(from, found))
 }

@@ -59,7 +59,13 @@ fn entry(is_pool: bool, i: usize, v: i32) -> Answer {
 }
 
 // Prints each of the first n numbers that is not 0.
-fn print_numbers(is_pool: bool, numbers: &[i32], n: usize, out: &mut [u8; ROOM], waiting: usize) -> usize
+fn print_numbers(
+    is_pool: bool,
+    numbers: &[i32],
+    n: usize,
+    out: &mut [u8; ROOM],
+    waiting: usize,
+) -> usize
     requires { ⌜ (n ≤ length (now numbers)) × (waiting ≤ 65536) ⌝ }
     ensures { λ r. ⌜ r ≤ 65536 ⌝ }
 {
