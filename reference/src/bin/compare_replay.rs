@@ -70,10 +70,10 @@ fn compare(ours: &str, other: &str, count: u64, seed: u64) -> io::Result<usize> 
     Ok(differences)
 }
 
-/// Decks that pass come most often; one text in 200 fills the largest pool.
+/// Decks that pass come most often; one text in 2,500 fills the largest pool.
 fn generated(seed: u64, number: u64) -> (&'static str, Vec<u8>, String) {
     let mut random = Random::new(seed ^ number.wrapping_mul(0xD134_2543_DE82_EF95));
-    if number % 200 == 99 {
+    if number % 2500 == 99 {
         let (deck, text) = full(&mut random);
         return ("full", deck, text);
     }

@@ -152,13 +152,9 @@ pub fn full(random: &mut Random) -> (Vec<u8>, String) {
     let number = 10 * random.below(places) + random.below(10);
     let place = random.below(places);
     for line in [
-        "settle 0".to_string(),
         "input 0 0 4".to_string(),
         format!("commit {place}"),
-        "input 0 0 4".to_string(),
         format!("commit {}", places - 2),
-        "input 0 0 4".to_string(),
-        format!("commit {}", places - 1),
         "input 1 0 5".to_string(),
         format!("settle {}", random.below(20)),
         format!("pool {number} {}", random.pick(&[-1, 0, 1, 2, 3, 7])),
