@@ -251,6 +251,16 @@ fn second(numbers: &[i32; KEPT]) -> i32 {
     numbers[0]
 }
 
+// Prints a line, and leaves the state as it is.
+fn said(answer: Answer, host: Host) -> Turn
+    ensures { λ r. ⌜ r .host .length ≡ host .length ⌝ }
+{
+    Turn {
+        answer: answer,
+        host: host,
+    }
+}
+
 // Does what a line asks for.
 pub fn perform(
     deck: &[u8],
@@ -274,25 +284,13 @@ pub fn perform(
         Request::Pending(pending) => set_pending(host, pending),
         Request::Section(number) => {
             let answer = section(deck, number);
-            Turn {
-                answer: answer,
-                host: host,
-            }
+            said(answer, host)
         }
         Request::Pool(index) => {
             let answer = set_pool(pool, n, index, second(numbers));
-            Turn {
-                answer: answer,
-                host: host,
-            }
+            said(answer, host)
         }
-        Request::Nothing => Turn {
-            answer: Answer::Nothing,
-            host: host,
-        },
-        Request::Unreadable => Turn {
-            answer: Answer::Unreadable,
-            host: host,
-        },
+        Request::Nothing => said(Answer::Nothing, host),
+        Request::Unreadable => said(Answer::Unreadable, host),
     }
 }
