@@ -1,7 +1,8 @@
-//! The stored decks have the lines that are written down for them, and stand as they are made.
+//! The stored decks and texts have the lines that are written down for them, and stand as they are made.
 
 use reference::engine::check_line;
-use reference::stored;
+use reference::script::replay;
+use reference::{stored, stored_replays};
 use std::collections::BTreeSet;
 use std::fs;
 use std::path::Path;
@@ -25,10 +26,44 @@ fn every_refusal_of_check_is_there() {
 #[test]
 fn files_are_as_they_are_made() {
     let crates = Path::new(env!("CARGO_MANIFEST_DIR")).join("../crates");
-    let files = stored::files();
+    let mut files = stored::files();
+    files.extend(stored_replays::files());
     for (path, content) in &files {
         assert!(fs::read(crates.join(path)).is_ok_and(|found| found == *content), "{path}");
     }
     let decks = fs::read_dir(crates.join("check_files/data")).unwrap().count();
     assert_eq!(decks, stored::all().len());
+    let replays = fs::read_dir(crates.join("replay_files/data")).unwrap().count();
+    assert_eq!(replays, stored_replays::decks().len() + stored_replays::texts().len());
+}
+
+/// What is printed for a stored text.
+fn printed(text: &stored_replays::StoredText) -> String {
+    let decks = stored_replays::decks();
+    let deck = decks.iter().find(|deck| deck.name == text.deck).unwrap();
+    replay(&deck.deck, &text.text)
+}
+
+#[test]
+fn answers() {
+    for text in stored_replays::texts() {
+        let printed = printed(&text);
+        let memory = printed.find("pending ").unwrap();
+        if let Some(answers) = &text.answers {
+            assert_eq!(&printed[..memory], answers, "{}", text.name);
+        }
+    }
+}
+
+#[test]
+fn every_answer_of_replay_is_there() {
+    let all: String = stored_replays::texts().iter().map(printed).collect();
+    let seen: BTreeSet<&str> =
+        all.lines().map(|line| line.rsplit_once(' ').map_or(line, |(words, _)| words)).collect();
+    for number in 9..=16 {
+        assert!(seen.contains(&*format!("refused {number}")), "{number}");
+    }
+    for word in ["started", "added", "applied", "discarded", "settled", "spent", "unreadable"] {
+        assert!(seen.contains(word), "{word}");
+    }
 }

@@ -9,7 +9,7 @@ pub enum Input {
 }
 
 // One read. 0 bytes: the input has ended.
-fn read_some(fd: i32, buf: &mut [u8]) -> Input
+pub fn read_some(fd: i32, buf: &mut [u8]) -> Input
     ensures { λ r. ⌜ Within r (now (buf .exit)) ⌝ }
 {
     let got = libc::read(fd, buf);
@@ -20,7 +20,7 @@ fn read_some(fd: i32, buf: &mut [u8]) -> Input
 }
 
 // Reads until buf is full or the input ends.
-fn read_all(fd: i32, buf: &mut [u8]) -> Input
+pub fn read_all(fd: i32, buf: &mut [u8]) -> Input
     ensures { λ r. ⌜ Within r (now (buf .exit)) ⌝ }
 {
     let mut done: usize = 0;

@@ -1,7 +1,7 @@
-//! `stored_decks CRATES`: writes the stored decks and the lines that the proved programs must
-//! print for them beside those programs, in the folder `crates` of the repository.
+//! `stored_decks CRATES`: writes the stored decks and texts of calls, and what the proved programs
+//! must print for them, beside those programs, in the folder `crates` of the repository.
 
-use reference::stored;
+use reference::{stored, stored_replays};
 use std::path::Path;
 use std::process::ExitCode;
 use std::{env, fs, io};
@@ -22,6 +22,9 @@ fn main() -> ExitCode {
 }
 
 fn write_all(crates: &Path) -> io::Result<()> {
-    fs::create_dir_all(crates.join("check_files/data"))?;
-    stored::files().into_iter().try_for_each(|(path, content)| fs::write(crates.join(path), content))
+    for program in ["check_files", "replay", "replay_files"] {
+        fs::create_dir_all(crates.join(program).join("data"))?;
+    }
+    let files = stored::files().into_iter().chain(stored_replays::files());
+    files.into_iter().try_for_each(|(path, content)| fs::write(crates.join(path), content))
 }
