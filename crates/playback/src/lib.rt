@@ -16,7 +16,7 @@ use script::Line;
 
 // A host between two bytes of its text: its memory but for the pool, the line as far as it is read, and how many bytes of output
 // wait to be written.
-pub struct Session {
+pub struct Progress {
     pub host: Host,
     pub line: Line,
     pub waiting: usize,
@@ -26,22 +26,22 @@ pub struct Session {
 fn end_line(
     deck: &[u8],
     pool: &mut [i32; LONGEST_POOL],
-    session: Session,
+    progress: Progress,
     numbers: &mut [i32; KEPT],
     out: &mut [u8; ROOM],
-) -> Session
-    requires { ⌜ (session .host .length ≤ 700000) × (session .waiting ≤ 65536) ⌝ }
+) -> Progress
+    requires { ⌜ (progress .host .length ≤ 700000) × (progress .waiting ≤ 65536) ⌝ }
     ensures { λ r. ⌜ (r .host .length ≤ 700000) × (r .waiting ≤ 65536) ⌝ }
 {
-    let line = session.line;
-    let before = session.host;
+    let line = progress.line;
+    let before = progress.host;
     let count = line.kept();
     let request = line.request(numbers);
     let turn = host::perform(deck, pool, before, request, numbers, count);
     let answer = turn.answer;
     let after = turn.host;
-    let waiting = output::print(answer, out, session.waiting);
-    Session {
+    let waiting = output::print(answer, out, progress.waiting);
+    Progress {
         host: after,
         line: Line::empty(),
         waiting: waiting,
@@ -52,15 +52,15 @@ fn end_line(
 fn play_bytes(
     deck: &[u8],
     pool: &mut [i32; LONGEST_POOL],
-    session: Session,
+    progress: Progress,
     numbers: &mut [i32; KEPT],
     out: &mut [u8; ROOM],
     bytes: &[u8],
-) -> Session
-    requires { ⌜ (session .host .length ≤ 700000) × (session .waiting ≤ 65536) ⌝ }
+) -> Progress
+    requires { ⌜ (progress .host .length ≤ 700000) × (progress .waiting ≤ 65536) ⌝ }
     ensures { λ r. ⌜ (r .host .length ≤ 700000) × (r .waiting ≤ 65536) ⌝ }
 {
-    let mut now = session;
+    let mut now = progress;
     let mut i: usize = 0;
     while i < bytes.len() {
         let b = bytes[i];
@@ -77,20 +77,20 @@ fn play_bytes(
 
 // Reads some bytes of the text and goes through them. At its end, and where it cannot be read, there are none.
 pub struct Played {
-    pub session: Session,
+    pub progress: Progress,
     pub more: bool,
 }
 
 fn play_some(
     deck: &[u8],
     pool: &mut [i32; LONGEST_POOL],
-    session: Session,
+    progress: Progress,
     numbers: &mut [i32; KEPT],
     out: &mut [u8; ROOM],
     fd: i32,
 ) -> Played
-    requires { ⌜ (session .host .length ≤ 700000) × (session .waiting ≤ 65536) ⌝ }
-    ensures { λ r. ⌜ (r .session .host .length ≤ 700000) × (r .session .waiting ≤ 65536) ⌝ }
+    requires { ⌜ (progress .host .length ≤ 700000) × (progress .waiting ≤ 65536) ⌝ }
+    ensures { λ r. ⌜ (r .progress .host .length ≤ 700000) × (r .progress .waiting ≤ 65536) ⌝ }
 {
     let mut bytes = io::large_buffer();
     let got = libc::read(fd, &mut bytes);
@@ -99,14 +99,14 @@ fn play_some(
     }
     if got <= 0 {
         return Played {
-            session: session,
+            progress: progress,
             more: false,
         };
     }
     let n = io::count(got, &bytes);
-    let after = play_bytes(deck, pool, session, numbers, out, &bytes[..n]);
+    let after = play_bytes(deck, pool, progress, numbers, out, &bytes[..n]);
     Played {
-        session: after,
+        progress: after,
         more: true,
     }
 }
@@ -116,19 +116,19 @@ fn play_some(
 fn play_text(
     deck: &[u8],
     pool: &mut [i32; LONGEST_POOL],
-    session: Session,
+    progress: Progress,
     numbers: &mut [i32; KEPT],
     out: &mut [u8; ROOM],
     fd: i32,
-) -> Session
-    requires { ⌜ (session .host .length ≤ 700000) × (session .waiting ≤ 65536) ⌝ }
+) -> Progress
+    requires { ⌜ (progress .host .length ≤ 700000) × (progress .waiting ≤ 65536) ⌝ }
     ensures { λ r. ⌜ (r .host .length ≤ 700000) × (r .waiting ≤ 65536) ⌝ }
 {
-    let mut now = session;
+    let mut now = progress;
     let mut reads = u64::MAX;
     while reads > 0 {
         let played = play_some(deck, pool, now, numbers, out, fd);
-        now = played.session;
+        now = played.progress;
         if !played.more {
             return now;
         }
@@ -142,7 +142,7 @@ pub fn play(deck: &[u8], fd: i32) {
     let mut pool = [0i32; LONGEST_POOL];
     let mut numbers = [0i32; KEPT];
     let mut out = [0u8; ROOM];
-    let first = Session {
+    let first = Progress {
         host: host::new(),
         line: Line::empty(),
         waiting: 0,

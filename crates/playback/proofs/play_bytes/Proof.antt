@@ -1,4 +1,4 @@
--- `playback::play_bytes` is safe and ends, and keeps what a session keeps. The measure is how many bytes are left. Assumes nothing.
+-- `playback::play_bytes` is safe and ends, and keeps what a progress keeps. The measure is how many bytes are left. Assumes nothing.
 use Prim.Native.Nat.{_-_, _≤_}
 use native.Mathlib.Omega.{arith}
 use mathlib.Core.Logic.{⊎-elim}

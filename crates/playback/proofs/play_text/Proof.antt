@@ -1,4 +1,4 @@
--- `playback::play_text` is safe and ends, and keeps what a session keeps. The measure is how many reads are left. Assumes nothing.
+-- `playback::play_text` is safe and ends, and keeps what a progress keeps. The measure is how many reads are left. Assumes nothing.
 use Prim.Native.Nat.{_≤_}
 use native.Mathlib.Omega.{arith}
 use Rattle.playback.proofs.play_text.Statement.{statement}
