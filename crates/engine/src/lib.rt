@@ -83,8 +83,8 @@ pub fn check(deck: &[u8]) -> CheckAnswer
 {
     let mut rules = [0u64; 512];
     let mut parts = [0u64; 64];
-    let found = passing::judge(deck, &mut rules, &mut parts);
-    match found {
+    let verdict = passing::judge(deck, &mut rules, &mut parts);
+    match verdict {
         Judged::Passing { counts, charge } => CheckAnswer::Passed {
             channels: counts.channels as u32,
             rules: counts.rules as u32,
