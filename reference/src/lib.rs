@@ -14,6 +14,8 @@ pub mod random;
 pub mod refusal;
 pub mod script;
 pub mod state;
+pub mod stored;
+pub mod stored_replays;
 
 pub use engine::{check, commit, input, section, settle, start};
 pub use refusal::Refusal;

@@ -34,7 +34,7 @@ fn carries(parts: &[u64], p: usize, r: usize) -> bool
 }
 
 // Whether part p carries rule r, and the rule has a channel of the mask among its events.
-fn hears(rules: &[u64], parts: &[u64], p: usize, r: usize, mask: u64) -> bool
+pub fn hears(rules: &[u64], parts: &[u64], p: usize, r: usize, mask: u64) -> bool
     requires { ⌜ (512 ≤ length (now rules)) × (64 ≤ length (now parts)) × (p < 16) × (r < 64) ⌝ }
     ensures { λ b. ⌜ b ≡ hearing (now (rules .entry)) (now (parts .entry)) p r mask ⌝ }
 {

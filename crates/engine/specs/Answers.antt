@@ -1,8 +1,11 @@
 -- Number, place and values of each case of the code's answers. The promises of the calls use these. Assumes nothing.
 use Prim.Native.Nat.{ℕ}
 use mathlib.Core.List.{List, [], _∷_}
+use lib.IntN.{ℤ}
 use Rattle.refusals.specs.Outcome.{Outcome, refused, accepted}
-use Rattle.engine.specs.Calls.{Answer, passed, started, added, applied, discarded, settled, spent}
+use Rattle.pool.specs.declared.State.{State}
+use Rattle.pool.specs.States.{Memory}
+use Rattle.engine.specs.Calls.{Answer, passed, started, added, applied, discarded, settled, spent, Reply, Section}
 use Rattle.engine.specs.declared.CheckAnswer.{CheckAnswer}
 use Rattle.engine.specs.declared.CheckAnswer.the-variants as OfCheck
 use Rattle.engine.specs.declared.StartAnswer.{StartAnswer}
@@ -35,6 +38,17 @@ abbrev pub settleOutcome : SettleAnswer → Outcome Answer
 settleOutcome (OfSettle.Settled commits) = accepted (settled commits)
 settleOutcome (OfSettle.Spent commits) = accepted (spent commits)
 settleOutcome (OfSettle.Refused number place) = refused number place
+
+-- what section hands back, with the two lent numbers
+abbrev pub sectionOf : List ℕ → ℕ → ℕ → Section
+sectionOf stretch number place = record { stretch = stretch; number = number; place = place }
+
+-- what a host lends, and what it holds after a call
+abbrev pub memoryOf : State → List ℤ → Memory
+memoryOf state pool = record { state = state; pool = pool }
+
+abbrev pub replyOf : Outcome Answer → State → List ℤ → Reply
+replyOf answer state pool = record { answer = answer; memory = memoryOf state pool }
 
 -- an outcome as numbers: the refusal's number and place, both 0 where the call is accepted, and the answer numbers, all 0 where
 -- it is refused. "applied" and "settled" are 1, "discarded" and "spent" 0

@@ -17,8 +17,8 @@ use Rattle.charge.specs.Charge.{largestCharge}
 use Rattle.pool.specs.Updates.{charge}
 use Rattle.pool.specs.Places.{zeros, capacity, pairsOf}
 use Rattle.pool.specs.States.{Machine, Memory, load, store, goodLength, good}
-use Rattle.engine.specs.Check.{passing, openingValues}
-use Rattle.engine.specs.Firing.{Commit, setAndFire, committed}
+use Rattle.passing.specs.Check.{passing, openingValues}
+use Rattle.firing.specs.Firing.{Commit, setAndFire, committed}
 
 -- what an accepted call answers
 pub data Answer : Type 0 where

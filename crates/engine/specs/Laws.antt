@@ -1,14 +1,16 @@
--- Laws of the firing, the commits and the calls.
+-- Laws of the calls.
 pub mod Opening
-pub mod Firing
-pub mod Enqueue
-pub mod Charges
-pub mod Commits
-pub mod Passing
-pub mod Passes
 pub mod Checks
-pub mod Refusals
-pub mod Settling
-pub mod Among
+pub mod CheckAnswers
+pub mod SectionAnswers
 pub mod Inputs
-pub mod CheckSteps
+pub mod Settling
+pub mod Tested
+pub mod StoredMemory
+pub mod StartAnswers
+pub mod InputTests
+pub mod Entering
+pub mod InputAnswers
+pub mod CommitAnswers
+pub mod SettleTurns
+pub mod SettleAnswers

@@ -136,14 +136,14 @@ fn left(s: &[u8], at: usize) -> usize
 }
 
 // Four bytes, low byte first.
-fn word_of(a: u8, b: u8, c: u8, d: u8) -> u32
+pub fn word_of(a: u8, b: u8, c: u8, d: u8) -> u32
     ensures { λ r. ⌜ r ≡ word a b c d ⌝ }
 {
     (a as u32) + (b as u32) * 256 + (c as u32) * 65536 + (d as u32) * 16777216
 }
 
 // A signed number from its bits. `!x` is -1 - x, so that no step leaves the range of 32 bits.
-fn signed_of(n: u32) -> i32
+pub fn signed_of(n: u32) -> i32
     ensures { λ r. ⌜ r ≡ signed n ⌝ }
 {
     if n < 2147483648 {

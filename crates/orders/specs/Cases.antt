@@ -19,8 +19,8 @@ use Rattle.charge.specs.Charge.{charges}
 use Rattle.pool.specs.Updates.{valueAt, updates}
 use Rattle.pool.specs.Places.{zeros, pools}
 use Rattle.pool.specs.States.{Machine, Memory, store, states}
-use Rattle.engine.specs.Check.{passing, checks}
-use Rattle.engine.specs.Firing.{firing}
+use Rattle.passing.specs.Check.{passing, checks}
+use Rattle.firing.specs.Firing.{firing}
 use Rattle.engine.specs.Calls.{Answer, passed, added, applied, discarded, check, calls}
 use Rattle.engine.specs.Line.{ascii, line, lines}
 use Rattle.orders.specs.Calling.{Call, input, commit, Run, run, running}

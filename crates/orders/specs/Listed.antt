@@ -13,8 +13,8 @@ use Rattle.deck.specs.Deck.{Deck, N}
 use Rattle.pool.specs.Updates.{Update, charge}
 use Rattle.pool.specs.Places.{capacity, pairsOf}
 use Rattle.pool.specs.States.{Machine}
-use Rattle.engine.specs.Check.{openingValues}
-use Rattle.engine.specs.Firing.{setAndFire, pick, Commit, committed}
+use Rattle.passing.specs.Check.{openingValues}
+use Rattle.firing.specs.Firing.{setAndFire, pick, Commit, committed}
 use Rattle.engine.specs.Calls.{Answer, passed, started, added, applied, discarded, settled, spent, goodInput}
 use Rattle.orders.specs.Calling.{Call, input, commit, settle}
 

@@ -2,5 +2,6 @@
 pub mod Updates
 pub mod Places
 pub mod States
+pub mod Moves
 pub mod Laws
 pub mod Cases

@@ -136,3 +136,34 @@ impl Writer<'_> {
         matches!(answer, Answer::Refused(_))
     }
 }
+
+/// A deck with a text that fills all 65,535 places by hand, and then calls: inputs that find no
+/// room, commits anywhere, settles, and damage deep in the pool. Channels 2 of deck D start no rule.
+pub fn full(random: &mut Random) -> (Vec<u8>, String) {
+    let places = 65_535;
+    let mut text = format!("start {}\n", 10 * places);
+    for place in 0..places {
+        let (part, value) = (random.below(2), if place % 2 == 0 { place as i32 } else { -(place as i32) });
+        for (offset, number) in [part as i32, 1, 2, value].into_iter().enumerate().filter(|&(_, n)| n != 0) {
+            text += &format!("pool {} {number}\n", 10 * place + offset);
+        }
+    }
+    text += &format!("pending {places}\n");
+    let number = 10 * random.below(places) + random.below(10);
+    let place = random.below(places);
+    for line in [
+        "input 0 0 4".to_string(),
+        format!("commit {place}"),
+        format!("commit {}", places - 2),
+        "input 1 0 5".to_string(),
+        format!("settle {}", random.below(20)),
+        format!("pool {number} {}", random.pick(&[-1, 0, 1, 2, 3, 7])),
+        "settle 1".to_string(),
+        format!("pending {}", random.pick(&[0, 1, 65_535, 65_536])),
+        "settle 1".to_string(),
+    ] {
+        text += &line;
+        text.push('\n');
+    }
+    (crate::stored::deck_d(), text)
+}

@@ -87,15 +87,15 @@ judged-nothing p nothing s at e = refl
 -- the length byte n was read, and the bytes begin at `from`
 module _ {A : Type 0} (whole : List ℕ → Read A) (s : List ℕ) (at n from : ℕ)
     (e : number 1 65 (drop at s) at ≡ accepted (gotTo s n from)) where
-  ends : from ≤ length s → length s < from + n → expression whole (drop at s) at ≡ refused deckEnds (length s)
+  pub whole-ends : from ≤ length s → length s < from + n → expression whole (drop at s) at ≡ refused deckEnds (length s)
   unfolding expression readers
-  ends b h =
+  whole-ends b h =
       let k : length (drop from s) ≡ length s - from = length-drop from s in
       then-next _ e
       ∙ then-fault _ (bytes-short n (drop from s) from (omega arith))
       ∙ ap (λ p. refused deckEnds p) (omega arith)
 
-  whole-there : from + n ≤ length s
+  pub whole-there : from + n ≤ length s
       → expression whole (drop at s) at ≡ judged from (whole (take n (drop from s))) (drop (from + n) s) (from + n)
   unfolding expression readers
   whole-there h =
@@ -126,8 +126,8 @@ module _ (truth : Bool) (sc : Scope) (s : List ℕ) (at n from : ℕ) (e : numbe
   expression-ends b h = go truth
     where
       go : (truth : Bool) → expressionFor truth sc (drop at s) at ≡ refused deckEnds (length s)
-      go true = ends (wholeTruth sc) s at n from e b h
-      go false = ends (wholeNum sc) s at n from e b h
+      go true = whole-ends (wholeTruth sc) s at n from e b h
+      go false = whole-ends (wholeNum sc) s at n from e b h
 
   pub expression-good : from + n ≤ length s → isWhole truth sc (take n (drop from s)) ≡ true
       → Reads s (expressionFor truth sc (drop at s) at) (λ _. Unit {0}) (Next (from + n))

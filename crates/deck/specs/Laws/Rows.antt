@@ -9,7 +9,7 @@ use lib.Seq.{take-at, take-all, drop-at, drop-drop}
 use Rattle.lists.specs.Lists.{flatMap, lists}
 
 -- one thing more, at the end
-flatMap-add : {A B : Type 0} (f : A → List B) (l : List A) (x : A) → flatMap f (l ++ (x ∷ [])) ≡ flatMap f l ++ f x
+pub flatMap-add : {A B : Type 0} (f : A → List B) (l : List A) (x : A) → flatMap f (l ++ (x ∷ [])) ≡ flatMap f l ++ f x
 unfolding lists
 flatMap-add f [] x = append-nil (f x)
 flatMap-add f (y ∷ l) x = ap (λ m. f y ++ m) (flatMap-add f l x) ∙ sym (append-assoc (f y) (flatMap f l) (f x))

@@ -53,7 +53,7 @@ past-front (x ∷ a) b n d = ap (λ k. getD (x ∷ (a ++ b)) k d) (suc-add (leng
 abbrev pub Zeros : List ℕ → Type 0
 Zeros l = (i : ℕ) → getD l i 0 ≡ 0
 
-zeros-drop : (k : ℕ) (l : List ℕ) → Zeros l → Zeros (drop k l)
+pub zeros-drop : (k : ℕ) (l : List ℕ) → Zeros l → Zeros (drop k l)
 zeros-drop zero l h i = h i
 zeros-drop (suc k) [] h i = refl
 zeros-drop (suc k) (x ∷ l) h i = zeros-drop k l (λ n. h (suc n)) i
@@ -62,7 +62,7 @@ zeros-drop (suc k) (x ∷ l) h i = zeros-drop k l (λ n. h (suc n)) i
 -- So no case needs to know how many rows there are.
 module _ {A : Type 0} (row : A → List ℕ) (width j : ℕ) (w : (x : A) → length (row x) ≡ width) (h : j < width) (none : A)
     (e : getD (row none) j 0 ≡ 0) (z : List ℕ) (zeros : Zeros z) where
-  column : (l : List A) (i : ℕ) → getD (flatMap row l ++ z) (width * i + j) 0 ≡ getD (row (getD l i none)) j 0
+  pub column : (l : List A) (i : ℕ) → getD (flatMap row l ++ z) (width * i + j) 0 ≡ getD (row (getD l i none)) j 0
   unfolding lists
   column [] i = zeros (width * i + j) ∙ sym e
   column (y ∷ l) zero =
@@ -80,7 +80,7 @@ module _ {A : Type 0} (row : A → List ℕ) (width j : ℕ) (w : (x : A) → le
 -- ---- both tables
 
 -- what stands for a rule, or a part, that was not read
-abbrev noRule : MarkedRule
+abbrev pub noRule : MarkedRule
 noRule =
     record {
       events = [];
@@ -89,23 +89,23 @@ noRule =
       task = record { everywhere = false; condition = constant false; conditionAt = 0; action = []; actionAt = 0 };
     }
 
-abbrev noPart : MarkedPart
+abbrev pub noPart : MarkedPart
 noPart = record { part = record { opening = []; carried = []; limit = constant true }; openingAt = 0; limitAt = 0 }
 
-rule-width : (x : MarkedRule) → length (ruleRow x) ≡ 8
+pub rule-width : (x : MarkedRule) → length (ruleRow x) ≡ 8
 unfolding ruleRow
 rule-width x = refl
 
-part-width : (x : MarkedPart) → length (partRow x) ≡ 4
+pub part-width : (x : MarkedPart) → length (partRow x) ≡ 4
 unfolding partRow
 part-width x = refl
 
 module _ (m : Marked) where
-  rule-read : (r : ℕ) → ruleAt (unmarked m .deck) r ≡ ruleOf (getD (m .front .rules) r noRule)
+  pub rule-read : (r : ℕ) → ruleAt (unmarked m .deck) r ≡ ruleOf (getD (m .front .rules) r noRule)
   unfolding ruleAt unmarked ruleOf
   rule-read r = List·getD-map ruleOf (m .front .rules) r noRule
 
-  part-read : (p : ℕ) → partAt (unmarked m .deck) p ≡ getD (m .parts) p noPart .part
+  pub part-read : (p : ℕ) → partAt (unmarked m .deck) p ≡ getD (m .parts) p noPart .part
   unfolding partAt unmarked
   part-read p = List·getD-map (λ x. x .part) (m .parts) p noPart
 

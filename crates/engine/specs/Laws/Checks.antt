@@ -9,9 +9,9 @@ use Rattle.deck.specs.Deck.{R, M, N}
 use Rattle.deck.specs.Layout.{Layout}
 use Rattle.charge.specs.Charge.{largestCharge}
 use Rattle.charge.specs.Laws.Largest.{LargestOf, largest-of}
-use Rattle.engine.specs.Check.{passing}
+use Rattle.passing.specs.Check.{passing}
 use Rattle.engine.specs.Calls.{Answer, passed, check}
-use Rattle.engine.specs.Laws.Passing.{passing-prefix}
+use Rattle.passing.specs.Laws.Passing.{passing-prefix}
 
 -- "Check: R, M, N and the largest charge of any carried rule (0 if none)"
 pub record CheckAnswers (bytes : List ℕ) (l : Layout) : Type 0 where

@@ -16,10 +16,10 @@ use Rattle.pool.specs.Laws.Values.{channelsIn}
 use Rattle.engine.specs.Calls.{channelsOf, goodInput}
 
 -- a channel's number is neither negative nor too large
-abbrev inside : ℕ → ℤ → Bool
+abbrev pub inside : ℕ → ℤ → Bool
 inside n c = leZ (pos 0) c && ltZ c (pos n)
 
-inside-known : (n : ℕ) (c : ℤ) → inside n c ≡ true → ltb (natAbs c) n ≡ true
+pub inside-known : (n : ℕ) (c : ℤ) → inside n c ≡ true → ltb (natAbs c) n ≡ true
 inside-known n (pos a) h = and-right (leb 0 a) (ltb a n) h
 inside-known n (negsuc a) h = absurd (false≢true h)
 

@@ -20,7 +20,7 @@ use Rattle.pool.specs.Places.{zeros, isZero}
 use Rattle.pool.specs.States.{Machine, unusedZero, states}
 use Rattle.pool.specs.Laws.Values.{used, used-index}
 use Rattle.pool.specs.Laws.Good.{Fine}
-use Rattle.engine.specs.Check.{openingValues}
+use Rattle.passing.specs.Check.{openingValues}
 use Rattle.engine.specs.Calls.{opened}
 
 module _ (d : Deck) where

@@ -7,7 +7,7 @@ use native.Mathlib.Omega.{arith}
 use Rattle.lists.specs.Lists.{isEmpty}
 use Rattle.deck.specs.Deck.{Deck}
 use Rattle.pool.specs.States.{Machine}
-use Rattle.engine.specs.Firing.{committed}
+use Rattle.firing.specs.Firing.{committed}
 use Rattle.engine.specs.Calls.{Settling, oneMore, settling}
 
 -- n commits of place 0

@@ -20,7 +20,7 @@ use Rattle.deck.specs.Deck.{Deck, R, M, ruleAt, carries, active}
 use Rattle.pool.specs.Updates.{Pair, indexOf, valueAt, assign}
 use Rattle.pool.specs.Laws.Values.{channelsIn, assign-other}
 use Rattle.pool.specs.Laws.Assigned.{set-value}
-use Rattle.engine.specs.Firing.{changed}
+use Rattle.firing.specs.Firing.{changed}
 use Rattle.orders.specs.Calculus.{State, overridden, activeRules, changedBy, programOf}
 
 -- ---- the state

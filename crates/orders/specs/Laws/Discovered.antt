@@ -16,7 +16,7 @@ use Rattle.deck.specs.Layout.{taskScope}
 use Rattle.deck.specs.Laws.Scoped.{Scoped, allIn, task-fars}
 use Rattle.charge.specs.Charge.{others}
 use Rattle.pool.specs.Updates.{Pair, valueAt, eqPair, eqUpdate, isAmong}
-use Rattle.engine.specs.Firing.{evaluated, sent, holds, firedHere, firedThere}
+use Rattle.firing.specs.Firing.{evaluated, sent, holds, firedHere, firedThere}
 use Rattle.orders.specs.Calculus.{State, Agree, evaluate, satisfies, partialNum, partialTruth, partialTask, discovered}
 use Rattle.orders.specs.Laws.Partial.{partial-num, partial-truth}
 use Rattle.orders.specs.Laws.Fired.{at, makes, sent-among, sent-elsewhere, cond-elsewhere, updates-among, firedBy, firedBy-among, in-others}

@@ -13,7 +13,7 @@ use Rattle.lists.specs.Laws.Below.{below-member}
 use Rattle.deck.specs.Deck.{Deck, Action, Rule, N}
 use Rattle.charge.specs.Charge.{others}
 use Rattle.pool.specs.Updates.{Pair, Update, valueAt, eqPair, eqUpdate, isAmong}
-use Rattle.engine.specs.Firing.{evaluated, sent, holds, firedHere, firedThere}
+use Rattle.firing.specs.Firing.{evaluated, sent, holds, firedHere, firedThere}
 use Rattle.orders.specs.Calculus.{State, evaluate, updatesFrom, satisfies}
 
 abbrev pub at : ℕ → List Pair → Update

@@ -16,11 +16,11 @@ use Rattle.graph.specs.Laws.Cycles.{Acyclic}
 use Rattle.pool.specs.Places.{capacity}
 use Rattle.pool.specs.States.{Machine, Memory, load, store, goodLength, good}
 use Rattle.pool.specs.Laws.Good.{Fine, good-stored, fine-loaded, store-load}
-use Rattle.engine.specs.Check.{passing}
+use Rattle.passing.specs.Check.{passing}
 use Rattle.engine.specs.Calls as Calls
 use Rattle.engine.specs.Calls.{Answer, started, Reply, Done, reply, tested, opened}
 use Rattle.engine.specs.Laws.Opening.{fine-opened}
-use Rattle.engine.specs.Laws.Passes.{Passes, passes-exactly}
+use Rattle.passing.specs.Laws.Passes.{Passes, passes-exactly}
 use Rattle.orders.specs.Calling.{Call, input, commit, settle, made}
 use Rattle.orders.specs.Listed.{Taken, taken, machineAfter}
 use Rattle.orders.specs.Laws.Agreement.{made-agrees}

@@ -23,7 +23,7 @@ use Rattle.pool.specs.Updates.{charge}
 use Rattle.pool.specs.Places.{capacity}
 use Rattle.pool.specs.States.{Machine, Memory, store, goodLength}
 use Rattle.pool.specs.Laws.Good.{Fine}
-use Rattle.engine.specs.Check.{within, openingValues, passing}
+use Rattle.passing.specs.Check.{within, openingValues, passing}
 use Rattle.engine.specs.Calls as Calls
 use Rattle.engine.specs.Calls.{Answer, started, settled, spent, Reply, reply, opened}
 use Rattle.engine.specs.Laws.Opening.{fine-opened}

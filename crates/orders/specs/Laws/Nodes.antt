@@ -16,8 +16,8 @@ use Rattle.deck.specs.Laws.Scoped.{Scoped}
 use Rattle.pool.specs.Updates.{Pair, Update, valueAt, assign, eqPair, isAmong}
 use Rattle.pool.specs.Laws.Values.{channelsIn}
 use Rattle.pool.specs.Laws.Assigned.{assign-part}
-use Rattle.engine.specs.Firing.{fired, enqueue, changed}
-use Rattle.engine.specs.Laws.Among.{enqueue-among}
+use Rattle.firing.specs.Firing.{fired, enqueue, changed}
+use Rattle.firing.specs.Laws.Among.{enqueue-among}
 use Rattle.orders.specs.Calculus.{Agree, In, Task, overridden, changedBy, activeRules, updatesFrom, defUpds, localUpds, extTasks, partialTask, discovered, programOf}
 use Rattle.orders.specs.Laws.Active.{assign-overridden, numbers, active-rules, active-changed}
 use Rattle.orders.specs.Laws.Fired.{at, firedBy, local, fired-here}

@@ -6,7 +6,7 @@ use lib.IntN.{ℤ}
 use Rattle.refusals.specs.Outcome.{accepted}
 use Rattle.expression.specs.Laws.Bytes.{Bytes}
 use Rattle.deck.specs.Layout.{Layout}
-use Rattle.engine.specs.Check.{passing}
+use Rattle.passing.specs.Check.{passing}
 use Rattle.engine.specs.Calls.{start, started}
 use Rattle.orders.specs.Calling.{Call}
 use Rattle.orders.specs.Order.{Order}

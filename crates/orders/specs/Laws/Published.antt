@@ -21,12 +21,12 @@ use Rattle.pool.specs.Updates.{Pair, charge}
 use Rattle.pool.specs.Places.{capacity, pairsOf}
 use Rattle.pool.specs.States.{Machine, Memory, load, store}
 use Rattle.pool.specs.Laws.Good.{Fine, load-store, fine-loaded, store-load}
-use Rattle.engine.specs.Check.{passing}
-use Rattle.engine.specs.Firing.{setAndFire, pick, committed}
+use Rattle.passing.specs.Check.{passing}
+use Rattle.firing.specs.Firing.{setAndFire, pick, committed}
 use Rattle.engine.specs.Calls as Calls
 use Rattle.engine.specs.Calls.{Answer, added, applied, discarded, Reply, goodInput}
 use Rattle.engine.specs.Laws.Inputs.{input-known}
-use Rattle.engine.specs.Laws.Passes.{passes-exactly}
+use Rattle.passing.specs.Laws.Passes.{passes-exactly}
 use Rattle.orders.specs.Calling.{Call, input, commit, made, running}
 use Rattle.orders.specs.Listed.{Turn, turn, Taken, taken, machineAfter}
 use Rattle.orders.specs.Order.{Accepted, yes-accepted}

@@ -16,9 +16,9 @@ use Rattle.pool.specs.Updates.{Pair, channels, isAmong}
 use Rattle.pool.specs.States.{Machine}
 use Rattle.pool.specs.Laws.Values.{channelsIn}
 use Rattle.pool.specs.Laws.Good.{Fine}
-use Rattle.engine.specs.Firing.{pick, committed}
-use Rattle.engine.specs.Laws.Among.{among-pick}
-use Rattle.engine.specs.Laws.Commits.{pick-known}
+use Rattle.firing.specs.Firing.{pick, committed}
+use Rattle.firing.specs.Laws.Among.{among-pick}
+use Rattle.firing.specs.Laws.Commits.{pick-known}
 use Rattle.orders.specs.Calculus.{Agree, In, Task, overridden, defUpds, localUpds, extTasks, changedBy, Program, Node, executes, tasksOf, sentTasks, New, Exec, ExecFail, Acts, exec, exec-fail, Discovers, discovered, System, programOf, Step, systemOf}
 use Rattle.orders.specs.Laws.Fired.{at}
 use Rattle.orders.specs.Laws.Known.{limit-same, defUpds-same, localUpds-same, extTasks-same, changedBy-same}

@@ -16,11 +16,11 @@ use Rattle.pool.specs.Updates.{Pair, Update, channels, valueAt, assign, eqPair,
 use Rattle.pool.specs.States.{Machine}
 use Rattle.pool.specs.Laws.Values.{channelsIn}
 use Rattle.pool.specs.Laws.Good.{Fine}
-use Rattle.engine.specs.Check.{within}
-use Rattle.engine.specs.Firing.{setAndFire, pick, without, committed}
-use Rattle.engine.specs.Laws.Enqueue.{update-true, update-refl}
-use Rattle.engine.specs.Laws.Among.{pick-among, without-among}
-use Rattle.engine.specs.Laws.Commits.{pick-known}
+use Rattle.pool.specs.Laws.Equal.{update-true, update-refl}
+use Rattle.passing.specs.Check.{within}
+use Rattle.firing.specs.Firing.{setAndFire, pick, without, committed}
+use Rattle.firing.specs.Laws.Among.{pick-among, without-among}
+use Rattle.firing.specs.Laws.Commits.{pick-known}
 use Rattle.orders.specs.Calculus.{Task, satisfies, updatesFrom, discovered, overridden, executes, enters, tasksOf, sentTasks, Exec, ExecFail, exec, exec-fail, input, programOf, Step, systemOf}
 use Rattle.orders.specs.Laws.Fired.{at}
 use Rattle.orders.specs.Laws.Nodes.{state-here, state-there, pool-here, pool-there}

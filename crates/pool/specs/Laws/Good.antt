@@ -37,7 +37,7 @@ count-bounded d (u ∷ us) = omega (arith, update-at-least-one d (u .part) (chan
 
 -- ---- storing
 
-all-well : (us : List Update) → all wellWritten (map place us) ≡ true
+pub all-well : (us : List Update) → all wellWritten (map place us) ≡ true
 all-well us = all-map wellWritten place us ∙ all-every (λ u. wellWritten (place u)) place-well us
 
 zeros-zero : (n : ℕ) → all isZero (zeros n) ≡ true
@@ -92,7 +92,8 @@ module _ (d : Deck) (n : ℕ) (x : Machine) (f : Fine d (capacity n) x) where
 
 -- ---- loading
 
-written-same : (l : List ℤ) → wellWritten l ≡ true → place (updateOf l) ≡ l
+-- a place that is well written holds the numbers of its update
+pub written-same : (l : List ℤ) → wellWritten l ≡ true → place (updateOf l) ≡ l
 unfolding wellWritten
 written-same l h = eqList-true eqZ eqZ-true (place (updateOf l)) l h
 
@@ -117,7 +118,7 @@ zeros-of [] h = refl
 zeros-of (v ∷ l) h =
     ap₂ (λ a b. a ∷ b) (eqZ-true v (pos 0) (all-head isZero v l h)) (zeros-of l (all-tail isZero v l h))
 
-updates-length : (n : ℕ) (pool : List ℤ) → length (updatesOf n pool) ≡ n
+pub updates-length : (n : ℕ) (pool : List ℤ) → length (updatesOf n pool) ≡ n
 unfolding updatesOf places
 updates-length zero pool = refl
 updates-length (suc n) pool = ap suc (updates-length n (drop 10 pool))
@@ -129,14 +130,14 @@ pairs-few [] = omega arith
 pairs-few (c ∷ []) = omega arith
 pairs-few (c ∷ v ∷ l) = let e = pairs-few l in omega arith
 
-place-short : (l : List ℤ) → length l ≤ 10 → short (updateOf l) ≡ true
+pub place-short : (l : List ℤ) → length l ≤ 10 → short (updateOf l) ≡ true
 unfolding short updateOf
 place-short l h =
     let count = natAbs (getD l 1 (pos 0)) in
     let pairs = pairsOf (drop 2 l) in
     le-leb (length (take count pairs)) 4 (omega (arith, length-take count pairs, pairs-few (drop 2 l), length-drop 2 l))
 
-updates-short : (n : ℕ) (pool : List ℤ) → all short (updatesOf n pool) ≡ true
+pub updates-short : (n : ℕ) (pool : List ℤ) → all short (updatesOf n pool) ≡ true
 unfolding updatesOf places lists
 updates-short zero pool = refl
 updates-short (suc n) pool = all-cons short (updateOf (take 10 pool)) (updatesOf n (drop 10 pool)) (place-short (take 10 pool) (omega (arith, length-take 10 pool))) (updates-short n (drop 10 pool))

@@ -32,7 +32,7 @@ pub update-back : (u : Update) → updateOf (place u) ≡ u
 unfolding pools
 update-back u = ap (λ l. record { part = u .part; pairs = l }) (pairs-back (u .pairs) (zeros (2 * (4 - length (u .pairs)))))
 
-numbers-length : (l : List Pair) → length (flatMap numbers l) ≡ 2 * length l
+pub numbers-length : (l : List Pair) → length (flatMap numbers l) ≡ 2 * length l
 unfolding lists
 numbers-length [] = refl
 numbers-length (a ∷ l) = let e = numbers-length l in omega arith
@@ -51,6 +51,10 @@ pub place-well : (u : Update) → wellWritten (place u) ≡ true
 unfolding wellWritten
 place-well u = ap (λ w. eqList eqZ (place w) (place u)) (update-back u) ∙ eqList-refl eqZ eqZ-refl (place u)
 
+pub map-back : (us : List Update) → map updateOf (map place us) ≡ us
+map-back [] = refl
+map-back (u ∷ us) = ap₂ (λ a b. a ∷ b) (update-back u) (map-back us)
+
 module _ (z : List ℤ) where
   pub places-back : (us : List Update) → all short us ≡ true → places (length us) (flatMap place us ++ z) ≡ map place us
   unfolding lists places
@@ -66,11 +70,7 @@ module _ (z : List ℤ) where
 
   pub updates-back : (us : List Update) → all short us ≡ true → updatesOf (length us) (flatMap place us ++ z) ≡ us
   unfolding updatesOf
-  updates-back us h = ap (map updateOf) (places-back us h) ∙ again us
-    where
-      again : (us : List Update) → map updateOf (map place us) ≡ us
-      again [] = refl
-      again (u ∷ us) = ap₂ (λ a b. a ∷ b) (update-back u) (again us)
+  updates-back us h = ap (map updateOf) (places-back us h) ∙ map-back us
 
 pub places-length : (us : List Update) → all short us ≡ true → length (flatMap place us) ≡ 10 * length us
 unfolding lists

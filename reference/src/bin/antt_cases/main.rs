@@ -84,10 +84,14 @@ fn write_crates(scratch: &Path, cases: &[Case]) -> io::Result<Vec<String>> {
         fs::create_dir_all(folder.join("specs"))?;
         fs::write(folder.join("src/lib.rt"), "// Generated cases: see specs/.\n")?;
         fs::write(folder.join("specs/Lib.antt"), "pub mod Cases\n")?;
-        let theorems = cases.iter().enumerate().map(|(at, case)| {
-            render::theorems(&format!("case-{}", index * CASES_OF_A_CRATE + at), case)
-        });
-        fs::write(folder.join("specs/Cases.antt"), render::HEADER.to_string() + &theorems.collect::<String>())?;
+        let theorems = cases
+            .iter()
+            .enumerate()
+            .map(|(at, case)| render::theorems(&format!("case-{}", index * CASES_OF_A_CRATE + at), case));
+        fs::write(
+            folder.join("specs/Cases.antt"),
+            render::HEADER.to_string() + &theorems.collect::<String>(),
+        )?;
         names.push(name);
     }
     Ok(names)

@@ -40,8 +40,7 @@ fn section(name: &str, deck: &[u8], number: u32, answer: &Result<Range<usize>, R
         Ok(range) => (bytes(&deck[range.clone()]), (0, 0)),
         Err(refusal) => ("[]".to_string(), (refusal.number, refusal.place)),
     };
-    let wanted =
-        format!("record {{ stretch = {stretch}; number = {}; place = {} }}", refusal.0, refusal.1);
+    let wanted = format!("record {{ stretch = {stretch}; number = {}; place = {} }}", refusal.0, refusal.1);
     theorem(name, &format!("section {} {number}", bytes(deck)), &wanted)
 }
 

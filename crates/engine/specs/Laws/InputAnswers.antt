@@ -1,0 +1,53 @@
+-- Input answers what the tests come to, and then what an input on what was tested comes to. Assumes nothing.
+use Prim.Native.Nat.{ℕ}
+use mathlib.Core.Path.{_≡_, sym, ap₂, _∙_}
+use mathlib.Core.List.{List}
+use lib.ListN.{length}
+use lib.IntN.{ℤ}
+use Rattle.refusals.specs.Outcome.{Outcome, refused, accepted, outcomes}
+use Rattle.deck.specs.Deck.{Deck}
+use Rattle.deck.specs.declared.Deck as Counted
+use Rattle.pool.specs.Places.{capacity}
+use Rattle.pool.specs.States.{Memory, load}
+use Rattle.passing.specs.Tabled.{deckOf}
+use Rattle.engine.specs.Calls.{Answer, Done, reply, tested, input}
+use Rattle.engine.specs.Answers.{memoryOf, replyOf}
+use Rattle.engine.specs.Tested.{Passed, entered, Leaves, Enters}
+use Rattle.engine.specs.Laws.StoredMemory.{stored-memory}
+
+pub input-refused : (s : List ℕ) (m : Memory) (p : ℕ) (l : List ℤ) (n at : ℕ) → tested s m ≡ refused n at
+    → replyOf (refused n at) (m .state) (m .pool) ≡ input s m p l
+unfolding input reply outcomes
+input-refused s m p l n at e = rw e
+
+input-entered : (s : List ℕ) (m : Memory) (p : ℕ) (l : List ℤ) (d : Deck) → tested s m ≡ accepted d
+    → input s m p l ≡ reply m (entered d (capacity (length (m .pool))) (load m) p l)
+unfolding input entered outcomes
+input-entered s m p l d e = rw e
+
+-- what is left of an outcome is its reply
+left-reply : (d : Deck) (C : ℕ) (o : Outcome Done) (vs₀ : List ℤ) (pending₀ : ℕ) (pool₀ : List ℤ)
+    (answer : Outcome Answer) (vs : List ℤ) (pending : ℕ) (pool : List ℤ) → length pool ≡ length pool₀
+    → Leaves d C o vs₀ pending₀ pool₀ answer vs pending pool
+    → replyOf answer (record { values = vs; pending = pending }) pool
+    ≡ reply (memoryOf (record { values = vs₀; pending = pending₀ }) pool₀) o
+unfolding reply
+left-reply d C (refused n p) vs₀ pending₀ pool₀ answer vs pending pool long h =
+    ap₂ (λ a v. replyOf a (record { values = v; pending = pending }) pool) (h .0) (h .1)
+    ∙ ap₂ (λ k q. replyOf (refused n p) (record { values = vs₀; pending = k }) q) (h .2) (h .3)
+left-reply d C (accepted a) vs₀ pending₀ pool₀ answer vs pending pool long h =
+    ap₂ (λ x m. record { answer = x; memory = m }) (h .0)
+    (stored-memory d C (a .machine) vs pending (h .1 .0) pool (length pool₀) (h .1 .1) long)
+
+pub input-answers : {s rules parts memo : List ℕ} {vs₀ : List ℤ} {pending₀ : ℕ} {pool₀ : List ℤ} {k : Counted.Deck} {total : ℕ}
+    → Passed s rules parts memo (memoryOf (record { values = vs₀; pending = pending₀ }) pool₀) k total
+    → (p : ℕ) (l : List ℤ) {answer : Outcome Answer} {vs : List ℤ} {pending : ℕ} {pool : List ℤ} → length pool ≡ length pool₀
+    → Enters s vs₀ pending₀ total pool₀ p l answer vs pending pool
+    → replyOf answer (record { values = vs; pending = pending }) pool
+    ≡ input s (memoryOf (record { values = vs₀; pending = pending₀ }) pool₀) p l
+input-answers {s} {vs₀ = vs₀} {pending₀ = pending₀} {pool₀ = pool₀} w p l {answer} {vs} {pending} {pool} long h =
+    let m = memoryOf (record { values = vs₀; pending = pending₀ }) pool₀ in
+    let d = deckOf s in
+    let C = capacity (length pool₀) in
+    left-reply d C (entered d C (load m) p l) vs₀ pending₀ pool₀ answer vs pending pool long (h (load m) (w .loaded))
+    ∙ sym (input-entered s m p l d (w .accepted))

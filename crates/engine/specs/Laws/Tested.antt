@@ -1,0 +1,161 @@
+-- The tests that every call begins with: from what the code finds to the definition. Assumes nothing.
+use Prim.Native.Nat.{ℕ, _*_, _/_, _%_, _≤_, _<_}
+use mathlib.Core.Path.{_≡_, refl, sym, ap, ap₂, _∙_, subst}
+use mathlib.Core.Logic.{inl, inr}
+use mathlib.Core.Bool.{Bool, true, false, _&&_}
+use mathlib.Core.List.{List}
+use native.Mathlib.Omega.{arith}
+use lib.Dec.{leb, eqb}
+use lib.ListN.{length, getD, replicate, length-replicate}
+use lib.IntN.{ℤ}
+use borrow.Author.Tests.{lt-leb, le-leb, leb-true}
+use Rattle.lists.specs.Laws.Booleans.{and-left, and-right}
+use Rattle.refusals.specs.Outcome.{Outcome, refused, accepted, outcomes}
+use Rattle.refusals.specs.Numbers.{badPool, badState}
+use Rattle.deck.specs.Deck.{Deck}
+use Rattle.deck.specs.declared.Deck as Counted
+use Rattle.graph.specs.Laws.Cycles.{Acyclic, no-cycle}
+use Rattle.graph.specs.Laws.Targets.{known-targets}
+use Rattle.charge.specs.Memo.{Memo, Ready}
+use Rattle.pool.specs.Updates.{charge}
+use Rattle.pool.specs.Places.{capacity, updatesOf}
+use Rattle.pool.specs.States.{Memory, load, goodLength, good}
+use Rattle.pool.specs.Laws.Good.{fine-loaded, updates-length}
+use Rattle.pool.specs.Laws.Laid.{laid-good}
+use Rattle.states.specs.Answer.{goodnessOf}
+use Rattle.states.specs.declared.Goodness.{Goodness}
+use Rattle.states.specs.declared.Goodness.the-variants.{Good, Bad}
+use Rattle.states.specs.Laws.Judged.{good-answer, bad-answer}
+use Rattle.states.specs.Laws.Shape.{shape-goodness}
+use Rattle.passing.specs.Check.{passing}
+use Rattle.passing.specs.Tabled.{layoutOf, deckOf, Tabled}
+use Rattle.passing.specs.Judged as Judging
+use Rattle.passing.specs.Judged.{shape}
+use Rattle.passing.specs.Laws.Passing.{passing-clean}
+use Rattle.passing.specs.Laws.Judged.{zeros-table}
+use Rattle.steps.specs.Commits.{Stored}
+use Rattle.engine.specs.Calls.{tested}
+use Rattle.engine.specs.Answers.{memoryOf}
+use Rattle.engine.specs.Tested.{TestsState, Passed, Tests}
+use Rattle.engine.specs.declared.Tested.{Tested}
+use Rattle.engine.specs.declared.Tested.the-variants.{Ready as Readied, Refused}
+
+-- ---- 9
+
+pub length-low : (n : ℕ) → n < 10 → goodLength n ≡ false
+unfolding goodLength
+length-low n h = rw (lt-leb 10 n h)
+
+pub length-high : (n : ℕ) → 10 ≤ n → 655350 < n → goodLength n ≡ false
+unfolding goodLength
+length-high n l h = rw (le-leb 10 n l, lt-leb n 655350 h)
+
+pub length-mid : (n : ℕ) → 10 ≤ n → n ≤ 655350 → goodLength n ≡ eqb (n % 10) 0
+unfolding goodLength
+length-mid n l h = rw (le-leb 10 n l, le-leb n 655350 h)
+
+pub length-bounded : (n : ℕ) → goodLength n ≡ true → capacity n ≤ 65535
+unfolding goodLength capacity
+length-bounded n h =
+    let two = and-left (leb 10 n && leb n 655350) (eqb (n % 10) 0) h in
+    let most = leb-true n 655350 (and-right (leb 10 n) (leb n 655350) two) in
+    omega arith
+
+pub capacity-places : (n : ℕ) → 10 * capacity n ≤ n
+unfolding capacity
+capacity-places n = omega arith
+
+-- ---- a memo of zeros is right
+
+pub memo-none : (d : Deck) → Memo d (replicate 1024 0)
+memo-none d =
+    let none : ℕ = 0 in
+    record { long = length-replicate 1024 none; right = λ i h. absurd (h (zeros-table 1024 i)) }
+
+-- ---- the definition's tests, one by one
+
+module _ (s : List ℕ) (m : Memory) where
+  pub tested-refused : (n p : ℕ) → passing s ≡ refused n p → tested s m ≡ refused n p
+  unfolding tested outcomes
+  tested-refused n p e = rw e
+
+  module _ (w : passing s ≡ accepted (layoutOf s)) where
+    pub tested-pool : goodLength (length (m .pool)) ≡ false → tested s m ≡ refused badPool 0
+    unfolding tested outcomes
+    tested-pool l = rw (w, l)
+
+    pub tested-state : goodLength (length (m .pool)) ≡ true → good (deckOf s) m ≡ false → tested s m ≡ refused badState 0
+    unfolding tested outcomes
+    tested-state l g = rw (w, l, g)
+
+    pub tested-good : goodLength (length (m .pool)) ≡ true → good (deckOf s) m ≡ true → tested s m ≡ accepted (deckOf s)
+    unfolding tested outcomes
+    tested-good l g = rw (w, l, g)
+
+-- ---- all that the rest of a call needs
+
+-- the numbers of a good state stand for what they load as
+held-loaded : (d : Deck) (m : Memory) (total : ℕ) → good d m ≡ true → total ≡ charge d (updatesOf (m .state .pending) (m .pool))
+    → Stored d (capacity (length (m .pool))) (load m) (m .state .values) (m .state .pending) total (m .pool)
+unfolding load
+held-loaded d m total g t =
+    record {
+      fine = fine-loaded d m g;
+      values = refl;
+      count = sym (updates-length (m .state .pending) (m .pool));
+      laid = laid-good d m g;
+      charged = t;
+    }
+
+module _ (s rules parts : List ℕ) (k : Counted.Deck) (n : ℕ) (w : Judging.Passed s rules parts k n) where
+  pub passed-acyclic : Acyclic (deckOf s)
+  passed-acyclic =
+      no-cycle (known-targets (deckOf s) (w .tabled .counts .formed)) .0 (passing-clean s (layoutOf s) (w .passes) .2)
+
+  goodness-same : (m : Memory) → goodnessOf (shape rules parts k) m ≡ goodnessOf (deckOf s) m
+  goodness-same m =
+      rw (w .tabled .counts .channels, w .tabled .counts .rules, w .tabled .counts .parts)
+      (shape-goodness (w .tabled .sets) (w .tabled .ranged) m)
+
+  pub state-ready : {memo : List ℕ} → memo ≡ replicate 1024 0
+      → Ready rules parts (k .channels) (k .rules) (k .parts) memo × (k .channels ≤ 32)
+  state-ready e = (
+    record { tables = w .acyclic; memo = subst (Memo (shape rules parts k)) (sym e) (memo-none (shape rules parts k)) },
+    omega (arith, w .tabled .counts .channels, w .tabled .counts .formed .channels),
+  )
+
+  module _ (memo : List ℕ) (pool vs : List ℤ) (pending : ℕ) where
+    abbrev m : Memory
+    m = memoryOf (record { values = vs; pending = pending }) pool
+
+    pub state-passed : (c : Counted.Deck) (total : ℕ) → TestsState k rules parts memo pool vs pending (Readied c total) → Passed s rules parts memo m c total
+    state-passed c total t =
+        subst (λ c. Passed s rules parts memo m c total) (sym (t .0))
+        (record {
+          accepted = tested-good s m (w .passes) (t .1) (a .0);
+          entering = record {
+            tabled = w .tabled;
+            ready = record { tables = w .acyclic; memo = t .3 };
+            acyclic = passed-acyclic;
+            bounded = length-bounded (length pool) (t .1);
+            places = capacity-places (length pool);
+            machine = load m;
+            stored = held;
+          };
+          loaded = held;
+        })
+      where
+        a : (good (deckOf s) m ≡ true) × (total ≡ charge (deckOf s) (updatesOf pending pool))
+        a = good-answer (deckOf s) m (t .2 ∙ goodness-same m)
+
+        held : Stored (deckOf s) (capacity (length pool)) (load m) vs pending total pool
+        held = held-loaded (deckOf s) m total (a .0) (a .1)
+
+    pub state-refused : (n p : ℕ) → TestsState k rules parts memo pool vs pending (Refused n p) → tested s m ≡ refused n p
+    state-refused n p (z, inl x) = tested-pool s m (w .passes) (x .1) ∙ ap₂ refused (sym (x .0)) (sym z)
+    state-refused n p (z, inr x) =
+        tested-state s m (w .passes) (x .1) (bad-answer (deckOf s) m (x .2 ∙ goodness-same m)) ∙ ap₂ refused (sym (x .0)) (sym z)
+
+    pub state-tests : (r : Tested) → TestsState k rules parts memo pool vs pending r → Tests s rules parts memo pool vs pending r
+    state-tests (Readied c total) t = state-passed c total t
+    state-tests (Refused n p) t = state-refused n p t

@@ -1,0 +1,3 @@
+-- Lemmas that several proofs use.
+pub mod Bits
+pub mod Naturals

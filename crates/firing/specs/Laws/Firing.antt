@@ -1,0 +1,96 @@
+-- What every update of a firing has: a known part, different known channels, at most four of them. Assumes nothing.
+use Prim.Native.Nat.{ℕ, _<_}
+use mathlib.Core.Path.{_≡_, refl, _∙_, ap}
+use mathlib.Core.Bool.{Bool, true, not, _&&_, cond}
+use mathlib.Core.List.{List, [], _∷_, map, map-map}
+use lib.Dec.{ltb, leb}
+use lib.ListN.{length, length-map}
+use lib.IntN.{ℤ}
+use borrow.Author.Tests.{lt-ltb, le-leb}
+use Rattle.lists.specs.Lists.{lists, all, flatMap, distinct}
+use Rattle.lists.specs.Laws.Booleans.{and-both}
+use Rattle.lists.specs.Laws.Alls.{all-none, all-cons, all-append, all-cond, all-every, all-map, all-flatMap}
+use Rattle.lists.specs.Laws.Members.{all-member}
+use Rattle.deck.specs.Deck.{Deck, Action, Rule, R, N, ruleAt, targets, active}
+use Rattle.deck.specs.Laws.Formed.{Formed, Sound}
+use Rattle.charge.specs.Charge.{others}
+use Rattle.charge.specs.Laws.Equations.{others-inside}
+use Rattle.pool.specs.Updates.{Update, channels}
+use Rattle.pool.specs.States.{known}
+use Rattle.pool.specs.Laws.Places.{short}
+use Rattle.firing.specs.Firing.{evaluated, sent, holds, firedHere, firedThere, fired}
+
+-- an update has the channels of the action that it came from
+pub sent-channels : (values : List ℤ) (p q : ℕ) (a : Action) → map (λ x. x .channel) (map (evaluated values p q) a) ≡ targets a
+unfolding targets evaluated
+sent-channels values p q a = map-map (λ x. x .channel) (evaluated values p q) a
+
+module _ (d : Deck) (values : List ℤ) (p : ℕ) where
+  -- A test that holds for whatever an action sends holds for whatever a firing adds
+  module _ (test : Update → Bool) (lp : p < N d)
+      (default : (q r : ℕ) → q < N d → all test (sent values p q (ruleAt d r .default)) ≡ true)
+      (action : (q r : ℕ) → q < N d → all test (sent values p q (ruleAt d r .action)) ≡ true) where
+    here-all : (r : ℕ) → all test (firedHere values p (ruleAt d r)) ≡ true
+    unfolding firedHere
+    here-all r =
+        let rule = ruleAt d r in
+        all-append test (sent values p p (rule .default)) (cond (not (rule .everywhere) && holds values p p rule) (sent values p p (rule .action)) [])
+        (default p r lp)
+        (all-cond test (not (rule .everywhere) && holds values p p rule) (sent values p p (rule .action)) [] (action p r lp) (all-none test))
+
+    there-all : (r q : ℕ) → q < N d → all test (firedThere values p (ruleAt d r) q) ≡ true
+    unfolding firedThere
+    there-all r q lq =
+        let rule = ruleAt d r in
+        all-cond test (rule .everywhere && holds values p q rule) (sent values p q (rule .action)) [] (action q r lq) (all-none test)
+
+    others-all : (r : ℕ) → all test (flatMap (firedThere values p (ruleAt d r)) (others d p)) ≡ true
+    others-all r =
+        all-flatMap test (firedThere values p (ruleAt d r)) (others d p)
+        (all-member (λ q. all test (firedThere values p (ruleAt d r) q)) (others d p) .1 (λ q m. there-all r q (others-inside d p q m)))
+
+    -- over the rules that are active
+    rules-all : (f : Rule → List Update) → ((r : ℕ) → all test (f (ruleAt d r)) ≡ true) → (rs : List ℕ) → all test (flatMap f (map (ruleAt d) rs)) ≡ true
+    rules-all f h rs =
+        all-flatMap test f (map (ruleAt d) rs)
+        (all-map (λ r. all test (f r)) (ruleAt d) rs ∙ all-every (λ r. all test (f (ruleAt d r))) h rs)
+
+    pub fired-all : (cs : List ℕ) → all test (fired d values p cs) ≡ true
+    unfolding fired
+    fired-all cs =
+        let rs = active d p cs in
+        let rules = map (ruleAt d) rs in
+        all-append test (flatMap (firedHere values p) rules) (flatMap (λ r. flatMap (firedThere values p r) (others d p)) rules)
+        (rules-all (firedHere values p) here-all rs)
+        (rules-all (λ r. flatMap (firedThere values p r) (others d p)) others-all rs)
+
+  sent-known : (q : ℕ) (a : Action) → q < N d → Sound (R d) a → all (known d) (sent values p q a) ≡ true
+  unfolding sent lists known channels
+  sent-known q [] lq s = refl
+  sent-known q (x ∷ a) lq s =
+      let same = sent-channels values p q (x ∷ a) in
+      all-cons (known d) (record { part = q; pairs = map (evaluated values p q) (x ∷ a) }) []
+      (and-both (and-both (and-both (lt-ltb q (N d) lq) refl) (ap (all (λ c. ltb c (R d))) same ∙ s .known))
+      (ap distinct same ∙ s .different))
+      refl
+
+  sent-short : (q : ℕ) (a : Action) → Sound (R d) a → all short (sent values p q a) ≡ true
+  unfolding sent lists short
+  sent-short q [] s = refl
+  sent-short q (x ∷ a) s =
+      all-cons short (record { part = q; pairs = map (evaluated values p q) (x ∷ a) }) []
+      (ap (λ n. leb n 4) (length-map (x ∷ a) (evaluated values p q)) ∙ le-leb (length (x ∷ a)) 4 (s .few))
+      refl
+
+  module _ (f : Formed d) (lp : p < N d) where
+    pub fired-known : (cs : List ℕ) → all (known d) (fired d values p cs) ≡ true
+    fired-known =
+        fired-all (known d) lp
+        (λ q r lq. sent-known q (ruleAt d r .default) lq (f .default r))
+        (λ q r lq. sent-known q (ruleAt d r .action) lq (f .action r))
+
+    pub fired-short : (cs : List ℕ) → all short (fired d values p cs) ≡ true
+    fired-short =
+        fired-all short lp
+        (λ q r lq. sent-short q (ruleAt d r .default) (f .default r))
+        (λ q r lq. sent-short q (ruleAt d r .action) (f .action r))

@@ -1,0 +1,63 @@
+-- `passing::first_outside` meets its contract. The loop's invariant: the parts before p are within their limits. Assumes nothing.
+use Prim.Native.Nat.{ℕ, _+_, _-_, _≤_, _<_}
+use mathlib.Core.Path.{_≡_, sym, ap, _∙_}
+use mathlib.Core.Bool.{true, false, not}
+use native.Mathlib.Omega.{arith}
+use borrow.Author.Count.{below-more}
+use borrow.Author.Needs.{needs}
+use Rattle.deck.specs.Deck.{N}
+use Rattle.lists.specs.Laws.First.{first-is}
+use Rattle.passing.specs.Check.{within}
+use Rattle.passing.specs.Tabled.{deckOf}
+use Rattle.passing.proofs.first_outside.Statement.{statement}
+use Rattle.passing.proofs.first_outside.Tie as tie
+
+abbrev Inv-loop : tie.InvT-loop
+Inv-loop deck counts parts values n p₀ p =
+    (p ≤ n) × ((k : ℕ) → k < p → not (within (deckOf deck) k values) ≡ false)
+
+abbrev μ-loop : tie.MeasureT-loop
+μ-loop deck counts parts values n p₀ p = n - p
+
+loop-again : tie.Need-loop-again Inv-loop μ-loop
+loop-again c =
+    let l = c .before .before .before in
+    let a = l .before .before .before .args in
+    let holds : within (deckOf (a .deck .now)) (l .loop .p) (a .values .now) ≡ true = sym (c .before .within .ensures) ∙ c .if1 .taken in
+    (omega arith, below-more (λ k. not (within (deckOf (a .deck .now)) k (a .values .now)) ≡ false) _ (l .loop .inv .1) (ap not holds))
+
+returns : tie.Need-returns Inv-loop μ-loop
+returns c =
+    let l = c .before .before .before in
+    let s = l .before .before .before in
+    let a = s .args in
+    let d = deckOf (a .deck .now) in
+    let n = s .pre .0 .counts .parts in
+    first-is (λ p. not (within d p (a .values .now))) (N d) (l .loop .p) (omega (arith, n))
+    (λ _. ap not (sym (c .before .within .ensures) ∙ c .if1 .left))
+    (l .loop .inv .1)
+
+returns-2 : tie.Need-returns-2 Inv-loop μ-loop
+returns-2 c =
+    let l = c .before in
+    let s = l .before .before .before in
+    let a = s .args in
+    let d = deckOf (a .deck .now) in
+    let n = s .pre .0 .counts .parts in
+    first-is (λ p. not (within d p (a .values .now))) (N d) (a .counts .parts) (omega (arith, n))
+    (λ h. absurd (omega (arith, n)))
+    (λ k h. l .loop .inv .1 k (omega (arith, c .loop-test .left)))
+
+pub first-outside-spec : {M : Type 1} → statement M
+first-outside-spec =
+    tie.close
+    (tie.spec
+    Inv-loop
+    μ-loop
+    (λ c. (omega arith, λ k h. absurd (omega arith)))
+    (λ c κs. search needs)
+    (λ c. omega arith)
+    (λ c. omega arith)
+    loop-again
+    returns
+    returns-2)

@@ -1,0 +1,62 @@
+-- What the tests of a deck answer, in code. Assumes nothing.
+use Prim.Native.Nat.{ℕ, _<_}
+use mathlib.Core.Path.{_≡_}
+use mathlib.Core.Logic.{_⊎_}
+use mathlib.Core.List.{List}
+use Rattle.refusals.specs.Outcome.{refused, accepted}
+use Rattle.refusals.specs.Numbers.{cyclicGraph, overcharged}
+use Rattle.expression.specs.Laws.Bytes.{Bytes}
+use Rattle.deck.specs.Deck.{Deck, R}
+use Rattle.deck.specs.Layout.{read}
+use Rattle.deck.specs.Shape.{shapeOf}
+use Rattle.deck.specs.declared.Deck as Counted
+use Rattle.graph.specs.Laws.Cycles.{KnownTargets}
+use Rattle.graph.specs.FirstCycle.{firstCycle}
+use Rattle.graph.specs.Masks.{Sized}
+use Rattle.charge.specs.Charge.{largestCharge}
+use Rattle.charge.specs.Memo.{AcyclicTables}
+use Rattle.charge.specs.Answer.{boundOf}
+use Rattle.charge.specs.declared.Bound.the-variants.{Within, Above}
+use Rattle.passing.specs.Check.{passing}
+use Rattle.passing.specs.Tabled.{layoutOf, deckOf, Tabled}
+use Rattle.passing.specs.declared.Judged.{Judged}
+use Rattle.passing.specs.declared.Judged.the-variants.{Passing, Refused}
+
+-- the deck that graph and charge see in the tables
+abbrev pub shape : List ℕ → List ℕ → Counted.Deck → Deck
+shape rules parts k = shapeOf rules parts (k .channels) (k .rules) (k .parts)
+
+-- tables that the searches can take
+pub record RulesKnown (rules parts : List ℕ) (k : Counted.Deck) : Type 0 where
+  pub sized : Sized rules parts (k .rules) (k .parts)
+  pub few : k .channels < 33
+  pub known : KnownTargets (shape rules parts k)
+
+-- the lowest cycle, else the lowest charge above the bound, else the largest charge
+abbrev pub JudgesRules : List ℕ → List ℕ → Counted.Deck → Judged → Type 0
+JudgesRules rules parts k (Passing c n) =
+    (c ≡ k)
+    × (firstCycle (shape rules parts k) ≡ k .channels)
+    × (boundOf (shape rules parts k) ≡ Within n)
+    × AcyclicTables rules parts (k .channels) (k .rules) (k .parts)
+JudgesRules rules parts k (Refused n p) =
+    ((n ≡ cyclicGraph) × (firstCycle (shape rules parts k) ≡ p) × (p < k .channels))
+    ⊎ ((n ≡ overcharged) × (firstCycle (shape rules parts k) ≡ k .channels) × (boundOf (shape rules parts k) ≡ Above p))
+
+-- a deck that was read, and its tables
+pub record WholeKnown (s : List ℕ) (k : Counted.Deck) (rules parts : List ℕ) : Type 0 where
+  pub tabled : Tabled s k rules parts
+  pub read : read s ≡ accepted (layoutOf s)
+  pub bytes : Bytes s
+
+-- a deck that passes, and what its tables hold
+pub record Passed (s rules parts : List ℕ) (k : Counted.Deck) (charge : ℕ) : Type 0 where
+  pub passes : passing s ≡ accepted (layoutOf s)
+  pub largest : largestCharge (deckOf s) ≡ charge
+  pub tabled : Tabled s k rules parts
+  pub acyclic : AcyclicTables rules parts (k .channels) (k .rules) (k .parts)
+  pub bytes : Bytes s
+
+abbrev pub Judges : List ℕ → List ℕ → List ℕ → Judged → Type 0
+Judges s rules parts (Passing k n) = Passed s rules parts k n
+Judges s rules parts (Refused n p) = passing s ≡ refused n p

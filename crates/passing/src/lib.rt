@@ -1,0 +1,151 @@
+// The tests of a deck. The definitions are in specs/.
+ghost use mathlib.Core.Path.{_≡_};
+ghost use mathlib.Core.Bool.{Bool, not};
+ghost use mathlib.Core.List.{_++_};
+ghost use Prim.Native.Nat.{_+_, _*_, _≤_, _<_};
+ghost use lib.ListN.{length, drop, replicate};
+ghost use Rattle.lists.specs.Lists.{filter, below, firstOr};
+ghost use Rattle.deck.specs.Deck.{N};
+ghost use Rattle.pool.specs.Places.{zeros};
+ghost use Rattle.passing.specs.Check.{openingValues};
+ghost use Rattle.passing.specs.Check as Check;
+ghost use Rattle.passing.specs.Stands.{HasTruth, TruthIs, valuesFrom};
+ghost use Rattle.passing.specs.Tabled.{layoutOf, deckOf, PartsKnown};
+ghost use Rattle.passing.specs.Judged.{RulesKnown, JudgesRules, WholeKnown, Judges};
+ghost use Rattle.passing.specs.declared.Judged.the-variants.{Refused};
+use deck::Deck;
+
+// The value of the truth that stands at an offset of the deck.
+pub fn truth_from(deck: &[u8], at: usize, own: &[i32], far: &[i32]) -> bool
+    requires { ⌜ HasTruth (now deck) at (length (now own)) (length (now far)) ⌝ }
+    ensures { λ r. ⌜ TruthIs (now (deck .entry)) at (now (own .entry)) (now (far .entry)) r ⌝ }
+{
+    let n = deck[at] as usize;
+    let from = at + 1;
+    let to = from + n;
+    let value = expression::truth_value(&deck[from..to], own, far);
+    match value {
+        expression::TruthValue::Value(b) => b,
+        expression::TruthValue::None => false,
+    }
+}
+
+// So many opening values, written to the front of a part's stretch of the table.
+fn open_part(stretch: &mut [i32], deck: &[u8], at: usize, count: usize)
+    requires { ⌜ (count ≤ length (now stretch)) × (at + 4 * count ≤ length (now deck)) ⌝ }
+    ensures { λ _. ⌜ now (stretch .exit) ≡ valuesFrom (now (deck .entry)) at count ++ drop count (now (stretch .entry)) ⌝ }
+{
+    let mut c: usize = 0;
+    while c < count {
+        let o = at + 4 * c;
+        let word = expression::word_of(deck[o], deck[o + 1], deck[o + 2], deck[o + 3]);
+        let value = expression::signed_of(word);
+        stretch[c] = value;
+        c += 1;
+    }
+}
+
+// Whether part p is within its limit.
+pub fn within(deck: &[u8], counts: Deck, parts: &[u64], values: &[i32], p: usize) -> bool
+    requires { ⌜ PartsKnown (now deck) counts (now parts) × (length (now values) ≡ 512) × (p < counts .parts) ⌝ }
+    ensures { λ r. ⌜ r ≡ Check.within (deckOf (now (deck .entry))) p (now (values .entry)) ⌝ }
+{
+    let at = parts[4 * p + 2] as usize;
+    let from = Deck::CHANNELS * p;
+    let to = from + counts.channels;
+    truth_from(deck, at, &values[from..to], &values[0..0])
+}
+
+// The opening values of all parts, written into a table of zeros.
+pub fn open_parts(values: &mut [i32], deck: &[u8], counts: Deck, parts: &[u64])
+    requires { ⌜ PartsKnown (now deck) counts (now parts) × (now values ≡ zeros 512) ⌝ }
+    ensures { λ _. ⌜ now (values .exit) ≡ openingValues (deckOf (now (deck .entry))) ⌝ }
+{
+    let n = counts.parts;
+    let channels = counts.channels;
+    let mut p: usize = 0;
+    while p < n {
+        let at = parts[4 * p + 1] as usize;
+        let from = Deck::CHANNELS * p;
+        open_part(&mut values[from..], deck, at, channels);
+        p += 1;
+    }
+}
+
+// The lowest part that is outside its limit, or the number of parts where none is.
+fn first_outside(deck: &[u8], counts: Deck, parts: &[u64], values: &[i32]) -> usize
+    requires { ⌜ PartsKnown (now deck) counts (now parts) × (length (now values) ≡ 512) ⌝ }
+    ensures { λ r. ⌜ r ≡ firstOr (N (deckOf (now (deck .entry)))) (filter (λ p. not (Check.within (deckOf (now (deck .entry))) p (now (values .entry)))) (below (N (deckOf (now (deck .entry)))))) ⌝ }
+{
+    let n = counts.parts;
+    let mut p: usize = 0;
+    while p < n {
+        if within(deck, counts, parts, values, p) {
+            p += 1;
+        } else {
+            return p;
+        }
+    }
+    n
+}
+
+// A deck that passes, with the largest charge of its carried rules; or the refusal, 1 to 8.
+pub enum Judged {
+    Passing { counts: Deck, charge: u32 },
+    Refused { number: u32, place: u32 },
+}
+
+fn refused(number: u32, place: usize) -> Judged
+    requires { ⌜ place ≤ 65536 ⌝ }
+    ensures { λ r. ⌜ r ≡ Refused number place ⌝ }
+{
+    Judged::Refused {
+        number: number,
+        place: place as u32,
+    }
+}
+
+// 7 and 8, for a deck whose parts open within their limits.
+fn judge_rules(rules: &[u64], parts: &[u64], counts: Deck) -> Judged
+    requires { ⌜ RulesKnown (now rules) (now parts) counts ⌝ }
+    ensures { λ r. ⌜ JudgesRules (now (rules .entry)) (now (parts .entry)) counts r ⌝ }
+{
+    let c = graph::first_cycle(rules, parts, counts.channels, counts.rules, counts.parts);
+    if c < counts.channels {
+        return refused(refusals::CYCLIC_GRAPH, c);
+    }
+    let bound = charge::first_above(rules, parts, counts.channels, counts.rules, counts.parts);
+    match bound {
+        charge::Bound::Above(place) => refused(refusals::OVERCHARGED, place),
+        charge::Bound::Within(charge) => Judged::Passing {
+            counts: counts,
+            charge: charge,
+        },
+    }
+}
+
+// 6 to 8, for a deck that was read.
+fn judge_whole(deck: &[u8], counts: Deck, rules: &[u64], parts: &[u64]) -> Judged
+    requires { ⌜ WholeKnown (now deck) counts (now rules) (now parts) ⌝ }
+    ensures { λ r. ⌜ Judges (now (deck .entry)) (now (rules .entry)) (now (parts .entry)) r ⌝ }
+{
+    let mut values = [0i32; Deck::VALUES];
+    open_parts(&mut values, deck, counts, parts);
+    let p = first_outside(deck, counts, parts, &values);
+    if p < counts.parts {
+        return refused(refusals::OPENS_OUTSIDE, p);
+    }
+    judge_rules(rules, parts, counts)
+}
+
+// 1 to 8: the deck's tables are filled, and the tests follow in their order.
+pub fn judge(deck: &[u8], rules: &mut [u64], parts: &mut [u64]) -> Judged
+    requires { ⌜ (now rules ≡ replicate 512 0) × (now parts ≡ replicate 64 0) ⌝ }
+    ensures { λ r. ⌜ Judges (now (deck .entry)) (now (rules .exit)) (now (parts .exit)) r ⌝ }
+{
+    let loaded = deck::read(deck, rules, parts);
+    match loaded {
+        deck::Loaded::Wrong { number, place } => refused(number, place),
+        deck::Loaded::Whole(counts) => judge_whole(deck, counts, rules, parts),
+    }
+}

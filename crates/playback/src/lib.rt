@@ -1,0 +1,165 @@
+// Goes through a text of calls on the memory of one host, and prints an answer for each and at the end what is left in memory.
+// What is read and written is tested and not proved.
+mod host;
+mod lines;
+mod output;
+
+ghost use Prim.Native.Nat.{_≤_};
+ghost use Rattle.report.specs.Input.{Within};
+use deck::Deck;
+use host::Host;
+use host::LONGEST_POOL;
+use output::ROOM;
+use report::Input;
+use script::KEPT;
+use script::Line;
+
+// A host between two bytes of its text: its memory but for the pool, the line as far as it is read, and how many bytes of output
+// wait to be written.
+pub struct Progress {
+    pub host: Host,
+    pub line: Line,
+    pub waiting: usize,
+}
+
+// Goes through one line, now that it has ended.
+fn end_line(
+    deck: &[u8],
+    pool: &mut [i32; LONGEST_POOL],
+    progress: Progress,
+    numbers: &mut [i32; KEPT],
+    out: &mut [u8; ROOM],
+) -> Progress
+    requires { ⌜ (progress .host .length ≤ 700000) × (progress .waiting ≤ 65536) ⌝ }
+    ensures { λ r. ⌜ (r .host .length ≤ 700000) × (r .waiting ≤ 65536) ⌝ }
+{
+    let line = progress.line;
+    let before = progress.host;
+    let count = line.kept();
+    let request = line.request(numbers);
+    let turn = host::perform(deck, pool, before, request, numbers, count);
+    let answer = turn.answer;
+    let after = turn.host;
+    let waiting = output::print(answer, out, progress.waiting);
+    Progress {
+        host: after,
+        line: Line::empty(),
+        waiting: waiting,
+    }
+}
+
+// Goes through some bytes of the text.
+fn play_bytes(
+    deck: &[u8],
+    pool: &mut [i32; LONGEST_POOL],
+    progress: Progress,
+    numbers: &mut [i32; KEPT],
+    out: &mut [u8; ROOM],
+    bytes: &[u8],
+) -> Progress
+    requires { ⌜ (progress .host .length ≤ 700000) × (progress .waiting ≤ 65536) ⌝ }
+    ensures { λ r. ⌜ (r .host .length ≤ 700000) × (r .waiting ≤ 65536) ⌝ }
+{
+    let mut now = progress;
+    let mut i: usize = 0;
+    while i < bytes.len() {
+        let b = bytes[i];
+        if b == b'\n' {
+            now = end_line(deck, pool, now, numbers, out);
+        } else {
+            let line = now.line;
+            now.line = line.with_byte(b, numbers);
+        }
+        i += 1;
+    }
+    now
+}
+
+// Reads some bytes of the text and goes through them. At its end, and where it cannot be read, there are none.
+pub struct Played {
+    pub progress: Progress,
+    pub more: bool,
+}
+
+fn play_some(
+    deck: &[u8],
+    pool: &mut [i32; LONGEST_POOL],
+    progress: Progress,
+    numbers: &mut [i32; KEPT],
+    out: &mut [u8; ROOM],
+    fd: i32,
+) -> Played
+    requires { ⌜ (progress .host .length ≤ 700000) × (progress .waiting ≤ 65536) ⌝ }
+    ensures { λ r. ⌜ (r .progress .host .length ≤ 700000) × (r .progress .waiting ≤ 65536) ⌝ }
+{
+    let mut bytes = io::large_buffer();
+    let got = libc::read(fd, &mut bytes);
+    if got < 0 {
+        os::fail(b"cannot read the calls");
+    }
+    if got <= 0 {
+        return Played {
+            progress: progress,
+            more: false,
+        };
+    }
+    let n = io::count(got, &bytes);
+    let after = play_bytes(deck, pool, progress, numbers, out, &bytes[..n]);
+    Played {
+        progress: after,
+        more: true,
+    }
+}
+
+// Goes through the whole text. A proved loop has to end, and nothing says that a text does: so it counts its reads down, from a
+// number that no run uses up.
+fn play_text(
+    deck: &[u8],
+    pool: &mut [i32; LONGEST_POOL],
+    progress: Progress,
+    numbers: &mut [i32; KEPT],
+    out: &mut [u8; ROOM],
+    fd: i32,
+) -> Progress
+    requires { ⌜ (progress .host .length ≤ 700000) × (progress .waiting ≤ 65536) ⌝ }
+    ensures { λ r. ⌜ (r .host .length ≤ 700000) × (r .waiting ≤ 65536) ⌝ }
+{
+    let mut now = progress;
+    let mut reads = u64::MAX;
+    while reads > 0 {
+        let played = play_some(deck, pool, now, numbers, out, fd);
+        now = played.progress;
+        if !played.more {
+            return now;
+        }
+        reads -= 1;
+    }
+    now
+}
+
+// Goes through a text of calls on a deck, and then prints what is left in memory.
+pub fn play(deck: &[u8], fd: i32) {
+    let mut pool = [0i32; LONGEST_POOL];
+    let mut numbers = [0i32; KEPT];
+    let mut out = [0u8; ROOM];
+    let first = Progress {
+        host: host::new(),
+        line: Line::empty(),
+        waiting: 0,
+    };
+    let read = play_text(deck, &mut pool, first, &mut numbers, &mut out, fd);
+    let last = end_line(deck, &mut pool, read, &mut numbers, &mut out);
+    let left = last.host;
+    output::finish(left, &pool, &mut out, last.waiting);
+}
+
+// Reads a deck from one descriptor and goes through the calls that come from another. One byte more than the longest deck that
+// can pass already shows the fault.
+pub fn replay(deck: i32, calls: i32) {
+    let mut buf = [0u8; Deck::BYTES + 1];
+    let Input::Bytes(n) = report::read_all(deck, &mut buf) else {
+        os::fail(b"cannot read the deck");
+        return;
+    };
+    play(&buf[..n], calls);
+}

@@ -1,0 +1,2 @@
+-- What is promised of reading.
+pub mod Input

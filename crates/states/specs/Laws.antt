@@ -1,0 +1,7 @@
+-- Laws of the tests of a state, by subject.
+pub mod Fits
+pub mod Places
+pub mod Held
+pub mod Charges
+pub mod Judged
+pub mod Shape

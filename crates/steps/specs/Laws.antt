@@ -1,0 +1,11 @@
+-- Laws of new updates that are offered one by one, and of a commit.
+pub mod Queue
+pub mod Adding
+pub mod Offers
+pub mod Sent
+pub mod Turns
+pub mod Halves
+pub mod Applying
+pub mod Taking
+pub mod Reacting
+pub mod Committing

@@ -1,0 +1,74 @@
+-- New updates offered one by one: what the pool and the counts hold meanwhile. Assumes nothing.
+use Prim.Native.Nat.{ℕ, _*_, _≤_, _<_}
+use mathlib.Core.Path.{_≡_}
+use mathlib.Core.Bool.{Bool, true, false}
+use mathlib.Core.List.{List, [], _∷_, _++_, map}
+use lib.Dec.{ltb}
+use lib.ListN.{length}
+use lib.IntN.{ℤ}
+use Rattle.lists.specs.Lists.{all, distinct, flatMap, member}
+use Rattle.lists.specs.Bits.{maskOf}
+use Rattle.expression.specs.Answers.{scope}
+use Rattle.deck.specs.Deck.{Deck, Action, Rule, ruleAt, targets, active}
+use Rattle.deck.specs.Layout.{action}
+use Rattle.deck.specs.declared.Deck as Counted
+use Rattle.deck.specs.Laws.Points.{ReadsAt}
+use Rattle.charge.specs.Memo.{Memo, Ready}
+use Rattle.pool.specs.Updates.{Update, charge}
+use Rattle.pool.specs.Moves.{Laid}
+use Rattle.passing.specs.Judged.{shape}
+use Rattle.firing.specs.Firing.{enqueue, fired}
+use Rattle.firing.specs.Evaluated.{updateBy}
+use Rattle.steps.specs.declared.Queue.{Queue}
+
+-- `us` were pending at first, and `new` have been offered since. What is written behind `us` is `extra`: all that "written
+-- behind the last pending one, one by one, unless equal to one then pending" leaves of them, unless the charge would pass C
+pub record Grown (d : Deck) (C : ℕ) (us new : List Update) (pool : List ℤ) (q : Queue) : Type 0 where
+  pub extra : List Update
+  pub laid : Laid pool (us ++ extra)
+  pub pending : q .pending ≡ length (us ++ extra)
+  pub room : q .full ≡ false → (us ++ extra ≡ enqueue us new) × (q .charge ≡ charge d (us ++ extra)) × (q .charge ≤ C)
+  pub over : q .full ≡ true → C < charge d (enqueue us new)
+
+-- what a function that offers updates takes: tables without a cycle, a memo that is right, and a pool of C places
+pub record Offering (rules parts : List ℕ) (k : Counted.Deck) (C : ℕ) (memo : List ℕ) (pool : List ℤ) (q : Queue) : Type 0 where
+  pub ready : Ready rules parts (k .channels) (k .rules) (k .parts) memo
+  pub few : k .channels ≤ 32
+  pub bounded : C ≤ 65535
+  pub places : 10 * C ≤ length pool
+  pub us : List Update
+  pub new : List Update
+  pub grown : Grown (shape rules parts k) C us new pool q
+
+-- what it leaves, when the updates `fresh` were offered
+pub record Offered (d : Deck) (C : ℕ) (fresh : List Update) (pool₀ : List ℤ) (q₀ : Queue) (m : List ℕ) (pool : List ℤ) (q : Queue) : Type 0 where
+  pub grows : (us new : List Update) → Grown d C us new pool₀ q₀ → Grown d C us (new ++ fresh) pool q
+  pub memo : Memo d m
+  pub long : length pool ≡ length pool₀
+
+-- an action for part q, with the values of the own and of the far channels. An empty one adds no update
+unfoldable pub sentBy : List ℤ → List ℤ → ℕ → Action → List Update
+sentBy own far q [] = []
+sentBy own far q (s ∷ a) = updateBy own far q (s ∷ a) ∷ []
+
+-- an action that can be read at an offset, whose targets are different channels below n
+abbrev pub Sound : List ℕ → ℕ → ℕ → ℕ → ℕ → Type 0
+Sound s at owns fars n =
+    (a : Action) × ReadsAt s (action (scope owns fars)) at a × (all (λ c. ltb c n) (targets a) ≡ true) × (distinct (targets a) ≡ true)
+
+-- such an action was offered
+abbrev pub Offers : List ℕ → ℕ → List ℤ → List ℤ → ℕ → Deck → ℕ → List ℤ → Queue → List ℕ → List ℤ → Queue → Type 0
+Offers s at own far part d C pool₀ q₀ m pool q =
+    (a : Action) → ReadsAt s (action (scope (length own) (length far))) at a → Offered d C (sentBy own far part a) pool₀ q₀ m pool q
+
+-- what f gives for each rule that part p carries and that hears the changed channels, in rule order. `mask` is their set
+abbrev pub FiresAll : Deck → (Rule → List Update) → ℕ → ℕ → Deck → ℕ → List ℤ → Queue → List ℕ → List ℤ → Queue → Type 0
+FiresAll d f p mask e C pool₀ q₀ m pool q =
+    (cs : List ℕ) → ((c : ℕ) → member c cs ≡ true → c < 32) → mask ≡ maskOf cs
+    → Offered e C (flatMap f (map (ruleAt d) (active d p cs))) pool₀ q₀ m pool q
+
+-- the whole firing
+abbrev pub Fires : Deck → List ℤ → ℕ → ℕ → Deck → ℕ → List ℤ → Queue → List ℕ → List ℤ → Queue → Type 0
+Fires d values p mask e C pool₀ q₀ m pool q =
+    (cs : List ℕ) → ((c : ℕ) → member c cs ≡ true → c < 32) → mask ≡ maskOf cs
+    → Offered e C (fired d values p cs) pool₀ q₀ m pool q

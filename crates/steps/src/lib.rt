@@ -1,0 +1,416 @@
+// The firing and the commits. The definitions are in `firing`.
+ghost use mathlib.Core.Path.{_≡_};
+ghost use mathlib.Core.List.{[], _∷_};
+ghost use Prim.Native.Nat.{_≤_, _<_};
+ghost use lib.ListN.{length};
+ghost use Rattle.lists.specs.Lists.{flatMap};
+ghost use Rattle.lists.specs.Bits.{maskOf};
+ghost use Rattle.deck.specs.Deck.{ruleAt, active};
+ghost use Rattle.charge.specs.Charge.{others};
+ghost use Rattle.pool.specs.Places.{updateOf};
+ghost use Rattle.states.specs.Answer.{Holds};
+ghost use Rattle.passing.specs.Tabled.{deckOf, Tabled};
+ghost use Rattle.passing.specs.Judged.{shape};
+ghost use Rattle.firing.specs.Firing.{firedHere, firedThere, fired};
+ghost use Rattle.firing.specs.Evaluated.{HasAction};
+ghost use Rattle.steps.specs.Queue.{Offering, Offered, Offers, Sound, FiresAll, Fires};
+ghost use Rattle.pool.specs.Updates.{assign};
+ghost use Rattle.steps.specs.Commits.{Reacting, Reacts, Appliable, Taking, Takes, Committing, Commits};
+use deck::Deck;
+use pool::State;
+
+// The pending number and the charge of the pending updates; full where a new one would have passed the capacity.
+pub struct Queue {
+    pub pending: usize,
+    pub charge: u32,
+    pub full: bool,
+}
+
+// A new update behind the last pending one, unless it is equal to one then pending or its charge passes the capacity.
+fn add(
+    counts: Deck,
+    rules: &[u64],
+    parts: &[u64],
+    memo: &mut [u32],
+    pool: &mut [i32],
+    capacity: u32,
+    queue: Queue,
+    row: &[i32],
+) -> Queue
+    requires { ⌜ Offering (now rules) (now parts) counts capacity (now memo) (now pool) queue × Holds (shape (now rules) (now parts) counts) (now row) ⌝ }
+    ensures { λ r. ⌜ Offered (shape (now (rules .entry)) (now (parts .entry)) counts) capacity (updateOf (now (row .entry)) ∷ []) (now (pool .entry)) queue (now (memo .exit)) (now (pool .exit)) r ⌝ }
+{
+    if queue.full {
+        return queue;
+    }
+    if pool::is_pending(pool, queue.pending, row) {
+        return queue;
+    }
+    let c = states::place_charge(
+        rules,
+        parts,
+        memo,
+        counts.channels,
+        counts.rules,
+        counts.parts,
+        row,
+    );
+    let total = queue.charge + c;
+    if total > capacity {
+        return Queue {
+            pending: queue.pending,
+            charge: queue.charge,
+            full: true,
+        };
+    }
+    pool::push(pool, queue.pending, row);
+    Queue {
+        pending: queue.pending + 1,
+        charge: total,
+        full: false,
+    }
+}
+
+// The update that the action at an offset makes for a part, unless the action is empty.
+fn offer(
+    deck: &[u8],
+    counts: Deck,
+    rules: &[u64],
+    parts: &[u64],
+    memo: &mut [u32],
+    pool: &mut [i32],
+    capacity: u32,
+    queue: Queue,
+    at: usize,
+    part: usize,
+    own: &[i32],
+    far: &[i32],
+) -> Queue
+    requires { ⌜ Offering (now rules) (now parts) counts capacity (now memo) (now pool) queue × Sound (now deck) at (length (now own)) (length (now far)) (counts .channels) × (part < counts .parts) ⌝ }
+    ensures { λ r. ⌜ Offers (now (deck .entry)) at (now (own .entry)) (now (far .entry)) part (shape (now (rules .entry)) (now (parts .entry)) counts) capacity (now (pool .entry)) queue (now (memo .exit)) (now (pool .exit)) r ⌝ }
+{
+    if deck[at] == 0 {
+        return queue;
+    }
+    let row = firing::evaluate(deck, at, part, own, far);
+    add(counts, rules, parts, memo, pool, capacity, queue, &row)
+}
+
+// What rule r at part p adds to p itself: its default action and, for kind 0 with the condition true, its action.
+fn fire_here(
+    deck: &[u8],
+    counts: Deck,
+    rules: &[u64],
+    parts: &[u64],
+    memo: &mut [u32],
+    pool: &mut [i32],
+    capacity: u32,
+    queue: Queue,
+    values: &[i32],
+    p: usize,
+    r: usize,
+) -> Queue
+    requires { ⌜ Tabled (now deck) counts (now rules) (now parts) × Offering (now rules) (now parts) counts capacity (now memo) (now pool) queue × (length (now values) ≡ 512) × (p < counts .parts) × (r < counts .rules) ⌝ }
+    ensures { λ q. ⌜ Offered (shape (now (rules .entry)) (now (parts .entry)) counts) capacity (firedHere (now (values .entry)) p (ruleAt (deckOf (now (deck .entry))) r)) (now (pool .entry)) queue (now (memo .exit)) (now (pool .exit)) q ⌝ }
+{
+    let from = Deck::CHANNELS * p;
+    let to = from + counts.channels;
+    let own = &values[from..to];
+    let far = &values[0..0];
+    let default = rules[8 * r + 4] as usize;
+    let first = offer(deck, counts, rules, parts, memo, pool, capacity, queue, default, p, own, far);
+    if rules[8 * r + 3] == 1 {
+        return first;
+    }
+    if passing::truth_from(deck, rules[8 * r + 5] as usize, own, far) {
+        let action = rules[8 * r + 6] as usize;
+        offer(deck, counts, rules, parts, memo, pool, capacity, first, action, p, own, far)
+    } else {
+        first
+    }
+}
+
+// What rule r of kind 1 at part p adds to part q.
+fn fire_there(
+    deck: &[u8],
+    counts: Deck,
+    rules: &[u64],
+    parts: &[u64],
+    memo: &mut [u32],
+    pool: &mut [i32],
+    capacity: u32,
+    queue: Queue,
+    values: &[i32],
+    p: usize,
+    r: usize,
+    q: usize,
+) -> Queue
+    requires { ⌜ Tabled (now deck) counts (now rules) (now parts) × Offering (now rules) (now parts) counts capacity (now memo) (now pool) queue × (length (now values) ≡ 512) × (p < counts .parts) × (r < counts .rules) × (q < counts .parts) ⌝ }
+    ensures { λ s. ⌜ Offered (shape (now (rules .entry)) (now (parts .entry)) counts) capacity (firedThere (now (values .entry)) p (ruleAt (deckOf (now (deck .entry))) r) q) (now (pool .entry)) queue (now (memo .exit)) (now (pool .exit)) s ⌝ }
+{
+    if rules[8 * r + 3] != 1 {
+        return queue;
+    }
+    let from = Deck::CHANNELS * p;
+    let to = from + counts.channels;
+    let own = &values[from..to];
+    let start = Deck::CHANNELS * q;
+    let end = start + counts.channels;
+    let far = &values[start..end];
+    if passing::truth_from(deck, rules[8 * r + 5] as usize, own, far) {
+        let action = rules[8 * r + 6] as usize;
+        offer(deck, counts, rules, parts, memo, pool, capacity, queue, action, q, own, far)
+    } else {
+        queue
+    }
+}
+
+// The same for every other part in rising number.
+fn fire_others(
+    deck: &[u8],
+    counts: Deck,
+    rules: &[u64],
+    parts: &[u64],
+    memo: &mut [u32],
+    pool: &mut [i32],
+    capacity: u32,
+    queue: Queue,
+    values: &[i32],
+    p: usize,
+    r: usize,
+) -> Queue
+    requires { ⌜ Tabled (now deck) counts (now rules) (now parts) × Offering (now rules) (now parts) counts capacity (now memo) (now pool) queue × (length (now values) ≡ 512) × (p < counts .parts) × (r < counts .rules) ⌝ }
+    ensures { λ s. ⌜ Offered (shape (now (rules .entry)) (now (parts .entry)) counts) capacity (flatMap (firedThere (now (values .entry)) p (ruleAt (deckOf (now (deck .entry))) r)) (others (deckOf (now (deck .entry))) p)) (now (pool .entry)) queue (now (memo .exit)) (now (pool .exit)) s ⌝ }
+{
+    let n = counts.parts;
+    let mut out = queue;
+    let mut q: usize = 0;
+    while q < n {
+        if q != p {
+            out = fire_there(deck, counts, rules, parts, memo, pool, capacity, out, values, p, r, q);
+        }
+        q += 1;
+    }
+    out
+}
+
+// The first half of the firing: each active rule in rule order adds to p itself.
+fn fire_all_here(
+    deck: &[u8],
+    counts: Deck,
+    rules: &[u64],
+    parts: &[u64],
+    memo: &mut [u32],
+    pool: &mut [i32],
+    capacity: u32,
+    queue: Queue,
+    values: &[i32],
+    p: usize,
+    changed: u64,
+) -> Queue
+    requires { ⌜ Tabled (now deck) counts (now rules) (now parts) × Offering (now rules) (now parts) counts capacity (now memo) (now pool) queue × (length (now values) ≡ 512) × (p < counts .parts) ⌝ }
+    ensures { λ s. ⌜ FiresAll (deckOf (now (deck .entry))) (λ r. firedHere (now (values .entry)) p r) p changed (shape (now (rules .entry)) (now (parts .entry)) counts) capacity (now (pool .entry)) queue (now (memo .exit)) (now (pool .exit)) s × Offering (now (rules .entry)) (now (parts .entry)) counts capacity (now (memo .exit)) (now (pool .exit)) s ⌝ }
+{
+    let n = counts.rules;
+    let mut out = queue;
+    let mut r: usize = 0;
+    while r < n {
+        if charge::hears(rules, parts, p, r, changed) {
+            out = fire_here(deck, counts, rules, parts, memo, pool, capacity, out, values, p, r);
+        }
+        r += 1;
+    }
+    out
+}
+
+// The second half: each active rule of kind 1 in rule order goes to every other part.
+fn fire_all_others(
+    deck: &[u8],
+    counts: Deck,
+    rules: &[u64],
+    parts: &[u64],
+    memo: &mut [u32],
+    pool: &mut [i32],
+    capacity: u32,
+    queue: Queue,
+    values: &[i32],
+    p: usize,
+    changed: u64,
+) -> Queue
+    requires { ⌜ Tabled (now deck) counts (now rules) (now parts) × Offering (now rules) (now parts) counts capacity (now memo) (now pool) queue × (length (now values) ≡ 512) × (p < counts .parts) ⌝ }
+    ensures { λ s. ⌜ FiresAll (deckOf (now (deck .entry))) (λ r. flatMap (firedThere (now (values .entry)) p r) (others (deckOf (now (deck .entry))) p)) p changed (shape (now (rules .entry)) (now (parts .entry)) counts) capacity (now (pool .entry)) queue (now (memo .exit)) (now (pool .exit)) s ⌝ }
+{
+    let n = counts.rules;
+    let mut out = queue;
+    let mut r: usize = 0;
+    while r < n {
+        if charge::hears(rules, parts, p, r, changed) {
+            out = fire_others(deck, counts, rules, parts, memo, pool, capacity, out, values, p, r);
+        }
+        r += 1;
+    }
+    out
+}
+
+// The firing at part p for the changed channels, reading the new values.
+pub fn fire(
+    deck: &[u8],
+    counts: Deck,
+    rules: &[u64],
+    parts: &[u64],
+    memo: &mut [u32],
+    pool: &mut [i32],
+    capacity: u32,
+    queue: Queue,
+    values: &[i32],
+    p: usize,
+    changed: u64,
+) -> Queue
+    requires { ⌜ Tabled (now deck) counts (now rules) (now parts) × Offering (now rules) (now parts) counts capacity (now memo) (now pool) queue × (length (now values) ≡ 512) × (p < counts .parts) ⌝ }
+    ensures { λ s. ⌜ Fires (deckOf (now (deck .entry))) (now (values .entry)) p changed (shape (now (rules .entry)) (now (parts .entry)) counts) capacity (now (pool .entry)) queue (now (memo .exit)) (now (pool .exit)) s ⌝ }
+{
+    let first = fire_all_here(deck, counts, rules, parts, memo, pool, capacity, queue, values, p, changed);
+    fire_all_others(deck, counts, rules, parts, memo, pool, capacity, first, values, p, changed)
+}
+
+// The firing that follows when part p's values became `after`, with the pending updates that the pool holds.
+pub fn react(
+    deck: &[u8],
+    counts: Deck,
+    rules: &[u64],
+    parts: &[u64],
+    memo: &mut [u32],
+    pool: &mut [i32],
+    capacity: u32,
+    pending: usize,
+    charge: u32,
+    before: &[i32],
+    after: &[i32],
+    p: usize,
+) -> Queue
+    requires { ⌜ Reacting (now deck) counts (now rules) (now parts) (now memo) (now pool) capacity pending charge × (length (now before) ≡ 512) × (length (now after) ≡ 512) × (p < counts .parts) ⌝ }
+    ensures { λ r. ⌜ Reacts (deckOf (now (deck .entry))) (shape (now (rules .entry)) (now (parts .entry)) counts) capacity pending charge (now (before .entry)) (now (after .entry)) p (now (pool .entry)) (now (memo .exit)) (now (pool .exit)) r ⌝ }
+{
+    let mask = firing::changed(before, after, p, counts.channels);
+    let queue = Queue {
+        pending: pending,
+        charge: charge,
+        full: false,
+    };
+    fire(deck, counts, rules, parts, memo, pool, capacity, queue, after, p, mask)
+}
+
+// A value table with an update applied, and the part of the update.
+pub struct Applied {
+    pub part: usize,
+    pub values: [i32; Deck::VALUES],
+}
+
+// The update that a place holds, applied.
+fn apply(values: [i32; Deck::VALUES], place: &[i32], parts: usize) -> Applied
+    requires { ⌜ Appliable (now place) parts ⌝ }
+    ensures { λ r. ⌜ (r .part ≡ updateOf (now (place .entry)) .part) × (r .values ≡ assign (updateOf (now (place .entry)) .part) (updateOf (now (place .entry)) .pairs) values) ⌝ }
+{
+    let part = states::number_at(place, 0, parts);
+    let count = states::number_at(place, 1, 5);
+    let to = 2 + 2 * count;
+    let mut after = values;
+    firing::assign_pairs(&mut after, part, &place[2..to]);
+    Applied {
+        part: part,
+        values: after,
+    }
+}
+
+// What taking out an update leaves: its part, the values with it applied, and the charge of the other pending updates.
+pub struct Taken {
+    pub part: usize,
+    pub values: [i32; Deck::VALUES],
+    pub charge: u32,
+}
+
+// Update k is taken out and later places move down.
+fn take(
+    counts: Deck,
+    rules: &[u64],
+    parts: &[u64],
+    memo: &mut [u32],
+    pool: &mut [i32],
+    values: [i32; Deck::VALUES],
+    pending: usize,
+    charge: u32,
+    k: usize,
+) -> Taken
+    requires { ⌜ Taking counts (now rules) (now parts) (now memo) (now pool) pending charge k ⌝ }
+    ensures { λ r. ⌜ Takes (shape (now (rules .entry)) (now (parts .entry)) counts) k pending charge values (now (pool .entry)) (now (memo .exit)) (now (pool .exit)) (r .part) (r .values) (r .charge) ⌝ }
+{
+    let at = 10 * k;
+    let end = at + 10;
+    let c = states::place_charge(
+        rules,
+        parts,
+        memo,
+        counts.channels,
+        counts.rules,
+        counts.parts,
+        &pool[at..end],
+    );
+    let done = apply(values, &pool[at..end], counts.parts);
+    pool::take_out(pool, pending, k);
+    let after = done.values;
+    Taken {
+        part: done.part,
+        values: after,
+        charge: charge - c,
+    }
+}
+
+// A state after a commit, the charge then pending, and whether the update was applied.
+pub struct Step {
+    pub state: State,
+    pub charge: u32,
+    pub applied: bool,
+}
+
+// The commit of place k.
+pub fn commit(
+    deck: &[u8],
+    counts: Deck,
+    rules: &[u64],
+    parts: &[u64],
+    memo: &mut [u32],
+    pool: &mut [i32],
+    capacity: u32,
+    state: State,
+    charge: u32,
+    k: usize,
+) -> Step
+    requires { ⌜ Committing (now deck) counts (now rules) (now parts) (now memo) (now pool) capacity (state .values) (state .pending) charge × (k < state .pending) ⌝ }
+    ensures { λ r. ⌜ Commits (deckOf (now (deck .entry))) (shape (now (rules .entry)) (now (parts .entry)) counts) capacity k (now (pool .entry)) (state .values) (state .pending) charge (now (memo .exit)) (now (pool .exit)) (r .state .values) (r .state .pending) (r .charge) (r .applied) ⌝ }
+{
+    let n = state.pending as usize;
+    let before = state.values;
+    let taken = take(counts, rules, parts, memo, pool, before, n, charge, k);
+    let part = taken.part;
+    let after = taken.values;
+    if passing::within(deck, counts, parts, &after, part) {
+        let queue = react(deck, counts, rules, parts, memo, pool, capacity, n - 1, taken.charge, &before, &after, part);
+        Step {
+            state: State {
+                values: after,
+                pending: queue.pending as u32,
+            },
+            charge: queue.charge,
+            applied: true,
+        }
+    } else {
+        Step {
+            state: State {
+                values: before,
+                pending: (n - 1) as u32,
+            },
+            charge: taken.charge,
+            applied: false,
+        }
+    }
+}

@@ -1,0 +1,117 @@
+//! `compare_check OURS OTHER COUNT SEED`: runs two programs that check a deck on COUNT generated
+//! decks of all kinds and compares what they print. `scripts/compare_check` builds and runs it.
+//!
+//! Deck n depends on the seed and n alone. Some decks are cut off anywhere, or followed by many
+//! bytes more, and some are fed in pieces with pauses, so that they arrive in several reads.
+
+use reference::generate::{deck, Kind, Size};
+use reference::random::Random;
+use std::collections::BTreeMap;
+use std::io::{self, Write};
+use std::process::{Command, ExitCode, Stdio};
+use std::thread::sleep;
+use std::time::Duration;
+use std::{env, fs};
+
+/// Where decks go that the two programs do not agree on, and how many of them.
+const KEPT: &str = "target/compare_check";
+const MOST_KEPT: usize = 20;
+
+fn main() -> ExitCode {
+    let arguments: Vec<String> = env::args().skip(1).collect();
+    let [ours, other, count, seed] = &arguments[..] else { return usage() };
+    let (Ok(count), Ok(seed)) = (count.parse(), seed.parse()) else { return usage() };
+    match compare(ours, other, count, seed) {
+        Ok(0) => ExitCode::SUCCESS,
+        Ok(_) => ExitCode::FAILURE,
+        Err(error) => {
+            eprintln!("compare_check: {error}");
+            ExitCode::from(2)
+        }
+    }
+}
+
+fn usage() -> ExitCode {
+    eprintln!("usage: compare_check OURS OTHER COUNT SEED");
+    ExitCode::from(2)
+}
+
+/// The number of decks on which the two differ.
+fn compare(ours: &str, other: &str, count: u64, seed: u64) -> io::Result<usize> {
+    let mut outcomes: BTreeMap<String, usize> = BTreeMap::new();
+    let mut differences = 0;
+    for number in 0..count {
+        let (kind, deck) = generated(seed, number);
+        let pause = number % 50 == 7;
+        let (one, two) = (run(ours, &deck, pause)?, run(other, &deck, pause)?);
+        *outcomes.entry(outcome(&two)).or_default() += 1;
+        if one != two {
+            differences += 1;
+        }
+        if one != two && differences <= MOST_KEPT {
+            keep(&format!("{kind}-{seed}-{number}"), &deck, &one, &two)?;
+        }
+    }
+    for (outcome, decks) in outcomes {
+        println!("{decks:8}  {outcome}");
+    }
+    println!("{count} decks, {differences} differences");
+    Ok(differences)
+}
+
+/// Kinds take turns; the longest decks, which are slow to make, come more seldom.
+fn generated(seed: u64, number: u64) -> (&'static str, Vec<u8>) {
+    let mut random = Random::new(seed ^ number.wrapping_mul(0xD134_2543_DE82_EF95));
+    let (mut name, mut kind) = Kind::ALL[number as usize % Kind::ALL.len()];
+    if kind == Kind::Longest && random.chance(80) {
+        (name, kind) = ("damaged", Kind::Damaged);
+    }
+    let mut deck = deck(kind, &mut random, Size::FULL);
+    if random.chance(4) {
+        deck.truncate(random.below(deck.len() + 1));
+    } else if random.chance(1) {
+        let more = random.pick(&[1, 1000, 42_884, 70_000, 200_000]);
+        deck.extend((0..more).map(|_| random.byte()));
+    }
+    (name, deck)
+}
+
+/// What a program writes to standard output, and how it ends.
+fn run(program: &str, deck: &[u8], pause: bool) -> io::Result<String> {
+    let mut child =
+        Command::new(program).stdin(Stdio::piped()).stdout(Stdio::piped()).stderr(Stdio::piped()).spawn()?;
+    if let Some(mut input) = child.stdin.take() {
+        let pieces = if pause { 3 } else { 1 };
+        for piece in deck.chunks(deck.len().div_ceil(pieces).max(1)) {
+            // A program may leave off reading where it has seen enough.
+            if let Err(error) = input.write_all(piece) {
+                if error.kind() == io::ErrorKind::BrokenPipe {
+                    break;
+                }
+                return Err(error);
+            }
+            if pause {
+                sleep(Duration::from_millis(2));
+            }
+        }
+    }
+    let output = child.wait_with_output()?;
+    let said = String::from_utf8_lossy(&output.stdout).into_owned();
+    if output.status.success() && output.stderr.is_empty() {
+        return Ok(said);
+    }
+    Ok(format!("{said}{} {}", output.status, String::from_utf8_lossy(&output.stderr)))
+}
+
+/// `passed`, or `refused` and its number.
+fn outcome(line: &str) -> String {
+    let words = if line.starts_with("passed") { 1 } else { 2 };
+    line.split_whitespace().take(words).collect::<Vec<_>>().join(" ")
+}
+
+fn keep(name: &str, deck: &[u8], ours: &str, other: &str) -> io::Result<()> {
+    fs::create_dir_all(KEPT)?;
+    fs::write(format!("{KEPT}/{name}.deck"), deck)?;
+    println!("{KEPT}/{name}.deck: {ours:?}, and {other:?}");
+    Ok(())
+}
