@@ -1,5 +1,5 @@
 -- The search over the places 64 p + r, lowest first: what is known of those that are passed. Assumes nothing.
-use Prim.Native.Nat.{ℕ, zero, suc, _+_, _*_, _/_, _%_, _≤_, _<_, max, zero-le}
+use Prim.Native.Nat.{ℕ, _+_, _*_, _/_, _%_, _≤_, _<_, max, zero-le}
 use mathlib.Core.Path.{_≡_, refl, sym, ap, _∙_}
 use mathlib.Core.Logic.{⊎-elim}
 use mathlib.Core.Bool.{true, false, _&&_}
@@ -15,21 +15,27 @@ use Rattle.lists.specs.Laws.Booleans.{contradiction, and-both, and-left, and-ri
 use Rattle.deck.specs.Deck.{Deck, M, N, carries}
 use Rattle.deck.specs.Shape.{shapeOf}
 use Rattle.deck.specs.Laws.Shape.{shape-M, shape-N, shape-carries}
+use Rattle.graph.specs.Masks.{carriedAt}
 use Rattle.charge.specs.declared.Bound.the-variants.{Within, Above}
 use Rattle.charge.specs.Charge.{ruleCharge, carriedCharges, largestCharge, aboveBound}
 use Rattle.charge.specs.Memo.{AcyclicTables, Memo, capped}
 use Rattle.charge.specs.Answer.{boundBy, boundOf}
 use Rattle.charge.specs.Laws.Largest.{AtMost, largest-charge}
 use Rattle.charge.specs.Laws.Bound.{FirstAbove, none-above, first-above}
+use Rattle.charge.proofs.Rows.{replicate-most}
+use Rattle.charge.proofs.Tabled.{carried-by}
 
 zeros : (n i : ℕ) → getD {A = ℕ} (replicate n 0) i 0 ≡ 0
-zeros zero i = refl
-zeros (suc n) zero = refl
-zeros (suc n) (suc i) = zeros n i
+zeros n i = omega (arith, replicate-most 0 n i)
 
 -- a memo of zeros knows nothing
 pub memo-new : (d : Deck) → Memo d (replicate 1024 0)
-memo-new d = record { long = length-replicate {A = ℕ} 1024 0; right = λ i h. absurd (h (zeros 1024 i)) }
+memo-new d =
+    record {
+      long = length-replicate {A = ℕ} 1024 0;
+      right = λ i h. absurd (h (zeros 1024 i));
+      whole = λ r q _ h. absurd (h (zeros 1024 (16 * r)));
+    }
 
 -- best is the largest charge at the places below k
 pub record Passed (d : Deck) (k best : ℕ) : Type 0 where
@@ -135,6 +141,10 @@ module _ {rules parts : List ℕ} {R′ M′ N′ : ℕ} (h : AcyclicTables rule
           omega (arith, shape-M rules parts R′ M′ N′),
           carry ∙ and-right (ltb (k % 64) M′) _ t,
         )
+
+    pub place-carried : (ltb (k % 64) M′ && bit (getD parts (4 * (k / 64)) 0) (k % 64)) ≡ true
+        → carriedAt parts N′ (k % 64) ≡ true
+    place-carried t = carried-by parts N′ (k % 64) (k / 64) (omega arith) (and-right (ltb (k % 64) M′) _ t)
 
     pub no-place : (ltb (k % 64) M′ && bit (getD parts (4 * (k / 64)) 0) (k % 64)) ≡ false → Carried deck k → ⊥
     no-place f c =

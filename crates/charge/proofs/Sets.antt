@@ -12,7 +12,6 @@ use Rattle.lists.specs.Laws.Booleans.{true-or-false, contradiction, not-true→
 use Rattle.lists.specs.Laws.Members.{all-member, any-intro}
 use Rattle.lists.specs.Laws.Anys.{any-fails}
 use Rattle.lists.specs.Laws.Below.{below-member, filter-below, none-below}
-use Rattle.lists.specs.Laws.Same.{filter-cong}
 use Rattle.lists.specs.Laws.Bits.{bit-and, bit-zero, no-bits}
 use Rattle.deck.specs.Shape.{bitsOf}
 
@@ -21,7 +20,7 @@ full : all (bit 4294967295) (below 32) ≡ true
 unfolding lists bit
 full = refl
 
-and-true : (b : Bool) → (b && true) ≡ b
+pub and-true : (b : Bool) → (b && true) ≡ b
 and-true true = refl
 and-true false = refl
 
@@ -35,10 +34,6 @@ module _ (x : ℕ) where
       bit-and x 4294967295 c
       ∙ ap (λ b. bit x c && b) (all-member (bit 4294967295) (below 32) .0 full c (below-member 32 c .0 h))
       ∙ and-true (bit x c)
-
-  pub low-bits : bitsOf 32 (bitAnd x 4294967295) ≡ bitsOf 32 x
-  unfolding bitsOf
-  low-bits = filter-cong (bit (bitAnd x 4294967295)) (bit x) (below 32) (λ c m. low-bit c (below-member 32 c .1 m))
 
   all-clear : ((c : ℕ) → c < 32 → bit x c ≡ false) → bitAnd x 4294967295 ≡ 0
   all-clear h = no-bits 32 (bitAnd x 4294967295) (omega (arith, and-le-r x 4294967295)) (λ c l. low-bit c l ∙ h c l)
@@ -80,6 +75,19 @@ module _ (e m : ℕ) where
           let a = filter-below (bit m) 32 c .1 (l, and-right (bit e c) (bit m c) t) in
           let b = filter-below (bit e) 32 c .1 (l, and-left (bit e c) (bit m c) t) in
           contradiction (any-intro (λ c. member c (bitsOf 32 e)) (bitsOf 32 m) c a b) n
+
+  -- a rule has a channel of m among its events e, and b holds of it
+  module _ (b : Bool) where
+    abbrev Listens : Bool → Type 0
+    Listens a = a ≡ (any (λ c. member c (bitsOf 32 e)) (bitsOf 32 m) && b)
+
+    pub not-listening : bitAnd (bitAnd e m) 4294967295 ≡ 0 → Listens false
+    unfolding common
+    not-listening z = sym (ap (λ a. a && b) (apart z))
+
+    pub is-listening : (bitAnd (bitAnd e m) 4294967295 ≡ 0 → ⊥) → Listens b
+    unfolding common
+    is-listening z = sym (ap (λ a. a && b) (meeting z))
 
   -- rule r is in the set x, and has a channel of m among its events e
   module _ (x r : ℕ) where

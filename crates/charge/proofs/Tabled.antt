@@ -1,23 +1,28 @@
 -- The terms of the two charges in the numbers that the functions read from the tables. Assumes nothing.
 use Prim.Native.Nat.{ℕ, _+_, _*_, _<_}
 use mathlib.Core.Path.{_≡_, sym, ap, _∙_}
-use mathlib.Core.Bool.{Bool, true, false, not, _&&_, cond}
+use mathlib.Core.Bool.{Bool, true, false, _&&_, cond}
 use mathlib.Core.List.{List}
 use native.Mathlib.Omega.{arith}
-use lib.Bits.{bitAnd}
-use lib.Dec.{eqb}
 use lib.ListN.{getD}
 use Rattle.lists.specs.Lists.{any, sum, below, member}
 use Rattle.lists.specs.Bits.{bit}
+use Rattle.lists.specs.Laws.Booleans.{contradiction, not-true→false, and-both, and-left, and-right}
+use Rattle.lists.specs.Laws.Below.{any-below}
 use Rattle.deck.specs.Deck.{Deck, N}
 use Rattle.deck.specs.Shape.{bitsOf, shapeOf}
 use Rattle.deck.specs.Laws.Shape.{shape-M, shape-N}
-use Rattle.charge.specs.Charge.{updateCharge, ruleCharge}
-use Rattle.charge.specs.Memo.{AcyclicTables}
+use Rattle.graph.specs.Masks.{carriedAt}
+use Rattle.charge.specs.Charge.{unlessEmpty, updateCharge, ruleCharge}
+use Rattle.charge.specs.Memo.{AcyclicTables, hearing, listening}
 use Rattle.charge.specs.Laws.Equations.{defaults, actions}
-use Rattle.charge.proofs.Sets.{low-bits, no-channel, some-channel}
-use Rattle.charge.proofs.Terms.{listens, heard, own, reaches, sent, unless-none, unless-some, when-no, when-yes, update-is, rule-is, rule-empty, defaults-are, actions-are, listens-is, reaches-is}
+use Rattle.charge.proofs.Sets.{and-true}
+use Rattle.charge.proofs.Terms.{heard, own, given, sent, when-no, when-yes, update-is, rule-is, defaults-are, actions-are, listens-is}
 use Rattle.charge.proofs.Heights.{rank, updateRank, ruleRank, falls}
+
+pub carried-by : (parts : List ℕ) (N′ r p : ℕ) → p < N′ → bit (getD parts (4 * p) 0) r ≡ true → carriedAt parts N′ r ≡ true
+unfolding carriedAt
+carried-by parts N′ r p l t = any-below (λ q. bit (getD parts (4 * q) 0) r) N′ .1 (p, l, t)
 
 module _ {rules parts : List ℕ} {R′ M′ N′ : ℕ} (h : AcyclicTables rules parts R′ M′ N′) where
   abbrev d : Deck
@@ -37,64 +42,81 @@ module _ {rules parts : List ℕ} {R′ M′ N′ : ℕ} (h : AcyclicTables rule
         ap (λ n. own d p r + sum (sent d p r) (below n)) (sym (shape-N rules parts R′ M′ N′))
         ∙ rule-is (h .known) (h .acyclic) p (inside p l) r
 
-    module _ (r : ℕ) (k : r < M′) where
-      -- the two actions
-      abbrev first : ℕ
-      first = bitAnd (getD rules (8 * r + 1) 0) 4294967295
+  module _ (r : ℕ) (k : r < M′) where
+    -- the two actions, and their charges at part q
+    abbrev first : ℕ
+    first = getD rules (8 * r + 1) 0
 
-      abbrev second : ℕ
-      second = bitAnd (getD rules (8 * r + 2) 0) 4294967295
+    abbrev second : ℕ
+    second = getD rules (8 * r + 2) 0
 
-      first-is : bitsOf 32 first ≡ defaults d r
-      first-is = low-bits (getD rules (8 * r + 1) 0) ∙ sym (defaults-are rules parts R′ M′ N′ r k)
+    first-is : bitsOf 32 first ≡ defaults d r
+    first-is = sym (defaults-are rules parts R′ M′ N′ r k)
 
-      second-is : bitsOf 32 second ≡ actions d r
-      second-is = low-bits (getD rules (8 * r + 2) 0) ∙ sym (actions-are rules parts R′ M′ N′ r k)
+    second-is : bitsOf 32 second ≡ actions d r
+    second-is = sym (actions-are rules parts R′ M′ N′ r k)
 
-      pub own-some : (first ≡ 0 → ⊥) → updateCharge d p (bitsOf 32 first) ≡ own d p r
-      own-some z =
-          ap (updateCharge d p) first-is
-          ∙ sym (unless-some (defaults d r) _ (λ e. some-channel _ z (sym (defaults-are rules parts R′ M′ N′ r k) ∙ e)))
+    pub own-is : (q : ℕ) → unlessEmpty (bitsOf 32 first) (updateCharge d q (bitsOf 32 first)) ≡ own d q r
+    own-is q = ap (λ u. unlessEmpty u (updateCharge d q u)) first-is
 
-      pub own-none : first ≡ 0 → own d p r ≡ 0
-      own-none z = unless-none (defaults d r) _ (defaults-are rules parts R′ M′ N′ r k ∙ no-channel _ z)
+    pub given-is : (q : ℕ) → unlessEmpty (bitsOf 32 second) (updateCharge d q (bitsOf 32 second)) ≡ given d r q
+    given-is q = ap (λ u. unlessEmpty u (updateCharge d q u)) second-is
 
-      pub rule-alone : second ≡ 0 → own d p r ≡ ruleCharge d p r
-      rule-alone z =
-          rule-empty (h .known) (h .acyclic) p (inside p l) r (actions-are rules parts R′ M′ N′ r k ∙ no-channel _ z)
+    -- the measures fall
+    pub first-falls : updateRank d (bitsOf 32 first) < ruleRank d r
+    first-falls = omega (arith, ap (rank d) first-is)
 
-      -- what the test of `gets` says
-      abbrev test : ℕ → Bool
-      test q = cond (eqb (getD rules (8 * r + 3) 0) 1) (not (eqb q p)) (eqb q p)
+    pub second-falls : updateRank d (bitsOf 32 second) < ruleRank d r
+    second-falls = omega (arith, ap (rank d) second-is)
 
-      pub sent-yes : (second ≡ 0 → ⊥) → (q : ℕ) → test q ≡ true → sent d p r q ≡ updateCharge d q (bitsOf 32 second)
-      sent-yes z q t =
-          when-yes (reaches d p r q) _ (reaches-is rules parts R′ M′ N′ r k p q ∙ t)
-          ∙ unless-some (actions d r) _ (λ e. some-channel _ z (sym (actions-are rules parts R′ M′ N′ r k) ∙ e))
-          ∙ sym (ap (updateCharge d q) second-is)
+    module _ (mask : ℕ) where
+      abbrev u : List ℕ
+      u = bitsOf 32 mask
 
-      pub sent-no : (q : ℕ) → test q ≡ false → sent d p r q ≡ 0
-      sent-no q t = when-no (reaches d p r q) _ (reaches-is rules parts R′ M′ N′ r k p q ∙ t)
+      module _ (p : ℕ) (l : p < N′) where
+        abbrev hears : Bool
+        hears = hearing rules parts p r mask
 
-      -- the measures fall
-      pub first-falls : updateRank d (bitsOf 32 first) < ruleRank d r
-      first-falls = omega (arith, ap (rank d) first-is)
+        pub heard-is : heard d p u r ≡ cond hears (ruleCharge d p r) 0
+        heard-is = ap (λ b. cond b (ruleCharge d p r) 0) (listens-is rules parts R′ M′ N′ r k p u l (h .few-rules))
 
-      pub second-falls : updateRank d (bitsOf 32 second) < ruleRank d r
-      second-falls = omega (arith, ap (rank d) second-is)
+        pub heard-yes : hears ≡ true → heard d p u r ≡ ruleCharge d p r
+        heard-yes t = heard-is ∙ when-yes hears _ t
 
-      module _ (u : List ℕ) where
-        -- what the test of `hears` says
-        abbrev hearing : Bool
-        hearing = bit (getD parts (4 * p) 0) r && any (λ c. member c (bitsOf 32 (getD rules (8 * r) 0))) u
+        pub heard-no : hears ≡ false → heard d p u r ≡ 0
+        heard-no t = heard-is ∙ when-no hears _ t
 
-        pub heard-yes : hearing ≡ true → heard d p u r ≡ ruleCharge d p r
-        heard-yes t = when-yes (listens d p u r) _ (listens-is rules parts R′ M′ N′ r k p u l (h .few-rules) ∙ t)
-
-        pub heard-no : hearing ≡ false → heard d p u r ≡ 0
-        heard-no t = when-no (listens d p u r) _ (listens-is rules parts R′ M′ N′ r k p u l (h .few-rules) ∙ t)
-
-        pub rule-falls : hearing ≡ true → ruleRank d r < updateRank d u
+        rule-falls : hears ≡ true → ruleRank d r < updateRank d u
         rule-falls t =
             falls (h .known) (h .acyclic) p r u (inside p l) (omega (arith, shape-M rules parts R′ M′ N′))
             (listens-is rules parts R′ M′ N′ r k p u l (h .few-rules) ∙ t)
+
+        -- a rule that part p hears is carried
+        pub hears-carried : hears ≡ true → carriedAt parts N′ r ≡ true
+        hears-carried t = carried-by parts N′ r p l (and-left (bit (getD parts (4 * p) 0) r) _ t)
+
+      -- the test for all parts
+      abbrev common : Bool
+      common = any (λ c. member c (bitsOf 32 (getD rules (8 * r) 0))) u
+
+      pub listening-carried : listening rules parts N′ r mask ≡ true → carriedAt parts N′ r ≡ true
+      listening-carried t = and-right common (carriedAt parts N′ r) t
+
+      pub listening-falls : listening rules parts N′ r mask ≡ true → ruleRank d r < updateRank d u
+      unfolding carriedAt
+      listening-falls t =
+          let found = any-below (λ q. bit (getD parts (4 * q) 0) r) N′ .0 (and-right common _ t) in
+          rule-falls (found .0) (found .1) (and-both (found .2) (and-left common _ t))
+
+      pub listening-heard : listening rules parts N′ r mask ≡ true → (q : ℕ) → q < N′
+          → heard d q u r ≡ cond (bit (getD parts (4 * q) 0) r) (ruleCharge d q r) 0
+      listening-heard t q l =
+          heard-is q l
+          ∙ ap (λ b. cond b (ruleCharge d q r) 0)
+          (ap (λ b. bit (getD parts (4 * q) 0) r && b) (and-left common _ t) ∙ and-true (bit (getD parts (4 * q) 0) r))
+
+      pub not-listening-heard : listening rules parts N′ r mask ≡ false → (q : ℕ) → q < N′ → heard d q u r ≡ 0
+      not-listening-heard f q l =
+          heard-no q l
+          (not-true→false (hears q l) λ t.
+          contradiction (and-both (and-right (bit (getD parts (4 * q) 0) r) _ t) (hears-carried q l t)) f)

@@ -9,11 +9,10 @@ use lib.ListN.{getD}
 use borrow.Author.Tests.{eq-eqb, ne-eqb}
 use Rattle.lists.specs.Lists.{any, sum, below, member}
 use Rattle.lists.specs.Bits.{bit}
-use Rattle.lists.specs.Laws.Sums.{sum-zero}
 use Rattle.lists.specs.Laws.Steps.{sum-filtered, sum-only}
 use Rattle.deck.specs.Deck.{Deck, M, N, ruleAt, carries, targets, active}
 use Rattle.deck.specs.Shape.{bitsOf, ruleShape, shapeOf}
-use Rattle.deck.specs.Laws.Shape.{setting-targets, shape-rule, shape-carries, shape-kind}
+use Rattle.deck.specs.Laws.Shape.{setting-targets, shape-rule, shape-carries}
 use Rattle.graph.specs.Laws.Cycles.{KnownTargets, Acyclic}
 use Rattle.charge.specs.Charge.{others, receivers, unlessEmpty, updateCharge, ruleCharge}
 use Rattle.charge.specs.Laws.Equations.{defaults, actions, charge-of-update, charge-of-rule}
@@ -30,12 +29,16 @@ module _ (d : Deck) where
   abbrev pub own : ℕ → ℕ → ℕ
   own p r = unlessEmpty (defaults d r) (updateCharge d p (defaults d r))
 
+  -- the charge of its action at part q
+  abbrev pub given : ℕ → ℕ → ℕ
+  given r q = unlessEmpty (actions d r) (updateCharge d q (actions d r))
+
   -- part q gets the action of rule r at part p; what it adds to the rule's charge
   abbrev pub reaches : ℕ → ℕ → ℕ → Bool
   reaches p r q = cond (ruleAt d r .everywhere) (not (eqb q p)) (eqb q p)
 
   abbrev pub sent : ℕ → ℕ → ℕ → ℕ
-  sent p r q = cond (reaches p r q) (unlessEmpty (actions d r) (updateCharge d q (actions d r))) 0
+  sent p r q = cond (reaches p r q) (given r q) 0
 
   received : (f : ℕ → ℕ) (p r : ℕ) → p < N d
       → sum f (receivers d p r) ≡ sum (λ q. cond (reaches p r q) (f q) 0) (below (N d))
@@ -80,18 +83,6 @@ module _ {d : Deck} (known : KnownTargets d) (acyclic : Acyclic d) (p : ℕ) (l 
   pub rule-is : (r : ℕ) → own d p r + sum (sent d p r) (below (N d)) ≡ ruleCharge d p r
   rule-is r = sym (charge-of-rule known acyclic p r l ∙ ap (λ x. own d p r + x) (received d _ p r l))
 
-  pub rule-empty : (r : ℕ) → actions d r ≡ [] → own d p r ≡ ruleCharge d p r
-  rule-empty r e =
-      omega (
-        arith,
-        rule-is r,
-        sum-zero (sent d p r) (below (N d)) (λ q. nothing (reaches d p r q) _ (unless-none (actions d r) _ e)),
-      )
-    where
-      nothing : (b : Bool) (x : ℕ) → x ≡ 0 → cond b x 0 ≡ 0
-      nothing true x e = e
-      nothing false x e = refl
-
 -- the same in the numbers of the tables
 module _ (rules parts : List ℕ) (R′ M′ N′ : ℕ) (r : ℕ) (h : r < M′) where
   abbrev d : Deck
@@ -112,6 +103,3 @@ module _ (rules parts : List ℕ) (R′ M′ N′ : ℕ) (r : ℕ) (h : r < M′
       ap₂ (λ a b. a && b)
       (shape-carries rules parts R′ M′ N′ p r l (omega arith))
       (ap (λ x. any (λ c. member c (x .events)) u) (shape-rule rules parts R′ M′ N′ r h))
-
-  pub reaches-is : (p q : ℕ) → reaches d p r q ≡ cond (eqb (getD rules (8 * r + 3) 0) 1) (not (eqb q p)) (eqb q p)
-  reaches-is p q = ap (λ b. cond b (not (eqb q p)) (eqb q p)) (shape-kind rules parts R′ M′ N′ r h)

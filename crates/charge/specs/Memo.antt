@@ -1,15 +1,18 @@
 -- What the functions of this crate take and keep: tables whose deck has no cycle, and a memo of charges. Assumes nothing.
-use Prim.Native.Nat.{ℕ, suc, _*_, _/_, _%_, _≤_, min}
+use Prim.Native.Nat.{ℕ, suc, _+_, _*_, _-_, _/_, _%_, _≤_, _<_, min}
 use mathlib.Core.Path.{_≡_}
-use mathlib.Core.Bool.{Bool, _&&_}
+use mathlib.Core.Logic.{_⊎_}
+use mathlib.Core.Bool.{Bool, _&&_, cond}
 use mathlib.Core.List.{List}
+use lib.Dec.{eqb}
 use lib.ListN.{length, getD}
-use Rattle.lists.specs.Lists.{any, member}
+use Rattle.lists.specs.Lists.{any, member, sum, below}
 use Rattle.lists.specs.Bits.{bit}
-use Rattle.deck.specs.Deck.{Deck}
+use Rattle.deck.specs.Deck.{Deck, N}
 use Rattle.deck.specs.Shape.{bitsOf, shapeOf}
+use Rattle.graph.specs.Masks.{carriedAt}
 use Rattle.graph.specs.Laws.Cycles.{KnownTargets, Acyclic}
-use Rattle.charge.specs.Charge.{updateCharge, ruleCharge}
+use Rattle.charge.specs.Charge.{unlessEmpty, updateCharge, ruleCharge}
 
 -- what the reading pass and the test for cycles gave
 pub record AcyclicTables (rules parts : List ℕ) (R M N : ℕ) : Type 0 where
@@ -24,10 +27,11 @@ pub record AcyclicTables (rules parts : List ℕ) (R M N : ℕ) : Type 0 where
 abbrev pub capped : ℕ → ℕ
 capped x = min 65536 x
 
--- entry 64 p + r is 0, or one more than the charge of rule r at part p
+-- entry 16 r + p is 0, or one more than the charge of rule r at part p; a rule's charges are known at all parts or at none
 pub record Memo (d : Deck) (m : List ℕ) : Type 0 where
   pub long : length m ≡ 1024
-  pub right : (i : ℕ) → (getD m i 0 ≡ 0 → ⊥) → getD m i 0 ≡ suc (capped (ruleCharge d (i / 64) (i % 64)))
+  pub right : (i : ℕ) → (getD m i 0 ≡ 0 → ⊥) → getD m i 0 ≡ suc (capped (ruleCharge d (i % 16) (i / 16)))
+  pub whole : (r q : ℕ) → q < N d → (getD m (16 * r) 0 ≡ 0 → ⊥) → getD m (16 * r + q) 0 ≡ 0 → ⊥
 
 -- s is the charge x, and the memo that is left is right
 pub record Answered (d : Deck) (x : ℕ) (m : List ℕ) (s : ℕ) : Type 0 where
@@ -39,15 +43,61 @@ pub record Ready (rules parts : List ℕ) (R M N : ℕ) (m : List ℕ) : Type 0 
   pub tables : AcyclicTables rules parts R M N
   pub memo : Memo (shapeOf rules parts R M N) m
 
--- what they answer for an update of the channels in a mask, and for a rule
+-- what is answered for an update of the channels in a mask
 abbrev pub UpdateGives : List ℕ → List ℕ → ℕ → ℕ → ℕ → ℕ → ℕ → List ℕ → ℕ → Type 0
 UpdateGives rules parts R M N p mask m s =
     let d = shapeOf rules parts R M N in Answered d (updateCharge d p (bitsOf 32 mask)) m s
-
-abbrev pub RuleGives : List ℕ → List ℕ → ℕ → ℕ → ℕ → ℕ → ℕ → List ℕ → ℕ → Type 0
-RuleGives rules parts R M N p r m s = let d = shapeOf rules parts R M N in Answered d (ruleCharge d p r) m s
 
 -- part p carries rule r, which has a channel of the mask among its events
 abbrev pub hearing : List ℕ → List ℕ → ℕ → ℕ → ℕ → Bool
 hearing rules parts p r mask =
     bit (getD parts (4 * p) 0) r && any (λ c. member c (bitsOf 32 (getD rules (8 * r) 0))) (bitsOf 32 mask)
+
+-- the same for a rule that one of the N parts carries
+abbrev pub listening : List ℕ → List ℕ → ℕ → ℕ → ℕ → Bool
+listening rules parts N r mask =
+    any (λ c. member c (bitsOf 32 (getD rules (8 * r) 0))) (bitsOf 32 mask) && carriedAt parts N r
+
+-- ---- rows: a number for each part
+
+-- so small when the charges of r rules are added up
+pub record RowSmall (r : ℕ) (row : List ℕ) : Type 0 where
+  pub long : length row ≡ 16
+  pub each : (q : ℕ) → getD row q 0 ≤ 1 + 65536 * r
+
+-- the charges of rule r are known at the first N parts
+pub record RowKnown (N r : ℕ) (m : List ℕ) : Type 0 where
+  pub known : (q : ℕ) → q < N → getD m (16 * r + q) 0 ≡ 0 → ⊥
+  pub low : (q : ℕ) → q < N → getD m (16 * r + q) 0 ≤ 65537
+
+-- they were added, at the parts that carry the rule
+pub record RowAdded (parts m : List ℕ) (N r : ℕ) (row₀ row : List ℕ) : Type 0 where
+  pub small : RowSmall (r + 1) row
+  pub each : (q : ℕ) → q < N
+      → getD row q 0 ≡ getD row₀ q 0 + cond (bit (getD parts (4 * q) 0) r) (getD m (16 * r + q) 0 - 1) 0
+
+-- they were written: the charge of the default action, and that of the action at the part itself or at all others
+pub record RowPut (N r kind : ℕ) (first second m₀ m : List ℕ) : Type 0 where
+  pub long : length m ≡ length m₀
+  pub each : (p : ℕ) → p < N
+      → getD m (16 * r + p) 0
+      ≡ suc (capped (getD first p 0 + cond (eqb kind 1) (sum (λ q. getD second q 0) (below N) - getD second p 0) (getD second p 0)))
+  pub others : (i : ℕ) → (i < 16 * r) ⊎ (16 * r + N ≤ i) → getD m i 0 ≡ getD m₀ i 0
+
+-- the memo has all that it had
+pub record Keeps (m₀ m : List ℕ) : Type 0 where
+  pub each : (i : ℕ) → (getD m₀ i 0 ≡ 0 → ⊥) → getD m i 0 ≡ getD m₀ i 0
+
+-- what is answered for an update at all parts, if it has a channel, and for a rule at all parts
+pub record UpdatesGive (rules parts : List ℕ) (R M N mask : ℕ) (m₀ m sums : List ℕ) : Type 0 where
+  pub memo : Memo (shapeOf rules parts R M N) m
+  pub keeps : Keeps m₀ m
+  pub small : RowSmall 64 sums
+  pub each : (q : ℕ) → q < N
+      → capped (getD sums q 0)
+      ≡ capped (unlessEmpty (bitsOf 32 mask) (updateCharge (shapeOf rules parts R M N) q (bitsOf 32 mask)))
+
+pub record RulesGive (rules parts : List ℕ) (R M N r : ℕ) (m₀ m : List ℕ) : Type 0 where
+  pub memo : Memo (shapeOf rules parts R M N) m
+  pub keeps : Keeps m₀ m
+  pub known : RowKnown N r m

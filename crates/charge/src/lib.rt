@@ -1,12 +1,14 @@
 // The charge of updates and rules, from the tables of a deck without cycles. The definitions are in specs/.
 ghost use mathlib.Core.Path.{_≡_};
-ghost use mathlib.Core.Bool.{not, cond, _&&_};
-ghost use Prim.Native.Nat.{_+_, _*_, _<_, _≤_, max};
+ghost use mathlib.Core.Bool.{true, cond, _&&_};
+ghost use Prim.Native.Nat.{_+_, _*_, _-_, _<_, _≤_, max};
 ghost use lib.Dec.{eqb, ltb};
 ghost use lib.ListN.{length, getD};
+ghost use Rattle.lists.specs.Lists.{sum, below};
 ghost use Rattle.lists.specs.Bits.{bit};
 ghost use Rattle.deck.specs.Shape.{shapeOf};
-ghost use Rattle.charge.specs.Memo.{AcyclicTables, Ready, UpdateGives, RuleGives, hearing, capped};
+ghost use Rattle.graph.specs.Masks.{carriedAt};
+ghost use Rattle.charge.specs.Memo.{AcyclicTables, Ready, UpdateGives, RulesGive, UpdatesGive, RowSmall, RowKnown, RowAdded, RowPut, hearing, listening, capped};
 ghost use Rattle.charge.specs.Answer.{boundOf};
 
 // The largest charge of a carried rule; or the lowest place, 64 times part + rule, of one above 65,535.
@@ -17,7 +19,7 @@ pub enum Bound {
 
 // A sum that stops at 65,536, so that it fits however large the charge is.
 fn capped_sum(a: u32, b: u32) -> u32
-    requires { ⌜ (a ≤ 65536) × (b ≤ 65536) ⌝ }
+    requires { ⌜ (a < 1073741824) × (b < 1073741824) ⌝ }
     ensures { λ r. ⌜ r ≡ capped (a + b) ⌝ }
 {
     let s = a + b;
@@ -47,14 +49,121 @@ pub fn hears(rules: &[u64], parts: &[u64], p: usize, r: usize, mask: u64) -> boo
     }
 }
 
-// Whether part q gets the action of a rule of this kind at part p.
-fn gets(kind: u64, p: usize, q: usize) -> bool
-    ensures { λ b. ⌜ b ≡ cond (eqb kind 1) (not (eqb q p)) (eqb q p) ⌝ }
+// Whether a rule that some part carries has a channel of the mask among its events.
+fn listens(rules: &[u64], parts: &[u64], parts_count: usize, r: usize, mask: u64) -> bool
+    requires { ⌜ (512 ≤ length (now rules)) × (64 ≤ length (now parts)) × («parts_count» ≤ 16) × (r < 64) ⌝ }
+    ensures { λ b. ⌜ b ≡ listening (now (rules .entry)) (now (parts .entry)) «parts_count» r mask ⌝ }
 {
-    if kind == 1 { q != p } else { q == p }
+    let common = rules[8 * r] & mask & 4294967295;
+    if common == 0 {
+        return false;
+    }
+    graph::is_carried(parts, parts_count, r)
 }
 
-// The charge at part p of an update of the channels in the mask.
+// Row r of the memo added to the charges of an update, at the parts that carry rule r.
+fn add_row(sums: &mut [u32], parts: &[u64], memo: &[u32], parts_count: usize, r: usize)
+    requires { ⌜ (64 ≤ length (now parts)) × (length (now memo) ≡ 1024) × («parts_count» ≤ 16) × (r < 64) × RowSmall r (now sums) × RowKnown «parts_count» r (now memo) ⌝ }
+    ensures { λ _. ⌜ RowAdded (now (parts .entry)) (now (memo .entry)) «parts_count» r (now (sums .entry)) (now (sums .exit)) ⌝ }
+{
+    let mut q: usize = 0;
+    while q < parts_count {
+        if carries(parts, q, r) {
+            sums[q] = sums[q] + (memo[16 * r + q] - 1);
+        }
+        q += 1;
+    }
+}
+
+// The charges at all parts of an update of the channels in the mask, or 0 where there is none.
+fn update_charges(
+    rules: &[u64],
+    parts: &[u64],
+    memo: &mut [u32],
+    channels: usize,
+    count: usize,
+    parts_count: usize,
+    mask: u64,
+) -> [u32; 16]
+    requires { ⌜ Ready (now rules) (now parts) channels count «parts_count» (now memo) ⌝ }
+    ensures { λ sums. ⌜ UpdatesGive (now (rules .entry)) (now (parts .entry)) channels count «parts_count» mask (now (memo .entry)) (now (memo .exit)) sums ⌝ }
+{
+    if mask & 4294967295 == 0 {
+        return [0u32; 16];
+    }
+    let mut sums = [1u32; 16];
+    let mut r: usize = 0;
+    while r < count {
+        if listens(rules, parts, parts_count, r, mask) {
+            rule_charges(rules, parts, memo, channels, count, parts_count, r);
+            add_row(&mut sums, parts, memo, parts_count, r);
+        }
+        r += 1;
+    }
+    sums
+}
+
+// The charges of a row, added up.
+fn row_sum(row: &[u32], parts_count: usize) -> u32
+    requires { ⌜ RowSmall 64 (now row) × («parts_count» ≤ 16) ⌝ }
+    ensures { λ s. ⌜ s ≡ sum (λ q. getD (now (row .entry)) q 0) (below «parts_count») ⌝ }
+{
+    let mut total: u32 = 0;
+    let mut q: usize = 0;
+    while q < parts_count {
+        total = total + row[q];
+        q += 1;
+    }
+    total
+}
+
+// What the action adds to the charge of a rule of this kind at a part: its charge there, or at all other parts.
+fn share(kind: u64, total: u32, own: u32) -> u32
+    requires { ⌜ own ≤ total ⌝ }
+    ensures { λ s. ⌜ s ≡ cond (eqb kind 1) (total - own) own ⌝ }
+{
+    if kind == 1 { total - own } else { own }
+}
+
+// Row r of the memo: at each part the charge of the default action, and what the action adds.
+fn put_row(memo: &mut [u32], parts_count: usize, r: usize, kind: u64, first: &[u32], second: &[u32])
+    requires { ⌜ (length (now memo) ≡ 1024) × («parts_count» ≤ 16) × (r < 64) × RowSmall 64 (now first) × RowSmall 64 (now second) ⌝ }
+    ensures { λ _. ⌜ RowPut «parts_count» r kind (now (first .entry)) (now (second .entry)) (now (memo .entry)) (now (memo .exit)) ⌝ }
+{
+    let total = row_sum(second, parts_count);
+    let mut p: usize = 0;
+    while p < parts_count {
+        let rest = share(kind, total, second[p]);
+        let charge = capped_sum(first[p], rest);
+        memo[16 * r + p] = charge + 1;
+        p += 1;
+    }
+}
+
+// The charges of rule r at all parts. The memo has them where they were computed before.
+fn rule_charges(
+    rules: &[u64],
+    parts: &[u64],
+    memo: &mut [u32],
+    channels: usize,
+    count: usize,
+    parts_count: usize,
+    r: usize,
+)
+    requires { ⌜ Ready (now rules) (now parts) channels count «parts_count» (now memo) × (r < count) × (carriedAt (now parts) «parts_count» r ≡ true) ⌝ }
+    ensures { λ _. ⌜ RulesGive (now (rules .entry)) (now (parts .entry)) channels count «parts_count» r (now (memo .entry)) (now (memo .exit)) ⌝ }
+{
+    if memo[16 * r] != 0 {
+        return;
+    }
+    let default = rules[8 * r + 1];
+    let action = rules[8 * r + 2];
+    let first = update_charges(rules, parts, memo, channels, count, parts_count, default);
+    let second = update_charges(rules, parts, memo, channels, count, parts_count, action);
+    put_row(memo, parts_count, r, rules[8 * r + 3], &first, &second);
+}
+
+// The charge at part p of an update of the channels in the mask, up to 65,536.
 pub fn update_charge(
     rules: &[u64],
     parts: &[u64],
@@ -72,52 +181,12 @@ pub fn update_charge(
     let mut r: usize = 0;
     while r < count {
         if hears(rules, parts, p, r, mask) {
-            let c = rule_charge(rules, parts, memo, channels, count, parts_count, p, r);
-            total = capped_sum(total, c);
+            rule_charges(rules, parts, memo, channels, count, parts_count, r);
+            total = capped_sum(total, memo[16 * r + p] - 1);
         }
         r += 1;
     }
     total
-}
-
-// The charge of rule r at part p. The memo gives a charge that was computed before.
-pub fn rule_charge(
-    rules: &[u64],
-    parts: &[u64],
-    memo: &mut [u32],
-    channels: usize,
-    count: usize,
-    parts_count: usize,
-    p: usize,
-    r: usize,
-) -> u32
-    requires { ⌜ Ready (now rules) (now parts) channels count «parts_count» (now memo) × (p < «parts_count») × (r < count) ⌝ }
-    ensures { λ s. ⌜ RuleGives (now (rules .entry)) (now (parts .entry)) channels count «parts_count» p r (now (memo .exit)) s ⌝ }
-{
-    let at = 64 * p + r;
-    let known = memo[at];
-    if known != 0 {
-        return known - 1;
-    }
-    let first = rules[8 * r + 1] & 4294967295;
-    let second = rules[8 * r + 2] & 4294967295;
-    let kind = rules[8 * r + 3];
-    let mut sum: u32 = 0;
-    if first != 0 {
-        sum = update_charge(rules, parts, memo, channels, count, parts_count, p, first);
-    }
-    if second != 0 {
-        let mut q: usize = 0;
-        while q < parts_count {
-            if gets(kind, p, q) {
-                let c = update_charge(rules, parts, memo, channels, count, parts_count, q, second);
-                sum = capped_sum(sum, c);
-            }
-            q += 1;
-        }
-    }
-    memo[at] = sum + 1;
-    sum
 }
 
 // Whether there is a rule r, and part p carries it.
@@ -156,7 +225,8 @@ pub fn first_above(
         let p = place / 64;
         let r = place % 64;
         if is_carried(parts, count, p, r) {
-            let c = rule_charge(rules, parts, &mut memo, channels, count, parts_count, p, r);
+            rule_charges(rules, parts, &mut memo, channels, count, parts_count, r);
+            let c = memo[16 * r + p] - 1;
             if c == 65536 {
                 return Bound::Above(place);
             }

@@ -16,11 +16,14 @@ use Rattle.pool.specs.Updates.{charge}
 use Rattle.pool.specs.Places.{capacity, pairsOf}
 use Rattle.pool.specs.States.{Machine, Memory, load, goodLength}
 use Rattle.charge.specs.Memo.{Memo}
-use Rattle.states.specs.Answer.{goodnessOf}
+use Rattle.index.specs.Index.{headsOf, Indexed, keys, Roomy}
+use Rattle.pool.specs.Moves.{Laid}
+use Rattle.states.specs.Answer.{Fresh, goodnessOf}
 use Rattle.states.specs.declared.Goodness.the-variants.{Good, Bad}
 use Rattle.passing.specs.Judged.{shape}
 use Rattle.passing.specs.Tabled.{deckOf}
 use Rattle.firing.specs.Firing.{setAndFire}
+use Rattle.steps.specs.Queue.{heldOf}
 use Rattle.steps.specs.Commits.{Stored, Committing}
 use Rattle.engine.specs.Calls.{Answer, added, settled, spent, Done, tested, goodInput, Settling, settling}
 use Rattle.engine.specs.Answers.{memoryOf}
@@ -31,18 +34,25 @@ use Rattle.engine.specs.declared.Tested.the-variants.{Ready, Refused}
 abbrev pub GoodInput : ℕ → List ℤ → Bool → Type 0
 GoodInput channels pairs r = (d : Deck) → R d ≡ channels → r ≡ goodInput d pairs
 
+-- a lent index of zeros is long enough for a pool of n numbers, if that is a good length
+abbrev pub Usable : ℕ → List ℕ → Type 0
+Usable n index = goodLength n ≡ true → Fresh n index
+
 -- as many places as the pool has
-abbrev pub Entering : List ℕ → Counted.Deck → List ℕ → List ℕ → List ℕ → List ℤ → List ℤ → ℕ → ℕ → Type 0
-Entering s k rules parts memo pool vs pending total = Committing s k rules parts memo pool (capacity (length pool)) vs pending total
+abbrev pub Entering : List ℕ → Counted.Deck → List ℕ → List ℕ → List ℕ → List ℕ → List ℤ → List ℤ → ℕ → ℕ → Type 0
+Entering s k rules parts memo index pool vs pending total =
+    Committing s k rules parts memo (heldOf 0 index pool) (capacity (length pool)) vs pending total
 
 -- the tests 9 and 10, by the shape of the tables: the refusal, or a good state with its charge
-abbrev pub TestsState : Counted.Deck → List ℕ → List ℕ → List ℕ → List ℤ → List ℤ → ℕ → Tested → Type 0
-TestsState k rules parts memo pool vs pending (Ready c total) =
+abbrev pub TestsState : Counted.Deck → List ℕ → List ℕ → List ℕ → List ℕ → List ℤ → List ℤ → ℕ → Tested → Type 0
+TestsState k rules parts memo index pool vs pending (Ready c total) =
     (c ≡ k)
     × (goodLength (length pool) ≡ true)
     × (Good total ≡ goodnessOf (shape rules parts k) (memoryOf (record { values = vs; pending = pending }) pool))
     × Memo (shape rules parts k) memo
-TestsState k rules parts memo pool vs pending (Refused n p) =
+    × Indexed 0 (keys (headsOf index) pending pool) index
+    × Roomy (capacity (length pool)) index
+TestsState k rules parts memo index pool vs pending (Refused n p) =
     (p ≡ 0)
     × (((n ≡ badPool) × (goodLength (length pool) ≡ false))
     ⊎ ((n ≡ badState)
@@ -50,15 +60,16 @@ TestsState k rules parts memo pool vs pending (Refused n p) =
     × (Bad ≡ goodnessOf (shape rules parts k) (memoryOf (record { values = vs; pending = pending }) pool))))
 
 -- the tests 1 to 10: the refusal, or all that the rest of a call needs
-pub record Passed (s rules parts memo : List ℕ) (m : Memory) (k : Counted.Deck) (total : ℕ) : Type 0 where
+pub record Passed (s rules parts memo index : List ℕ) (m : Memory) (k : Counted.Deck) (total : ℕ) : Type 0 where
   pub accepted : tested s m ≡ accepted (deckOf s)
-  pub entering : Entering s k rules parts memo (m .pool) (m .state .values) (m .state .pending) total
-  pub loaded : Stored (deckOf s) (capacity (length (m .pool))) (load m) (m .state .values) (m .state .pending) total (m .pool)
+  pub entering : Entering s k rules parts memo index (m .pool) (m .state .values) (m .state .pending) total
+  pub loaded : Stored (deckOf s) (capacity (length (m .pool))) (load m) (m .state .values) (m .state .pending) total
+      (heldOf 0 index (m .pool))
 
-abbrev pub Tests : List ℕ → List ℕ → List ℕ → List ℕ → List ℤ → List ℤ → ℕ → Tested → Type 0
-Tests s rules parts memo pool vs pending (Ready k total) =
-    Passed s rules parts memo (memoryOf (record { values = vs; pending = pending }) pool) k total
-Tests s rules parts memo pool vs pending (Refused n p) =
+abbrev pub Tests : List ℕ → List ℕ → List ℕ → List ℕ → List ℕ → List ℤ → List ℤ → ℕ → Tested → Type 0
+Tests s rules parts memo index pool vs pending (Ready k total) =
+    Passed s rules parts memo index (memoryOf (record { values = vs; pending = pending }) pool) k total
+Tests s rules parts memo index pool vs pending (Refused n p) =
     tested s (memoryOf (record { values = vs; pending = pending }) pool) ≡ refused n p
 
 -- what is left of an input behind the tests 1 to 10, on values and pending updates, with C places
@@ -72,24 +83,29 @@ entered d C x p l =
       machine = setAndFire d p (pairsOf l) x;
     })))
 
--- the numbers that are left are those of the outcome: of a refusal, what they were
-abbrev pub Leaves : Deck → ℕ → Outcome Done → List ℤ → ℕ → List ℤ → Outcome Answer → List ℤ → ℕ → List ℤ → Type 0
-Leaves d C (refused n p) vs₀ pending₀ pool₀ answer vs pending pool =
-    (answer ≡ refused n p) × (vs ≡ vs₀) × (pending ≡ pending₀) × (pool ≡ pool₀)
-Leaves d C (accepted a) vs₀ pending₀ pool₀ answer vs pending pool =
-    (answer ≡ accepted (a .answer)) × ((total : ℕ) × Stored d C (a .machine) vs pending total pool)
+-- the numbers that are left stand for the values and pending updates x
+pub record Left (x : Machine) (vs : List ℤ) (pending : ℕ) (pool : List ℤ) : Type 0 where
+  pub values : vs ≡ x .values
+  pub count : pending ≡ length (x .pending)
+  pub laid : Laid pool (x .pending)
 
-abbrev pub Enters : List ℕ → List ℤ → ℕ → ℕ → List ℤ → ℕ → List ℤ → Outcome Answer → List ℤ → ℕ → List ℤ → Type 0
-Enters s vs₀ pending₀ total pool₀ p l answer vs pending pool =
-    (x : Machine) → Stored (deckOf s) (capacity (length pool₀)) x vs₀ pending₀ total pool₀
-    → Leaves (deckOf s) (capacity (length pool₀)) (entered (deckOf s) (capacity (length pool₀)) x p l) vs₀ pending₀ pool₀ answer vs pending pool
+-- the numbers that are left are those of the outcome: of a refusal, what they were
+abbrev pub Leaves : Outcome Done → List ℤ → ℕ → List ℤ → Outcome Answer → List ℤ → ℕ → List ℤ → Type 0
+Leaves (refused n p) vs₀ pending₀ pool₀ answer vs pending pool =
+    (answer ≡ refused n p) × (vs ≡ vs₀) × (pending ≡ pending₀) × (pool ≡ pool₀)
+Leaves (accepted a) vs₀ pending₀ pool₀ answer vs pending pool = (answer ≡ accepted (a .answer)) × Left (a .machine) vs pending pool
+
+abbrev pub Enters : List ℕ → List ℤ → ℕ → ℕ → List ℕ → List ℤ → ℕ → List ℤ → Outcome Answer → List ℤ → ℕ → List ℤ → Type 0
+Enters s vs₀ pending₀ total index₀ pool₀ p l answer vs pending pool =
+    (x : Machine) → Stored (deckOf s) (capacity (length pool₀)) x vs₀ pending₀ total (heldOf 0 index₀ pool₀)
+    → Leaves (entered (deckOf s) (capacity (length pool₀)) x p l) vs₀ pending₀ pool₀ answer vs pending pool
 
 -- what a settle answers
 unfoldable pub settledAs : Settling → Answer
 settledAs s = cond (isEmpty (s .machine .pending)) (settled (s .made)) (spent (s .made))
 
-abbrev pub Settles : List ℕ → ℕ → List ℤ → ℕ → ℕ → List ℤ → ℕ → Outcome Answer → List ℤ → ℕ → List ℤ → Type 0
-Settles s C vs₀ pending₀ total pool₀ budget answer vs pending pool =
-    (x : Machine) → Stored (deckOf s) C x vs₀ pending₀ total pool₀
+abbrev pub Settles : List ℕ → ℕ → List ℤ → ℕ → ℕ → List ℕ → List ℤ → ℕ → Outcome Answer → List ℤ → ℕ → List ℤ → Type 0
+Settles s C vs₀ pending₀ total index₀ pool₀ budget answer vs pending pool =
+    (x : Machine) → Stored (deckOf s) C x vs₀ pending₀ total (heldOf 0 index₀ pool₀)
     → (answer ≡ accepted (settledAs (settling (deckOf s) budget x)))
-    × ((total : ℕ) × Stored (deckOf s) C (settling (deckOf s) budget x .machine) vs pending total pool)
+    × Left (settling (deckOf s) budget x .machine) vs pending pool

@@ -2,21 +2,31 @@
 // An answer that comes with a state stands beside it.
 ghost use mathlib.Core.Path.{_≡_};
 ghost use mathlib.Core.Bool.{cond};
-ghost use Prim.Native.Nat.{_≤_};
+ghost use Prim.Native.Nat.{_*_, _-_, _≤_};
 ghost use lib.Dec.{eqb};
 ghost use lib.IntN.{pos};
-ghost use lib.ListN.{length, replicate};
+ghost use mathlib.Core.List.{_++_};
+ghost use lib.ListN.{length, take, replicate};
 ghost use Rattle.refusals.specs.Outcome.{refused, accepted};
 ghost use Rattle.pool.specs.Places.{zeros};
 ghost use Rattle.pool.specs.States.{goodLength};
 ghost use Rattle.engine.specs.Calls as Calls;
 ghost use Rattle.engine.specs.Answers.{checkOutcome, sectionOf, startOutcome, inputOutcome, commitOutcome, settleOutcome, memoryOf, replyOf};
-ghost use Rattle.engine.specs.Tested.{GoodInput, TestsState, Tests, Entering, Enters, Settles};
+ghost use Rattle.engine.specs.Tested.{GoodInput, Usable, TestsState, Tests, Entering, Enters, Settles};
 ghost use Rattle.charge.specs.Memo.{Ready};
+ghost use Rattle.steps.specs.Queue.{heldOf};
 ghost use Rattle.steps.specs.Commits.{Committing};
 use deck::Deck;
 use passing::Judged;
 use pool::State;
+
+// The numbers of an index, a third of them for the buckets and the others for places: for pools of up to 1,024 places, of up to
+// 8,192, and for the longest. It begins as zeros in each call, so that a short pool should have a short one.
+const SHORT_POOL: usize = 10240;
+const SHORT_INDEX: usize = 1536;
+const MIDDLE_POOL: usize = 81920;
+const MIDDLE_INDEX: usize = 12288;
+const INDEX: usize = 98304;
 
 // R, M, N and the largest charge of any carried rule.
 pub enum CheckAnswer {
@@ -210,12 +220,13 @@ fn test_state(
     rules: &[u64],
     parts: &[u64],
     memo: &mut [u32],
+    index: &mut [u16],
     pool: &[i32],
     values: &[i32],
     pending: u32,
 ) -> Tested
-    requires { ⌜ Ready (now rules) (now parts) (counts .channels) (counts .rules) (counts .parts) (now memo) × (counts .channels ≤ 32) ⌝ }
-    ensures { λ r. ⌜ TestsState counts (now (rules .entry)) (now (parts .entry)) (now (memo .exit)) (now (pool .entry)) (now (values .entry)) pending r ⌝ }
+    requires { ⌜ Ready (now rules) (now parts) (counts .channels) (counts .rules) (counts .parts) (now memo) × (counts .channels ≤ 32) × Usable (length (now pool)) (now index) ⌝ }
+    ensures { λ r. ⌜ TestsState counts (now (rules .entry)) (now (parts .entry)) (now (memo .exit)) (now (index .exit)) (now (pool .entry)) (now (values .entry)) pending r ⌝ }
 {
     if !good_length(pool.len()) {
         return Tested::Refused {
@@ -224,7 +235,7 @@ fn test_state(
         };
     }
     let n = pending as usize;
-    let good = states::judge(rules, parts, memo, counts.channels, counts.rules, counts.parts, values, n, pool);
+    let good = states::judge(rules, parts, memo, index, counts.channels, counts.rules, counts.parts, values, n, pool);
     match good {
         states::Goodness::Good(charge) => Tested::Ready {
             counts: counts,
@@ -243,12 +254,13 @@ fn test_lent(
     rules: &mut [u64],
     parts: &mut [u64],
     memo: &mut [u32],
+    index: &mut [u16],
     pool: &[i32],
     values: &[i32],
     pending: u32,
 ) -> Tested
-    requires { ⌜ (now rules ≡ replicate 512 0) × (now parts ≡ replicate 64 0) × (now memo ≡ replicate 1024 0) ⌝ }
-    ensures { λ r. ⌜ Tests (now (deck .entry)) (now (rules .exit)) (now (parts .exit)) (now (memo .exit)) (now (pool .entry)) (now (values .entry)) pending r ⌝ }
+    requires { ⌜ (now rules ≡ replicate 512 0) × (now parts ≡ replicate 64 0) × (now memo ≡ replicate 1024 0) × Usable (length (now pool)) (now index) ⌝ }
+    ensures { λ r. ⌜ Tests (now (deck .entry)) (now (rules .exit)) (now (parts .exit)) (now (memo .exit)) (now (index .exit)) (now (pool .entry)) (now (values .entry)) pending r ⌝ }
 {
     let found = passing::judge(deck, rules, parts);
     match found {
@@ -257,7 +269,7 @@ fn test_lent(
             place: place,
         },
         Judged::Passing { counts, charge: _ } => {
-            test_state(counts, rules, parts, memo, pool, values, pending)
+            test_state(counts, rules, parts, memo, index, pool, values, pending)
         }
     }
 }
@@ -306,6 +318,28 @@ fn input_refused(number: u32, state: State) -> Entered
     }
 }
 
+fn input_done(added: u32, values: [i32; Deck::VALUES], pending: u32) -> Entered
+    ensures { λ r. ⌜ (inputOutcome (r .answer) ≡ accepted (Calls.added added)) × (r .state .values ≡ values) × (r .state .pending ≡ pending) ⌝ }
+{
+    let state = State {
+        values: values,
+        pending: pending,
+    };
+    Entered {
+        answer: InputAnswer::Added(added),
+        state: state,
+    }
+}
+
+// All but the first updates are taken back: their places become zeros again.
+fn take_back(pool: &mut [i32], pending: usize)
+    requires { ⌜ 10 * pending ≤ length (now pool) ⌝ }
+    ensures { λ _. ⌜ now (pool .exit) ≡ take (10 * pending) (now (pool .entry)) ++ zeros (length (now (pool .entry)) - 10 * pending) ⌝ }
+{
+    let from = Deck::PLACE * pending;
+    pool::clear(&mut pool[from..]);
+}
+
 // An input on what was tested: the values are set, and the firing follows.
 fn enter(
     deck: &[u8],
@@ -313,14 +347,15 @@ fn enter(
     rules: &[u64],
     parts: &[u64],
     memo: &mut [u32],
+    index: &mut [u16],
     pool: &mut [i32],
     state: State,
     charge: u32,
     part: u32,
     pairs: &[i32],
 ) -> Entered
-    requires { ⌜ Entering (now deck) counts (now rules) (now parts) (now memo) (now pool) (state .values) (state .pending) charge ⌝ }
-    ensures { λ r. ⌜ Enters (now (deck .entry)) (state .values) (state .pending) charge (now (pool .entry)) part (now (pairs .entry)) (inputOutcome (r .answer)) (r .state .values) (r .state .pending) (now (pool .exit)) ⌝ }
+    requires { ⌜ Entering (now deck) counts (now rules) (now parts) (now memo) (now index) (now pool) (state .values) (state .pending) charge ⌝ }
+    ensures { λ r. ⌜ Enters (now (deck .entry)) (state .values) (state .pending) charge (now (index .entry)) (now (pool .entry)) part (now (pairs .entry)) (inputOutcome (r .answer)) (r .state .values) (r .state .pending) (now (pool .exit)) ⌝ }
 {
     let p = part as usize;
     if p >= counts.parts {
@@ -334,32 +369,24 @@ fn enter(
     let mut after = state.values;
     firing::assign_pairs(&mut after, p, pairs);
     let capacity = (pool.len() / Deck::PLACE) as u32;
-    let queue = steps::react(deck, counts, rules, parts, memo, pool, capacity, n, charge, &before, &after, p);
+    let queue = steps::react(deck, counts, rules, parts, memo, index, pool, 0, capacity, n, charge, &before, &after, p);
     if queue.full {
-        let from = Deck::PLACE * n;
-        pool::clear(&mut pool[from..]);
+        take_back(pool, n);
         return input_refused(refusals::OVER_CAPACITY, state);
     }
-    let added = queue.charge - charge;
-    let later = State {
-        values: after,
-        pending: queue.pending as u32,
-    };
-    Entered {
-        answer: InputAnswer::Added(added),
-        state: later,
-    }
+    input_done(queue.charge - charge, after, queue.pending as u32)
 }
 
-// The values of channels of a part are set; the limit is not tested. The answer is the charge added.
-pub fn input(deck: &[u8], pool: &mut [i32], state: State, part: u32, pairs: &[i32]) -> Entered
+// The input with an index that is long enough for the pool.
+fn input_with(deck: &[u8], pool: &mut [i32], state: State, part: u32, pairs: &[i32], index: &mut [u16]) -> Entered
+    requires { ⌜ Usable (length (now pool)) (now index) ⌝ }
     ensures { λ r. ⌜ replyOf (inputOutcome (r .answer)) (r .state) (now (pool .exit)) ≡ Calls.input (now (deck .entry)) (memoryOf state (now (pool .entry))) part (now (pairs .entry)) ⌝ }
 {
     let mut rules = [0u64; 512];
     let mut parts = [0u64; 64];
     let mut memo = [0u32; 1024];
     let values = state.values;
-    let found = test_lent(deck, &mut rules, &mut parts, &mut memo, pool, &values, state.pending);
+    let found = test_lent(deck, &mut rules, &mut parts, &mut memo, index, pool, &values, state.pending);
     match found {
         Tested::Refused { number, place } => Entered {
             answer: InputAnswer::Refused {
@@ -369,9 +396,25 @@ pub fn input(deck: &[u8], pool: &mut [i32], state: State, part: u32, pairs: &[i3
             state: state,
         },
         Tested::Ready { counts, charge } => {
-            enter(deck, counts, &rules, &parts, &mut memo, pool, state, charge, part, pairs)
+            enter(deck, counts, &rules, &parts, &mut memo, index, pool, state, charge, part, pairs)
         }
     }
+}
+
+// The values of channels of a part are set; the limit is not tested. The answer is the charge added.
+pub fn input(deck: &[u8], pool: &mut [i32], state: State, part: u32, pairs: &[i32]) -> Entered
+    ensures { λ r. ⌜ replyOf (inputOutcome (r .answer)) (r .state) (now (pool .exit)) ≡ Calls.input (now (deck .entry)) (memoryOf state (now (pool .entry))) part (now (pairs .entry)) ⌝ }
+{
+    if pool.len() <= SHORT_POOL {
+        let mut short = [0u16; SHORT_INDEX];
+        return input_with(deck, pool, state, part, pairs, &mut short);
+    }
+    if pool.len() <= MIDDLE_POOL {
+        let mut middle = [0u16; MIDDLE_INDEX];
+        return input_with(deck, pool, state, part, pairs, &mut middle);
+    }
+    let mut index = [0u16; INDEX];
+    input_with(deck, pool, state, part, pairs, &mut index)
 }
 
 fn commit_answer(applied: bool, charge: u32) -> CommitAnswer
@@ -384,15 +427,16 @@ fn commit_answer(applied: bool, charge: u32) -> CommitAnswer
     }
 }
 
-// The commit of the update at a place. The answer is whether it was applied, and the charge now pending.
-pub fn commit(deck: &[u8], pool: &mut [i32], state: State, place: u32) -> Committed
+// The commit with an index that is long enough for the pool.
+fn commit_with(deck: &[u8], pool: &mut [i32], state: State, place: u32, index: &mut [u16]) -> Committed
+    requires { ⌜ Usable (length (now pool)) (now index) ⌝ }
     ensures { λ r. ⌜ replyOf (commitOutcome (r .answer)) (r .state) (now (pool .exit)) ≡ Calls.commit (now (deck .entry)) (memoryOf state (now (pool .entry))) place ⌝ }
 {
     let mut rules = [0u64; 512];
     let mut parts = [0u64; 64];
     let mut memo = [0u32; 1024];
     let values = state.values;
-    let found = test_lent(deck, &mut rules, &mut parts, &mut memo, pool, &values, state.pending);
+    let found = test_lent(deck, &mut rules, &mut parts, &mut memo, index, pool, &values, state.pending);
     match found {
         Tested::Refused { number, place: p } => Committed {
             answer: CommitAnswer::Refused {
@@ -412,7 +456,7 @@ pub fn commit(deck: &[u8], pool: &mut [i32], state: State, place: u32) -> Commit
                 };
             }
             let capacity = (pool.len() / Deck::PLACE) as u32;
-            let step = steps::commit(deck, counts, &rules, &parts, &mut memo, pool, capacity, state, charge, place as usize);
+            let step = steps::commit(deck, counts, &rules, &parts, &mut memo, index, pool, capacity, state, charge, place as usize);
             let answer = commit_answer(step.applied, step.charge);
             let later = step.state;
             Committed {
@@ -421,6 +465,22 @@ pub fn commit(deck: &[u8], pool: &mut [i32], state: State, place: u32) -> Commit
             }
         }
     }
+}
+
+// The commit of the update at a place. The answer is whether it was applied, and the charge now pending.
+pub fn commit(deck: &[u8], pool: &mut [i32], state: State, place: u32) -> Committed
+    ensures { λ r. ⌜ replyOf (commitOutcome (r .answer)) (r .state) (now (pool .exit)) ≡ Calls.commit (now (deck .entry)) (memoryOf state (now (pool .entry))) place ⌝ }
+{
+    if pool.len() <= SHORT_POOL {
+        let mut short = [0u16; SHORT_INDEX];
+        return commit_with(deck, pool, state, place, &mut short);
+    }
+    if pool.len() <= MIDDLE_POOL {
+        let mut middle = [0u16; MIDDLE_INDEX];
+        return commit_with(deck, pool, state, place, &mut middle);
+    }
+    let mut index = [0u16; INDEX];
+    commit_with(deck, pool, state, place, &mut index)
 }
 
 fn settle_answer(pending: u32, made: u32) -> SettleAnswer
@@ -433,54 +493,53 @@ fn settle_answer(pending: u32, made: u32) -> SettleAnswer
     }
 }
 
-// Place 0 is committed until none is pending or the budget is used. What was tested once is not tested again.
+// Place 0 is committed until none is pending or the budget is used. What was tested once is not tested again, and the places
+// move down once, at the end.
 fn settle_tested(
     deck: &[u8],
     counts: Deck,
     rules: &[u64],
     parts: &[u64],
     memo: &mut [u32],
+    index: &mut [u16],
     pool: &mut [i32],
     capacity: u32,
     state: State,
     charge: u32,
     budget: u32,
 ) -> Settled
-    requires { ⌜ Committing (now deck) counts (now rules) (now parts) (now memo) (now pool) capacity (state .values) (state .pending) charge ⌝ }
-    ensures { λ r. ⌜ Settles (now (deck .entry)) capacity (state .values) (state .pending) charge (now (pool .entry)) budget (settleOutcome (r .answer)) (r .state .values) (r .state .pending) (now (pool .exit)) ⌝ }
+    requires { ⌜ Committing (now deck) counts (now rules) (now parts) (now memo) (heldOf 0 (now index) (now pool)) capacity (state .values) (state .pending) charge ⌝ }
+    ensures { λ r. ⌜ Settles (now (deck .entry)) capacity (state .values) (state .pending) charge (now (index .entry)) (now (pool .entry)) budget (settleOutcome (r .answer)) (r .state .values) (r .state .pending) (now (pool .exit)) ⌝ }
 {
     let mut later = state;
     let mut total = charge;
     let mut made: u32 = 0;
     while made < budget {
         if later.pending == 0 {
-            return Settled {
-                answer: SettleAnswer::Settled(made),
-                state: later,
-            };
+            break;
         }
-        let step = steps::commit(deck, counts, rules, parts, memo, pool, capacity, later, total, 0);
+        let gone = made as usize;
+        let from = Deck::PLACE * gone;
+        let step = steps::commit_front(deck, counts, rules, parts, memo, index, &mut pool[from..], gone, capacity - made, later, total);
         later = step.state;
         total = step.charge;
         made += 1;
     }
+    pool::shift(pool, Deck::PLACE * (made as usize), Deck::PLACE * (later.pending as usize));
     let answer = settle_answer(later.pending, made);
-    Settled {
-        answer: answer,
-        state: later,
-    }
+    Settled { answer: answer, state: later }
 }
 
-// The commit of place 0, again and again, within a budget of commits. The answer is how many were made, and whether nothing is
-// pending then.
-pub fn settle(deck: &[u8], pool: &mut [i32], state: State, budget: u32) -> Settled
+// The settle with an index that is long enough for the pool.
+fn settle_with(deck: &[u8], pool: &mut [i32], state: State, budget: u32, index: &mut [u16]) -> Settled
+    requires { ⌜ Usable (length (now pool)) (now index) ⌝ }
     ensures { λ r. ⌜ replyOf (settleOutcome (r .answer)) (r .state) (now (pool .exit)) ≡ Calls.settle (now (deck .entry)) (memoryOf state (now (pool .entry))) budget ⌝ }
 {
     let mut rules = [0u64; 512];
     let mut parts = [0u64; 64];
     let mut memo = [0u32; 1024];
     let values = state.values;
-    let found = test_lent(deck, &mut rules, &mut parts, &mut memo, pool, &values, state.pending);
+    let found = test_lent(deck, &mut rules, &mut parts, &mut memo, index, pool, &values, state.pending);
     match found {
         Tested::Refused { number, place } => Settled {
             answer: SettleAnswer::Refused {
@@ -500,7 +559,24 @@ pub fn settle(deck: &[u8], pool: &mut [i32], state: State, budget: u32) -> Settl
                 };
             }
             let capacity = (pool.len() / Deck::PLACE) as u32;
-            settle_tested(deck, counts, &rules, &parts, &mut memo, pool, capacity, state, charge, budget)
+            settle_tested(deck, counts, &rules, &parts, &mut memo, index, pool, capacity, state, charge, budget)
         }
     }
+}
+
+// The commit of place 0, again and again, within a budget of commits. The answer is how many were made, and whether nothing is
+// pending then.
+pub fn settle(deck: &[u8], pool: &mut [i32], state: State, budget: u32) -> Settled
+    ensures { λ r. ⌜ replyOf (settleOutcome (r .answer)) (r .state) (now (pool .exit)) ≡ Calls.settle (now (deck .entry)) (memoryOf state (now (pool .entry))) budget ⌝ }
+{
+    if pool.len() <= SHORT_POOL {
+        let mut short = [0u16; SHORT_INDEX];
+        return settle_with(deck, pool, state, budget, &mut short);
+    }
+    if pool.len() <= MIDDLE_POOL {
+        let mut middle = [0u16; MIDDLE_INDEX];
+        return settle_with(deck, pool, state, budget, &mut middle);
+    }
+    let mut index = [0u16; INDEX];
+    settle_with(deck, pool, state, budget, &mut index)
 }

@@ -20,7 +20,7 @@ use Rattle.expression.specs.declared.NumOp.the-variants as OfNum
 use Rattle.expression.specs.declared.TruthOp.{TruthOp}
 use Rattle.expression.specs.declared.TruthOp.the-variants as OfTruth
 use Rattle.expression.proofs.Readings.{mapTwo, map-same, map-map, map-one, map-two, literal-ahead, channel-ahead}
-use Rattle.expression.proofs.Readings.{num-end, truth-end, num-inside, truth-inside}
+use Rattle.expression.proofs.Readings.{num-outside, truth-outside, num-inside, truth-inside}
 use Rattle.expression.proofs.Readings.{with-none, with-one, with-two, without-first}
 
 -- what follows an operator, evaluated; `go` and `goNum` evaluate an operand at a place
@@ -63,11 +63,11 @@ module _ (o f : List ℤ) where
   module _ (s : List ℕ) (at : ℕ) where
     pub no-num : length s ≤ at → Answers (numAt o f) s at nothing
     unfolding numAt
-    no-num h = record { ahead = tt; equal = λ fuel l. rw (num-end (scope (length o) (length f)) s at h fuel) }
+    no-num h = record { ahead = tt; equal = λ fuel l. rw (num-outside (scope (length o) (length f)) s at h fuel) }
 
     pub no-truth : length s ≤ at → Answers (truthAt o f) s at nothing
     unfolding truthAt
-    no-truth h = record { ahead = tt; equal = λ fuel l. rw (truth-end (scope (length o) (length f)) s at h fuel) }
+    no-truth h = record { ahead = tt; equal = λ fuel l. rw (truth-outside (scope (length o) (length f)) s at h fuel) }
 
     -- inside, by the operator that stands there
     module _ (inside : at < length s) where

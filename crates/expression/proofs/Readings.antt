@@ -69,15 +69,15 @@ channel-ahead k known s at =
 -- ---- the readers at a place: nothing past the end, and inside what follows the operator
 
 module _ (sc : Scope) (s : List ℕ) (at : ℕ) where
-  pub num-end : length s ≤ at → (fuel : ℕ) → num sc fuel s at ≡ nothing
+  pub num-outside : length s ≤ at → (fuel : ℕ) → num sc fuel s at ≡ nothing
   unfolding readingExpressions
-  num-end h zero = refl
-  num-end h (suc g) = rw (le-ltb at (length s) h)
+  num-outside h zero = refl
+  num-outside h (suc g) = rw (le-ltb at (length s) h)
 
-  pub truth-end : length s ≤ at → (fuel : ℕ) → truth sc fuel s at ≡ nothing
+  pub truth-outside : length s ≤ at → (fuel : ℕ) → truth sc fuel s at ≡ nothing
   unfolding readingExpressions
-  truth-end h zero = refl
-  truth-end h (suc g) = rw (le-ltb at (length s) h)
+  truth-outside h zero = refl
+  truth-outside h (suc g) = rw (le-ltb at (length s) h)
 
   module _ (inside : at < length s) (g : ℕ) where
     pub num-inside : num sc (suc g) s at ≡ numOperands sc (numOp (getD s at 0)) s (at + 1) (λ n. num sc g s n)

@@ -8,7 +8,7 @@ use lib.Dec.{eqb}
 use lib.IntN.{ℤ}
 use lib.ListN.{length}
 use Rattle.expression.specs.Reading.{Read, got, nothing, exactly, Scope, num, truth, wholeNum, wholeTruth, readingExpressions}
-use Rattle.expression.specs.Answers.{mapRead, Answers, scope, numIn, truthIn, numAt, truthAt, endOf, checkAt, endsAt, isGot}
+use Rattle.expression.specs.Answers.{mapRead, Answers, scope, numIn, truthIn, numAt, truthAt, endOf, numEnd, truthEnd, endsAt, isGot}
 use Rattle.expression.proofs.Readings.{Reader}
 
 exactly-map : {A B : Type 0} (f : A → B) (n : ℕ) (r : Read A) → exactly n (mapRead f r) ≡ mapRead f (exactly n r)
@@ -50,10 +50,10 @@ is-got-end (got a n) = refl
 is-got-end nothing = refl
 
 module _ (sc : Scope) (s : List ℕ) where
-  pub ends-num : {r : Read (Unit {0})} → Answers (checkAt false sc) s 0 r → endsAt (length s) r ≡ isGot (wholeNum sc s)
-  unfolding checkAt readingExpressions
+  pub ends-num : {r : Read (Unit {0})} → Answers (numEnd sc) s 0 r → endsAt (length s) r ≡ isGot (wholeNum sc s)
+  unfolding numEnd readingExpressions
   ends-num {r} d = ends-exactly (length s) r ∙ ap isGot (whole (λ _. tt) (num sc) s d) ∙ is-got-end (wholeNum sc s)
 
-  pub ends-truth : {r : Read (Unit {0})} → Answers (checkAt true sc) s 0 r → endsAt (length s) r ≡ isGot (wholeTruth sc s)
-  unfolding checkAt readingExpressions
+  pub ends-truth : {r : Read (Unit {0})} → Answers (truthEnd sc) s 0 r → endsAt (length s) r ≡ isGot (wholeTruth sc s)
+  unfolding truthEnd readingExpressions
   ends-truth {r} d = ends-exactly (length s) r ∙ ap isGot (whole (λ _. tt) (truth sc) s d) ∙ is-got-end (wholeTruth sc s)

@@ -1,27 +1,19 @@
 -- What the code answers. It reads and evaluates, or checks, in one pass and builds no syntax, so its answers are what the
 -- readers give, with an expression's value, or only its end, in place of the expression. Assumes nothing.
-use Prim.Native.Nat.{ℕ, _-_, _+_, _<_, _≤_}
+use Prim.Native.Nat.{ℕ, zero, suc, _+_, _<_, _≤_}
 use mathlib.Core.Path.{_≡_}
 use mathlib.Core.Bool.{Bool, true, false}
 use mathlib.Core.List.{List}
-use lib.Dec.{leb, eqb}
+use lib.Dec.{eqb}
 use lib.IntN.{ℤ, pos}
 use lib.ListN.{length, getD}
 use Rattle.expression.specs.Syntax.{Num, Truth}
 use Rattle.expression.specs.Values.{numValue, truthValue}
-use Rattle.expression.specs.Reading.{Read, got, nothing, onlyIf, then, Scope, num, truth, numOp, truthOp, wholeNum, wholeTruth}
-use Rattle.expression.specs.declared.NumOp.{NumOp}
-use Rattle.expression.specs.declared.NumOp.the-variants as OfNum
-use Rattle.expression.specs.declared.TruthOp.{TruthOp}
-use Rattle.expression.specs.declared.TruthOp.the-variants as OfTruth
-use Rattle.expression.specs.declared.Operands.{Operands}
-use Rattle.expression.specs.declared.Operands.the-variants.{Bytes, OwnChannel, FarChannel, One, Two, Unknown}
+use Rattle.expression.specs.Reading.{Read, got, nothing, then, Scope, num, truth, wholeNum, wholeTruth}
 use Rattle.expression.specs.declared.NumAt.{NumAt}
 use Rattle.expression.specs.declared.NumAt.the-variants as AtNum
 use Rattle.expression.specs.declared.TruthAt.{TruthAt}
 use Rattle.expression.specs.declared.TruthAt.the-variants as AtTruth
-use Rattle.expression.specs.declared.Checked.{Checked}
-use Rattle.expression.specs.declared.Checked.the-variants as OfCheck
 use Rattle.expression.specs.declared.NumValue.{NumValue}
 use Rattle.expression.specs.declared.NumValue.the-variants as ValueNum
 use Rattle.expression.specs.declared.TruthValue.{TruthValue}
@@ -68,10 +60,12 @@ truthAt own far fuel s at = mapRead (truthIn own far) (truth (scope (length own)
 abbrev pub endOf : {A : Type 0} → Read A → Read (Unit {0})
 endOf r = mapRead (λ _. tt) r
 
--- where a truth, or else a number, ends
-unfoldable pub checkAt : Bool → Scope → ℕ → List ℕ → ℕ → Read (Unit {0})
-checkAt true sc fuel s at = endOf (truth sc fuel s at)
-checkAt false sc fuel s at = endOf (num sc fuel s at)
+-- where a number, and a truth, ends
+unfoldable pub numEnd : Scope → ℕ → List ℕ → ℕ → Read (Unit {0})
+numEnd sc fuel s at = endOf (num sc fuel s at)
+
+unfoldable pub truthEnd : Scope → ℕ → List ℕ → ℕ → Read (Unit {0})
+truthEnd sc fuel s at = endOf (truth sc fuel s at)
 
 -- the code's answers, as readers give them
 abbrev pub ofNum : NumAt → Read ℤ
@@ -82,35 +76,10 @@ abbrev pub ofTruth : TruthAt → Read Bool
 ofTruth (AtTruth.Value b n) = got b n
 ofTruth AtTruth.Nothing = nothing
 
-abbrev pub ofCheck : Checked → Read (Unit {0})
-ofCheck (OfCheck.End n) = got tt n
-ofCheck OfCheck.Nothing = nothing
-
--- ---- what follows an operator
-
-abbrev pub numOperandsOf : NumOp → Operands
-numOperandsOf OfNum.Literal = Bytes 4
-numOperandsOf OfNum.Own = OwnChannel
-numOperandsOf OfNum.Far = FarChannel
-numOperandsOf (OfNum.Two k) = Two false
-numOperandsOf OfNum.Negation = One
-numOperandsOf OfNum.Unknown = Unknown
-
-abbrev pub truthOperandsOf : TruthOp → Operands
-truthOperandsOf (OfTruth.Constant b) = Bytes 0
-truthOperandsOf OfTruth.Not = One
-truthOperandsOf (OfTruth.Both k) = Two true
-truthOperandsOf (OfTruth.Two k) = Two false
-truthOperandsOf OfTruth.Unknown = Unknown
-
--- of the operator of a truth, or else of a number
-abbrev pub operandsOf : Bool → ℕ → Operands
-operandsOf true b = truthOperandsOf (truthOp b)
-operandsOf false b = numOperandsOf (numOp b)
-
--- so many bytes, whatever they are
-abbrev pub bytesAt : ℕ → List ℕ → ℕ → Read (Unit {0})
-bytesAt n s at = onlyIf (leb n (length s - at)) (got tt (at + n))
+-- an end is past an operator, so that 0 is free to say that there is none
+abbrev pub ofEnd : ℕ → Read (Unit {0})
+ofEnd zero = nothing
+ofEnd (suc n) = got tt (suc n)
 
 -- ---- whole expressions
 

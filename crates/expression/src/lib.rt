@@ -8,8 +8,8 @@ ghost use lib.ListN.{length};
 ghost use Rattle.clamped.specs.Clamp.{negated};
 ghost use Rattle.expression.specs.Values.{arith, join, compare};
 ghost use Rattle.expression.specs.Reading.{numOp, truthOp, word, signed, literalAt, channelAt, wholeNum, wholeTruth};
-ghost use Rattle.expression.specs.Answers.{mapRead, Answers, scope, valueIn, numAt, truthAt, endOf, checkAt};
-ghost use Rattle.expression.specs.Answers.{ofNum, ofTruth, ofCheck, operandsOf, bytesAt, endsAt, isGot, wholeNumValue, wholeTruthValue};
+ghost use Rattle.expression.specs.Answers.{mapRead, Answers, scope, valueIn, numAt, truthAt, endOf, numEnd, truthEnd};
+ghost use Rattle.expression.specs.Answers.{ofNum, ofTruth, ofEnd, endsAt, isGot, wholeNumValue, wholeTruthValue};
 
 // What two numbers make a number.
 pub enum Arith {
@@ -59,22 +59,6 @@ pub enum NumAt {
 pub enum TruthAt {
     Value(bool, usize),
     Nothing,
-}
-
-// The place after an expression, or nothing where the bytes are none.
-pub enum Checked {
-    End(usize),
-    Nothing,
-}
-
-// What follows an operator: so many bytes, a channel's number, one operand of the operator's own kind, two truths or two numbers.
-pub enum Operands {
-    Bytes(usize),
-    OwnChannel,
-    FarChannel,
-    One,
-    Two(bool),
-    Unknown,
 }
 
 // The value of a whole number, or none where the bytes are no number.
@@ -307,101 +291,92 @@ pub fn truth_at(s: &[u8], at: usize, own: &[i32], far: &[i32]) -> TruthAt
 
 // ---- the type check
 
-// What follows the operator of a truth, or else of a number.
-fn operands_of(truth: bool, b: u8) -> Operands
-    ensures { λ r. ⌜ r ≡ operandsOf truth b ⌝ }
+// It answers the place after an expression, and 0 where there is none.
+
+// The end of a literal's four bytes.
+fn literal_end(s: &[u8], at: usize) -> usize
+    ensures { λ r. ⌜ ofEnd r ≡ endOf (literalAt (now (s .entry)) at) ⌝ }
 {
-    if truth {
-        match truth_op(b) {
-            TruthOp::Constant(_) => Operands::Bytes(0),
-            TruthOp::Not => Operands::One,
-            TruthOp::Both(_) => Operands::Two(true),
-            TruthOp::Two(_) => Operands::Two(false),
-            TruthOp::Unknown => Operands::Unknown,
-        }
-    } else {
-        match num_op(b) {
-            NumOp::Literal => Operands::Bytes(4),
-            NumOp::Own => Operands::OwnChannel,
-            NumOp::Far => Operands::FarChannel,
-            NumOp::Two(_) => Operands::Two(false),
-            NumOp::Negation => Operands::One,
-            NumOp::Unknown => Operands::Unknown,
-        }
-    }
+    if left(s, at) < 4 { 0 } else { at + 4 }
 }
 
-// So many bytes, whatever they are.
-fn skip(s: &[u8], at: usize, n: usize) -> Checked
-    ensures { λ r. ⌜ ofCheck r ≡ bytesAt n (now (s .entry)) at ⌝ }
-{
-    if n <= left(s, at) {
-        Checked::End(at + n)
-    } else {
-        Checked::Nothing
-    }
-}
-
-// A channel's number, of n that are known.
-fn known_at(s: &[u8], at: usize, n: usize) -> Checked
-    ensures { λ r. ⌜ ofCheck r ≡ endOf (channelAt n (now (s .entry)) at) ⌝ }
+// The end of a channel's number, of n that are known.
+fn channel_end(s: &[u8], at: usize, n: usize) -> usize
+    ensures { λ r. ⌜ ofEnd r ≡ endOf (channelAt n (now (s .entry)) at) ⌝ }
 {
     if s.len() <= at {
-        return Checked::Nothing;
+        return 0;
     }
-    if wide(s[at]) < n {
-        Checked::End(at + 1)
-    } else {
-        Checked::Nothing
-    }
+    if wide(s[at]) < n { at + 1 } else { 0 }
 }
 
-// Whether a truth, or else a number, stands at a place of s, with so many own and far channels known, and where it ends.
-pub fn check_at(s: &[u8], at: usize, truth: bool, own: usize, far: usize) -> Checked
-    ensures { λ r. ⌜ Answers (checkAt truth (scope own far)) (now (s .entry)) at (ofCheck r) ⌝ }
+// The end of the number at a place of s, with so many own and far channels known.
+pub fn num_end(s: &[u8], at: usize, own: usize, far: usize) -> usize
+    ensures { λ r. ⌜ Answers (numEnd (scope own far)) (now (s .entry)) at (ofEnd r) ⌝ }
 {
     if s.len() <= at {
-        return Checked::Nothing;
+        return 0;
     }
-    let op = operands_of(truth, s[at]);
+    let op = num_op(s[at]);
     let next = at + 1;
     match op {
-        Operands::Bytes(n) => skip(s, next, n),
-        Operands::OwnChannel => known_at(s, next, own),
-        Operands::FarChannel => known_at(s, next, far),
-        Operands::One => check_at(s, next, truth, own, far),
-        Operands::Two(kind) => match check_at(s, next, kind, own, far) {
-            Checked::End(n) => check_at(s, n, kind, own, far),
-            Checked::Nothing => Checked::Nothing,
-        },
-        Operands::Unknown => Checked::Nothing,
+        NumOp::Literal => literal_end(s, next),
+        NumOp::Own => channel_end(s, next, own),
+        NumOp::Far => channel_end(s, next, far),
+        NumOp::Two(_) => {
+            let n = num_end(s, next, own, far);
+            if n == 0 { 0 } else { num_end(s, n, own, far) }
+        }
+        NumOp::Negation => num_end(s, next, own, far),
+        NumOp::Unknown => 0,
+    }
+}
+
+// The end of the truth at a place of s, with so many own and far channels known.
+pub fn truth_end(s: &[u8], at: usize, own: usize, far: usize) -> usize
+    ensures { λ r. ⌜ Answers (truthEnd (scope own far)) (now (s .entry)) at (ofEnd r) ⌝ }
+{
+    if s.len() <= at {
+        return 0;
+    }
+    let op = truth_op(s[at]);
+    let next = at + 1;
+    match op {
+        TruthOp::Constant(_) => next,
+        TruthOp::Not => truth_end(s, next, own, far),
+        TruthOp::Both(_) => {
+            let n = truth_end(s, next, own, far);
+            if n == 0 { 0 } else { truth_end(s, n, own, far) }
+        }
+        TruthOp::Two(_) => {
+            let n = num_end(s, next, own, far);
+            if n == 0 { 0 } else { num_end(s, n, own, far) }
+        }
+        TruthOp::Unknown => 0,
     }
 }
 
 // ---- whole expressions
 
-// Whether what was checked ends with the bytes, so that nothing stands after it.
-fn ends(s: &[u8], r: Checked) -> bool
-    ensures { λ b. ⌜ b ≡ endsAt (length (now (s .entry))) (ofCheck r) ⌝ }
+// Whether an expression that ends there ends with the bytes, so that nothing stands after it.
+fn ends(s: &[u8], end: usize) -> bool
+    ensures { λ b. ⌜ b ≡ endsAt (length (now (s .entry))) (ofEnd end) ⌝ }
 {
-    match r {
-        Checked::End(n) => n == s.len(),
-        Checked::Nothing => false,
-    }
+    end != 0 && end == s.len()
 }
 
 // Whether the bytes are a number.
 pub fn is_num(s: &[u8], own: usize, far: usize) -> bool
     ensures { λ r. ⌜ r ≡ isGot (wholeNum (scope own far) (now (s .entry))) ⌝ }
 {
-    ends(s, check_at(s, 0, false, own, far))
+    ends(s, num_end(s, 0, own, far))
 }
 
 // Whether the bytes are a truth.
 pub fn is_truth(s: &[u8], own: usize, far: usize) -> bool
     ensures { λ r. ⌜ r ≡ isGot (wholeTruth (scope own far) (now (s .entry))) ⌝ }
 {
-    ends(s, check_at(s, 0, true, own, far))
+    ends(s, truth_end(s, 0, own, far))
 }
 
 // The value of the number that the bytes are.

@@ -20,7 +20,11 @@ fn add_edges(edges: &mut [u64], events: u64, targets: u64)
 {
     let mut c: usize = 0;
     while c < Deck::CHANNELS {
-        if (events >> c) % 2 == 1 {
+        let rest = events >> c;
+        if rest == 0 {
+            break;
+        }
+        if rest % 2 == 1 {
             edges[c] = edges[c] | targets;
         }
         c += 1;
@@ -28,7 +32,7 @@ fn add_edges(edges: &mut [u64], events: u64, targets: u64)
 }
 
 // Whether some part carries rule r: its number plays no role.
-fn is_carried(parts: &[u64], parts_count: usize, r: usize) -> bool
+pub fn is_carried(parts: &[u64], parts_count: usize, r: usize) -> bool
     requires { ⌜ (64 ≤ length (now parts)) × («parts_count» ≤ 16) × (r < 64) ⌝ }
     ensures { λ b. ⌜ b ≡ carriedAt (now (parts .entry)) «parts_count» r ⌝ }
 {
@@ -65,7 +69,11 @@ fn spread(edges: &[u64], channels: usize, a: usize, seen: u64) -> u64
     let mut set = seen | edges[a];
     let mut b: usize = 0;
     while b < channels {
-        if (set >> b) % 2 == 1 {
+        let rest = set >> b;
+        if rest == 0 {
+            break;
+        }
+        if rest % 2 == 1 {
             set = set | edges[b];
         }
         b += 1;
@@ -73,7 +81,8 @@ fn spread(edges: &[u64], channels: usize, a: usize, seen: u64) -> u64
     set
 }
 
-// The lowest channel that can reach itself, or `channels` where none can. No path needs more edges than there are channels.
+// The lowest channel that can reach itself, or `channels` where none can. No path needs more edges than there are channels,
+// and a round that sees nothing new is the last.
 fn lowest_cycle(edges: &[u64], channels: usize) -> usize
     requires { ⌜ (length (now edges) ≡ 32) × (channels ≤ 32) ⌝ }
     ensures { λ r. ⌜ r ≡ firstOr channels (filter (reachesItself channels (edgeAt (now (edges .entry)))) (below channels)) ⌝ }
@@ -83,10 +92,14 @@ fn lowest_cycle(edges: &[u64], channels: usize) -> usize
         let mut seen: u64 = 0;
         let mut round: usize = 0;
         while round < channels {
-            seen = spread(edges, channels, start, seen);
-            if (seen >> start) % 2 == 1 {
+            let next = spread(edges, channels, start, seen);
+            if (next >> start) % 2 == 1 {
                 break 'search;
             }
+            if next == seen {
+                break;
+            }
+            seen = next;
             round += 1;
         }
         start += 1;

@@ -15,14 +15,18 @@ use Rattle.pool.specs.Laws.Places.{short}
 abbrev pub written : List ℤ → ℕ → List ℤ → List ℤ
 written pool at update = take at pool ++ (update ++ drop (at + 10) pool)
 
--- so many numbers from ten further on, moved down to an index
-abbrev pub moved : List ℤ → ℕ → ℕ → List ℤ
-moved pool at count = paste pool at (drop (at + 10) pool) count
+-- so many numbers from a distance further on, moved down to an index
+abbrev pub moved : List ℤ → ℕ → ℕ → ℕ → List ℤ
+moved pool at distance count = paste pool at (drop (at + distance) pool) count
 
 -- place k of n taken out: "later places move down", and the last one becomes zeros
 abbrev pub removed : List ℤ → ℕ → ℕ → List ℤ
 removed pool n k =
     take (10 * k) pool ++ (take (10 * (n - 1 - k)) (drop (10 * k + 10) pool) ++ (zeros 10 ++ drop (10 * n) pool))
+
+-- so many numbers from an index on, moved to the front, and zeros behind them
+abbrev pub shifted : List ℤ → ℕ → ℕ → List ℤ
+shifted pool from count = take count (drop from pool) ++ (zeros from ++ drop (from + count) pool)
 
 -- the pool holds exactly these updates, zeros behind them
 pub record Laid (pool : List ℤ) (us : List Update) : Type 0 where

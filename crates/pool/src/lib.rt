@@ -1,13 +1,11 @@
 // The state that a host holds, and the places of the pool that it lends. The definitions are in specs/.
 ghost use mathlib.Core.Path.{_≡_};
-ghost use mathlib.Core.Bool.{Bool, true};
 ghost use mathlib.Core.List.{_++_};
 ghost use Prim.Native.Nat.{_+_, _*_, _≤_, _<_};
 ghost use lib.ListN.{length, take, drop};
-ghost use Rattle.lists.specs.Lists.{all, any, eqZ, eqList};
-ghost use Rattle.pool.specs.Updates.{allDifferent};
-ghost use Rattle.pool.specs.Places.{zeros, isZero, wellWritten, places, updatesOf};
-ghost use Rattle.pool.specs.Moves.{written, moved, removed};
+ghost use Rattle.lists.specs.Lists.{all, eqZ, eqList};
+ghost use Rattle.pool.specs.Places.{zeros, isZero};
+ghost use Rattle.pool.specs.Moves.{written, moved, removed, shifted};
 use deck::Deck;
 
 // A value table, channel c of part p at 32 p + c, and the pending number.
@@ -40,7 +38,7 @@ pub fn push(pool: &mut [i32], pending: usize, update: &[i32])
 }
 
 // Whether the place at an index holds these numbers.
-fn same_at(pool: &[i32], at: usize, update: &[i32]) -> bool
+pub fn same_at(pool: &[i32], at: usize, update: &[i32]) -> bool
     requires { ⌜ (length (now update) ≡ 10) × (at + 10 ≤ length (now pool)) ⌝ }
     ensures { λ r. ⌜ r ≡ eqList eqZ (take 10 (drop at (now (pool .entry)))) (now (update .entry)) ⌝ }
 {
@@ -56,29 +54,14 @@ fn same_at(pool: &[i32], at: usize, update: &[i32]) -> bool
     true
 }
 
-// Whether one of the pending updates has these numbers.
-pub fn is_pending(pool: &[i32], pending: usize, update: &[i32]) -> bool
-    requires { ⌜ (length (now update) ≡ 10) × (10 * pending ≤ length (now pool)) ⌝ }
-    ensures { λ r. ⌜ r ≡ any (λ w. eqList eqZ w (now (update .entry))) (places pending (now (pool .entry))) ⌝ }
-{
-    let mut k: usize = 0;
-    while k < pending {
-        if same_at(pool, 10 * k, update) {
-            return true;
-        }
-        k += 1;
-    }
-    false
-}
-
-// So many numbers moved down by one place.
-fn move_down(pool: &mut [i32], at: usize, count: usize)
-    requires { ⌜ at + 10 + count ≤ length (now pool) ⌝ }
-    ensures { λ _. ⌜ now (pool .exit) ≡ moved (now (pool .entry)) at count ⌝ }
+// So many numbers moved down to an index.
+fn move_down(pool: &mut [i32], at: usize, distance: usize, count: usize)
+    requires { ⌜ at + distance + count ≤ length (now pool) ⌝ }
+    ensures { λ _. ⌜ now (pool .exit) ≡ moved (now (pool .entry)) at distance count ⌝ }
 {
     let mut i: usize = 0;
     while i < count {
-        let x = pool[at + i + 10];
+        let x = pool[at + i + distance];
         pool[at + i] = x;
         i += 1;
     }
@@ -90,7 +73,7 @@ pub fn take_out(pool: &mut [i32], pending: usize, k: usize)
     ensures { λ _. ⌜ now (pool .exit) ≡ removed (now (pool .entry)) pending k ⌝ }
 {
     let last = 10 * (pending - 1);
-    move_down(pool, 10 * k, 10 * (pending - 1 - k));
+    move_down(pool, 10 * k, 10, 10 * (pending - 1 - k));
     let none = [0i32; 10];
     write_update(&mut pool[last..], &none);
 }
@@ -107,35 +90,29 @@ pub fn clear(tail: &mut [i32])
     }
 }
 
-// Whether the pool's tail is zeros.
+// Whether the pool's tail is zeros. The loop has no exit, so that it is compiled to vector instructions.
 pub fn all_zero(tail: &[i32]) -> bool
     ensures { λ r. ⌜ r ≡ all isZero (now (tail .entry)) ⌝ }
 {
     let n = tail.len();
+    let mut clear = true;
     let mut i: usize = 0;
     while i < n {
         let x = tail[i];
         if x != 0 {
-            return false;
+            clear = false;
         }
         i += 1;
     }
-    true
+    clear
 }
 
-// Whether no two of the pending updates are equal.
-pub fn all_different(pool: &[i32], pending: usize) -> bool
-    requires { ⌜ 10 * pending ≤ length (now pool) ⌝ }
-    ensures { λ r. ⌜ (all wellWritten (places pending (now (pool .entry))) ≡ true → r ≡ allDifferent (updatesOf pending (now (pool .entry)))) ⌝ }
+// So many numbers from an index on move to the front, and zeros stand behind them.
+pub fn shift(pool: &mut [i32], from: usize, count: usize)
+    requires { ⌜ from + count ≤ length (now pool) ⌝ }
+    ensures { λ _. ⌜ now (pool .exit) ≡ shifted (now (pool .entry)) from count ⌝ }
 {
-    let mut k: usize = 0;
-    while k < pending {
-        let at = 10 * k;
-        let next = at + 10;
-        if is_pending(&pool[next..], pending - k - 1, &pool[at..next]) {
-            return false;
-        }
-        k += 1;
-    }
-    true
+    move_down(pool, 0, from, count);
+    let end = count + from;
+    clear(&mut pool[count..end]);
 }

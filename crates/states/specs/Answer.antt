@@ -4,7 +4,7 @@ use mathlib.Core.Path.{_≡_}
 use mathlib.Core.Bool.{Bool, true, _&&_, cond}
 use mathlib.Core.List.{List, map}
 use lib.Dec.{leb, eqb}
-use lib.ListN.{length, drop}
+use lib.ListN.{length, drop, replicate}
 use lib.IntN.{ℤ}
 use Rattle.lists.specs.Lists.{all}
 use Rattle.deck.specs.Deck.{Deck, R, N}
@@ -14,6 +14,7 @@ use Rattle.charge.specs.Memo.{Memo, Answered}
 use Rattle.pool.specs.Updates.{channels, allDifferent, charge}
 use Rattle.pool.specs.Places.{isZero, capacity, updateOf, wellWritten, places, updatesOf}
 use Rattle.pool.specs.States.{Memory, unusedZero, known, good}
+use Rattle.index.specs.Index.{headsOf, Indexed, keys, Roomy}
 use Rattle.states.specs.declared.Goodness.{Goodness}
 use Rattle.states.specs.declared.Goodness.the-variants.{Good, Bad}
 
@@ -69,7 +70,18 @@ FitsState R′ N′ m r = (d : Deck) → R d ≡ R′ → N d ≡ N′ → r ≡
 abbrev pub goodnessOf : Deck → Memory → Goodness
 goodnessOf d m = cond (good d m) (Good (charge d (updatesOf (m .state .pending) (m .pool)))) Bad
 
--- the answer by the shape of the tables, and a memo that is still right
-pub record Judges (rules parts : List ℕ) (R′ M′ N′ : ℕ) (values : List ℤ) (pending : ℕ) (pool : List ℤ) (m : List ℕ) (r : Goodness) : Type 0 where
+-- an index of zeros, with room for all places of a pool of n numbers
+pub record Fresh (n : ℕ) (index : List ℕ) : Type 0 where
+  pub roomy : Roomy (capacity n) index
+  pub zeros : index ≡ replicate (length index) 0
+
+-- the index of the pending places, where the test is passed
+pub record IndexedIf (pending : ℕ) (pool : List ℤ) (index₀ index : List ℕ) (passed : Type 0) : Type 0 where
+  pub indexed : passed → Indexed 0 (keys (headsOf index) pending pool) index
+  pub long : length index ≡ length index₀
+
+-- the answer by the shape of the tables, a memo that is still right, and the index of a good state
+pub record Judges (rules parts : List ℕ) (R′ M′ N′ : ℕ) (values : List ℤ) (pending : ℕ) (pool : List ℤ) (m index₀ index : List ℕ) (r : Goodness) : Type 0 where
   pub answer : r ≡ goodnessOf (shapeOf rules parts R′ M′ N′) (memoryOf values pending pool)
   pub memo : Memo (shapeOf rules parts R′ M′ N′) m
+  pub indexes : IndexedIf pending pool index₀ index ((total : ℕ) × (r ≡ Good total))

@@ -5,3 +5,4 @@ pub mod Held
 pub mod Charges
 pub mod Judged
 pub mod Shape
+pub mod Indexing

@@ -12,7 +12,7 @@ ghost use Rattle.charge.specs.Memo.{Ready, capped};
 ghost use Rattle.pool.specs.Updates.{channels};
 ghost use Rattle.pool.specs.Places.{isZero, updateOf, wellWritten, places};
 ghost use Rattle.pool.specs.States.{goodLength};
-ghost use Rattle.states.specs.Answer.{FitsPlace, FitsPlaces, FitsValues, FitsState, Holds, Pending, PlaceGives, PendingGives, memoryOf, Judges};
+ghost use Rattle.states.specs.Answer.{FitsPlace, FitsPlaces, FitsValues, FitsState, Holds, Pending, PlaceGives, PendingGives, memoryOf, Fresh, IndexedIf, Judges};
 ghost use Rattle.states.specs.Fits.{within, channelsFit};
 use deck::Deck;
 
@@ -205,9 +205,16 @@ fn pending_charge(
 }
 
 // Whether the state is a good one, apart from its charge.
-fn state_fits(values: &[i32], pending: usize, pool: &[i32], channels: usize, parts: usize) -> bool
-    requires { ⌜ channels ≤ 32 ⌝ }
-    ensures { λ r. ⌜ FitsState channels parts (memoryOf (now (values .entry)) pending (now (pool .entry))) r ⌝ }
+fn state_fits(
+    index: &mut [u16],
+    values: &[i32],
+    pending: usize,
+    pool: &[i32],
+    channels: usize,
+    parts: usize,
+) -> bool
+    requires { ⌜ (channels ≤ 32) × (goodLength (length (now pool)) ≡ true) × Fresh (length (now pool)) (now index) ⌝ }
+    ensures { λ r. ⌜ FitsState channels parts (memoryOf (now (values .entry)) pending (now (pool .entry))) r × IndexedIf pending (now (pool .entry)) (now (index .entry)) (now (index .exit)) (r ≡ true) ⌝ }
 {
     if values.len() != Deck::VALUES {
         return false;
@@ -225,14 +232,15 @@ fn state_fits(values: &[i32], pending: usize, pool: &[i32], channels: usize, par
     if !pool::all_zero(&pool[end..]) {
         return false;
     }
-    pool::all_different(pool, pending)
+    index::all_different(index, pool, pending)
 }
 
-// 10: whether the state is a good one.
+// 10: whether the state is a good one; if so, the index of its pending updates.
 pub fn judge(
     rules: &[u64],
     parts: &[u64],
     memo: &mut [u32],
+    index: &mut [u16],
     channels: usize,
     count: usize,
     parts_count: usize,
@@ -240,10 +248,10 @@ pub fn judge(
     pending: usize,
     pool: &[i32],
 ) -> Goodness
-    requires { ⌜ Ready (now rules) (now parts) channels count «parts_count» (now memo) × (channels ≤ 32) × (goodLength (length (now pool)) ≡ true) ⌝ }
-    ensures { λ r. ⌜ Judges (now (rules .entry)) (now (parts .entry)) channels count «parts_count» (now (values .entry)) pending (now (pool .entry)) (now (memo .exit)) r ⌝ }
+    requires { ⌜ Ready (now rules) (now parts) channels count «parts_count» (now memo) × (channels ≤ 32) × (goodLength (length (now pool)) ≡ true) × Fresh (length (now pool)) (now index) ⌝ }
+    ensures { λ r. ⌜ Judges (now (rules .entry)) (now (parts .entry)) channels count «parts_count» (now (values .entry)) pending (now (pool .entry)) (now (memo .exit)) (now (index .entry)) (now (index .exit)) r ⌝ }
 {
-    if !state_fits(values, pending, pool, channels, parts_count) {
+    if !state_fits(index, values, pending, pool, channels, parts_count) {
         return Goodness::Bad;
     }
     let total = pending_charge(

@@ -1,6 +1,6 @@
 -- What the functions that change a state take and leave: the numbers of a host's state and pool, and the values and pending
 -- updates that they stand for. Assumes nothing.
-use Prim.Native.Nat.{ℕ, _*_, _≤_, _<_}
+use Prim.Native.Nat.{ℕ, _+_, _-_, _*_, _≤_, _<_}
 use mathlib.Core.Path.{_≡_}
 use mathlib.Core.Bool.{Bool, true, false}
 use mathlib.Core.List.{List}
@@ -9,9 +9,10 @@ use lib.IntN.{ℤ}
 use Rattle.deck.specs.Deck.{Deck, R, N}
 use Rattle.deck.specs.declared.Deck as Counted
 use Rattle.graph.specs.Laws.Cycles.{Acyclic}
-use Rattle.charge.specs.Memo.{Memo, Ready}
+use Rattle.charge.specs.Charge.{updateCharge}
+use Rattle.charge.specs.Memo.{Memo, Ready, capped}
 use Rattle.lists.specs.Lists.{all}
-use Rattle.pool.specs.Updates.{Update, assign, charge}
+use Rattle.pool.specs.Updates.{Update, channels, assign, charge}
 use Rattle.pool.specs.States.{Machine, known}
 use Rattle.pool.specs.Moves.{Laid}
 use Rattle.pool.specs.Laws.Good.{Fine}
@@ -19,74 +20,104 @@ use Rattle.states.specs.Answer.{Holds}
 use Rattle.passing.specs.Tabled.{deckOf, Tabled}
 use Rattle.passing.specs.Judged.{shape}
 use Rattle.firing.specs.Firing.{fired, changed, pick, without, committed}
-use Rattle.steps.specs.Queue.{Grown}
+use Rattle.steps.specs.Queue.{Held, Kept, Room, SameSize, Grown}
 use Rattle.steps.specs.declared.Queue.{Queue}
 
 -- tables, memo and places as for the firing, with a pool that holds exactly so many pending updates of so much charge
-pub record Reacting (s : List ℕ) (k : Counted.Deck) (rules parts memo : List ℕ) (pool : List ℤ) (C pending total : ℕ) : Type 0 where
+pub record Reacting (s : List ℕ) (k : Counted.Deck) (rules parts memo : List ℕ) (held : Held) (C pending total : ℕ) : Type 0 where
   pub tabled : Tabled s k rules parts
   pub ready : Ready rules parts (k .channels) (k .rules) (k .parts) memo
-  pub bounded : C ≤ 65535
-  pub places : 10 * C ≤ length pool
+  pub room : Room C held
   pub us : List Update
-  pub laid : Laid pool us
+  pub kept : Kept held us
   pub count : pending ≡ length us
   pub charged : total ≡ charge (shape rules parts k) us
   pub within : total ≤ C
 
 -- the firing for the changed channels was offered to the updates that the pool held
-pub record Reacts (d e : Deck) (C pending total : ℕ) (before after : List ℤ) (p : ℕ) (pool₀ : List ℤ) (m : List ℕ) (pool : List ℤ) (q : Queue) : Type 0 where
-  pub grown : (us : List Update) → Laid pool₀ us → pending ≡ length us → total ≡ charge e us
-      → Grown e C us (fired d after p (changed d p before after)) pool q
+pub record Reacts (d e : Deck) (C pending total : ℕ) (before after : List ℤ) (p : ℕ) (held₀ : Held) (m : List ℕ) (held : Held) (q : Queue) : Type 0 where
+  pub grown : (us : List Update) → Kept held₀ us → pending ≡ length us → total ≡ charge e us
+      → Grown e C us (fired d after p (changed d p before after)) held q
   pub memo : Memo e m
-  pub long : length pool ≡ length pool₀
+  pub size : SameSize held₀ held
 
 -- ten numbers that hold a known update of a deck with so many parts
 abbrev pub Appliable : List ℤ → ℕ → Type 0
 Appliable l parts = (d : Deck) × Holds d l × (N d ≡ parts) × (N d ≤ 16) × (R d ≤ 32)
 
--- a pool that holds exactly so many known updates of so much charge, and one of their places
-pub record Taking (k : Counted.Deck) (rules parts memo : List ℕ) (pool : List ℤ) (pending total j : ℕ) : Type 0 where
+-- a pool that holds exactly so many known updates, and one of their places
+pub record Looking (k : Counted.Deck) (rules parts memo : List ℕ) (pool : List ℤ) (pending j : ℕ) : Type 0 where
   pub ready : Ready rules parts (k .channels) (k .rules) (k .parts) memo
   pub few : k .channels ≤ 32
-  pub low : total ≤ 65535
   pub us : List Update
   pub laid : Laid pool us
   pub count : pending ≡ length us
   pub known : all (known (shape rules parts k)) us ≡ true
-  pub charged : total ≡ charge (shape rules parts k) us
   pub place : j < pending
 
--- that update is out; its part, the values with it applied, and the charge of the others
-pub record Takes (e : Deck) (j pending total : ℕ) (vs pool₀ : List ℤ) (m : List ℕ) (pool : List ℤ) (part : ℕ) (after : List ℤ) (left : ℕ) : Type 0 where
-  pub result : (us : List Update) → Laid pool₀ us → pending ≡ length us → all (known e) us ≡ true → total ≡ charge e us
+-- what stands there: its part, the values with it applied, and its charge, up to 65,536
+pub record Looks (e : Deck) (j : ℕ) (vs pool : List ℤ) (m : List ℕ) (part : ℕ) (after : List ℤ) (c : ℕ) : Type 0 where
+  pub result : (us : List Update) → Laid pool us → j < length us
       → (part ≡ pick j us .part)
       × (after ≡ assign (pick j us .part) (pick j us .pairs) vs)
-      × Laid pool (without j us)
-      × (left ≡ charge e (without j us))
+      × (c ≡ capped (updateCharge e (pick j us .part) (channels (pick j us))))
   pub memo : Memo e m
-  pub long : length pool ≡ length pool₀
 
 -- the numbers stand for the values and pending updates x, a good state with C places
-pub record Stored (d : Deck) (C : ℕ) (x : Machine) (vs : List ℤ) (pending total : ℕ) (pool : List ℤ) : Type 0 where
+pub record Stored (d : Deck) (C : ℕ) (x : Machine) (vs : List ℤ) (pending total : ℕ) (held : Held) : Type 0 where
   pub fine : Fine d C x
   pub values : vs ≡ x .values
   pub count : pending ≡ length (x .pending)
-  pub laid : Laid pool (x .pending)
+  pub kept : Kept held (x .pending)
   pub charged : total ≡ charge d (x .pending)
 
-pub record Committing (s : List ℕ) (k : Counted.Deck) (rules parts memo : List ℕ) (pool : List ℤ) (C : ℕ) (values : List ℤ) (pending total : ℕ) : Type 0 where
+-- place j was taken out of the pending updates of x: the others are held, with room for C
+pub record Without (d : Deck) (C j : ℕ) (x : Machine) (vs : List ℤ) (part : ℕ) (after : List ℤ) (pending total : ℕ) (held : Held) : Type 0 where
+  pub fine : Fine d (C + 1) x
+  pub inside : j < length (x .pending)
+  pub values : vs ≡ x .values
+  pub part-is : part ≡ pick j (x .pending) .part
+  pub after-is : after ≡ assign (pick j (x .pending) .part) (pick j (x .pending) .pairs) vs
+  pub count : pending ≡ length (without j (x .pending))
+  pub kept : Kept held (without j (x .pending))
+  pub charged : total ≡ charge d (without j (x .pending))
+
+pub record Finishing (s : List ℕ) (k : Counted.Deck) (rules parts memo : List ℕ) (held : Held) (C : ℕ) (vs : List ℤ) (part : ℕ) (after : List ℤ) (pending total : ℕ) : Type 0 where
   pub tabled : Tabled s k rules parts
   pub ready : Ready rules parts (k .channels) (k .rules) (k .parts) memo
   pub acyclic : Acyclic (deckOf s)
-  pub bounded : C ≤ 65535
-  pub places : 10 * C ≤ length pool
+  pub room : Room C held
+  pub place : ℕ
   pub machine : Machine
-  pub stored : Stored (deckOf s) C machine values pending total pool
+  pub taken : Without (deckOf s) C place machine vs part after pending total held
+
+-- the rest of a commit: what the numbers stand for afterwards is what the definition says
+pub record Finishes (d e : Deck) (C : ℕ) (vs₀ : List ℤ) (part : ℕ) (after : List ℤ) (pending₀ total₀ : ℕ) (held₀ : Held) (m : List ℕ) (held : Held) (values : List ℤ) (pending total : ℕ) (applied : Bool) : Type 0 where
+  pub result : (j : ℕ) (x : Machine) → Without d C j x vs₀ part after pending₀ total₀ held₀
+      → Stored d C (committed d j x .machine) values pending total held × (applied ≡ committed d j x .applied)
+  pub memo : Memo e m
+  pub size : SameSize held₀ held
+
+pub record Committing (s : List ℕ) (k : Counted.Deck) (rules parts memo : List ℕ) (held : Held) (C : ℕ) (values : List ℤ) (pending total : ℕ) : Type 0 where
+  pub tabled : Tabled s k rules parts
+  pub ready : Ready rules parts (k .channels) (k .rules) (k .parts) memo
+  pub acyclic : Acyclic (deckOf s)
+  pub room : Room C held
+  pub machine : Machine
+  pub stored : Stored (deckOf s) C machine values pending total held
 
 -- the commit of place k: what the numbers stand for afterwards is what the definition says
-pub record Commits (d e : Deck) (C k : ℕ) (pool₀ values₀ : List ℤ) (pending₀ total₀ : ℕ) (m : List ℕ) (pool values : List ℤ) (pending total : ℕ) (applied : Bool) : Type 0 where
-  pub result : (x : Machine) → Stored d C x values₀ pending₀ total₀ pool₀
-      → Stored d C (committed d k x .machine) values pending total pool × (applied ≡ committed d k x .applied)
+pub record Commits (d e : Deck) (C k : ℕ) (held₀ : Held) (values₀ : List ℤ) (pending₀ total₀ : ℕ) (m : List ℕ) (held : Held) (values : List ℤ) (pending total : ℕ) (applied : Bool) : Type 0 where
+  pub result : (x : Machine) → Stored d C x values₀ pending₀ total₀ held₀
+      → Stored d C (committed d k x .machine) values pending total held × (applied ≡ committed d k x .applied)
   pub memo : Memo e m
-  pub long : length pool ≡ length pool₀
+  pub size : SameSize held₀ held
+
+-- the commit of place 0, which is then gone: the others stay where they are, and there is room for one less
+pub record CommitsFront (d e : Deck) (C : ℕ) (held₀ : Held) (values₀ : List ℤ) (pending₀ total₀ : ℕ) (m : List ℕ) (held : Held) (values : List ℤ) (pending total : ℕ) (applied : Bool) : Type 0 where
+  pub result : (x : Machine) → Stored d C x values₀ pending₀ total₀ held₀
+      → Stored d (C - 1) (committed d 0 x .machine) values pending total held × (applied ≡ committed d 0 x .applied)
+  pub memo : Memo e m
+  pub gone : held .gone ≡ held₀ .gone + 1
+  pub index : length (held .index) ≡ length (held₀ .index)
+  pub pool : length (held .pool) + 10 ≡ length (held₀ .pool)

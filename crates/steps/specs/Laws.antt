@@ -6,6 +6,6 @@ pub mod Sent
 pub mod Turns
 pub mod Halves
 pub mod Applying
-pub mod Taking
+pub mod Looking
 pub mod Reacting
 pub mod Committing

@@ -1,8 +1,9 @@
 // The firing and the commits. The definitions are in `firing`.
 ghost use mathlib.Core.Path.{_≡_};
+ghost use mathlib.Core.Bool.{true};
 ghost use mathlib.Core.List.{[], _∷_};
-ghost use Prim.Native.Nat.{_≤_, _<_};
-ghost use lib.ListN.{length};
+ghost use Prim.Native.Nat.{_+_, _≤_, _<_};
+ghost use lib.ListN.{length, drop};
 ghost use Rattle.lists.specs.Lists.{flatMap};
 ghost use Rattle.lists.specs.Bits.{maskOf};
 ghost use Rattle.deck.specs.Deck.{ruleAt, active};
@@ -13,9 +14,9 @@ ghost use Rattle.passing.specs.Tabled.{deckOf, Tabled};
 ghost use Rattle.passing.specs.Judged.{shape};
 ghost use Rattle.firing.specs.Firing.{firedHere, firedThere, fired};
 ghost use Rattle.firing.specs.Evaluated.{HasAction};
-ghost use Rattle.steps.specs.Queue.{Offering, Offered, Offers, Sound, FiresAll, Fires};
+ghost use Rattle.steps.specs.Queue.{heldOf, Offering, Offered, Offers, Sound, FiresAll, Fires};
 ghost use Rattle.pool.specs.Updates.{assign};
-ghost use Rattle.steps.specs.Commits.{Reacting, Reacts, Appliable, Taking, Takes, Committing, Commits};
+ghost use Rattle.steps.specs.Commits.{Reacting, Reacts, Appliable, Looking, Looks, Finishing, Finishes, Committing, Commits, CommitsFront};
 use deck::Deck;
 use pool::State;
 
@@ -26,44 +27,47 @@ pub struct Queue {
     pub full: bool,
 }
 
+// The capacity would be passed: nothing more is taken.
+fn passed(queue: Queue) -> Queue
+    ensures { λ r. ⌜ (r .pending ≡ queue .pending) × (r .charge ≡ queue .charge) × (r .full ≡ true) ⌝ }
+{
+    Queue {
+        pending: queue.pending,
+        charge: queue.charge,
+        full: true,
+    }
+}
+
 // A new update behind the last pending one, unless it is equal to one then pending or its charge passes the capacity.
 fn add(
     counts: Deck,
     rules: &[u64],
     parts: &[u64],
     memo: &mut [u32],
+    index: &mut [u16],
     pool: &mut [i32],
+    gone: usize,
     capacity: u32,
     queue: Queue,
     row: &[i32],
 ) -> Queue
-    requires { ⌜ Offering (now rules) (now parts) counts capacity (now memo) (now pool) queue × Holds (shape (now rules) (now parts) counts) (now row) ⌝ }
-    ensures { λ r. ⌜ Offered (shape (now (rules .entry)) (now (parts .entry)) counts) capacity (updateOf (now (row .entry)) ∷ []) (now (pool .entry)) queue (now (memo .exit)) (now (pool .exit)) r ⌝ }
+    requires { ⌜ Offering (now rules) (now parts) counts capacity (now memo) (heldOf gone (now index) (now pool)) queue × Holds (shape (now rules) (now parts) counts) (now row) ⌝ }
+    ensures { λ r. ⌜ Offered (shape (now (rules .entry)) (now (parts .entry)) counts) capacity (updateOf (now (row .entry)) ∷ []) (heldOf gone (now (index .entry)) (now (pool .entry))) queue (now (memo .exit)) (heldOf gone (now (index .exit)) (now (pool .exit))) r ⌝ }
 {
     if queue.full {
         return queue;
     }
-    if pool::is_pending(pool, queue.pending, row) {
+    let b = index::bucket(row, index.len() / 3);
+    if index::find(index, pool, gone, queue.pending, row, b) {
         return queue;
     }
-    let c = states::place_charge(
-        rules,
-        parts,
-        memo,
-        counts.channels,
-        counts.rules,
-        counts.parts,
-        row,
-    );
+    let c = states::place_charge(rules, parts, memo, counts.channels, counts.rules, counts.parts, row);
     let total = queue.charge + c;
     if total > capacity {
-        return Queue {
-            pending: queue.pending,
-            charge: queue.charge,
-            full: true,
-        };
+        return passed(queue);
     }
     pool::push(pool, queue.pending, row);
+    index::note(index, gone + queue.pending, b);
     Queue {
         pending: queue.pending + 1,
         charge: total,
@@ -78,7 +82,9 @@ fn offer(
     rules: &[u64],
     parts: &[u64],
     memo: &mut [u32],
+    index: &mut [u16],
     pool: &mut [i32],
+    gone: usize,
     capacity: u32,
     queue: Queue,
     at: usize,
@@ -86,14 +92,14 @@ fn offer(
     own: &[i32],
     far: &[i32],
 ) -> Queue
-    requires { ⌜ Offering (now rules) (now parts) counts capacity (now memo) (now pool) queue × Sound (now deck) at (length (now own)) (length (now far)) (counts .channels) × (part < counts .parts) ⌝ }
-    ensures { λ r. ⌜ Offers (now (deck .entry)) at (now (own .entry)) (now (far .entry)) part (shape (now (rules .entry)) (now (parts .entry)) counts) capacity (now (pool .entry)) queue (now (memo .exit)) (now (pool .exit)) r ⌝ }
+    requires { ⌜ Offering (now rules) (now parts) counts capacity (now memo) (heldOf gone (now index) (now pool)) queue × Sound (now deck) at (length (now own)) (length (now far)) (counts .channels) × (part < counts .parts) ⌝ }
+    ensures { λ r. ⌜ Offers (now (deck .entry)) at (now (own .entry)) (now (far .entry)) part (shape (now (rules .entry)) (now (parts .entry)) counts) capacity (heldOf gone (now (index .entry)) (now (pool .entry))) queue (now (memo .exit)) (heldOf gone (now (index .exit)) (now (pool .exit))) r ⌝ }
 {
     if deck[at] == 0 {
         return queue;
     }
     let row = firing::evaluate(deck, at, part, own, far);
-    add(counts, rules, parts, memo, pool, capacity, queue, &row)
+    add(counts, rules, parts, memo, index, pool, gone, capacity, queue, &row)
 }
 
 // What rule r at part p adds to p itself: its default action and, for kind 0 with the condition true, its action.
@@ -103,28 +109,30 @@ fn fire_here(
     rules: &[u64],
     parts: &[u64],
     memo: &mut [u32],
+    index: &mut [u16],
     pool: &mut [i32],
+    gone: usize,
     capacity: u32,
     queue: Queue,
     values: &[i32],
     p: usize,
     r: usize,
 ) -> Queue
-    requires { ⌜ Tabled (now deck) counts (now rules) (now parts) × Offering (now rules) (now parts) counts capacity (now memo) (now pool) queue × (length (now values) ≡ 512) × (p < counts .parts) × (r < counts .rules) ⌝ }
-    ensures { λ q. ⌜ Offered (shape (now (rules .entry)) (now (parts .entry)) counts) capacity (firedHere (now (values .entry)) p (ruleAt (deckOf (now (deck .entry))) r)) (now (pool .entry)) queue (now (memo .exit)) (now (pool .exit)) q ⌝ }
+    requires { ⌜ Tabled (now deck) counts (now rules) (now parts) × Offering (now rules) (now parts) counts capacity (now memo) (heldOf gone (now index) (now pool)) queue × (length (now values) ≡ 512) × (p < counts .parts) × (r < counts .rules) ⌝ }
+    ensures { λ q. ⌜ Offered (shape (now (rules .entry)) (now (parts .entry)) counts) capacity (firedHere (now (values .entry)) p (ruleAt (deckOf (now (deck .entry))) r)) (heldOf gone (now (index .entry)) (now (pool .entry))) queue (now (memo .exit)) (heldOf gone (now (index .exit)) (now (pool .exit))) q ⌝ }
 {
     let from = Deck::CHANNELS * p;
     let to = from + counts.channels;
     let own = &values[from..to];
     let far = &values[0..0];
     let default = rules[8 * r + 4] as usize;
-    let first = offer(deck, counts, rules, parts, memo, pool, capacity, queue, default, p, own, far);
+    let first = offer(deck, counts, rules, parts, memo, index, pool, gone, capacity, queue, default, p, own, far);
     if rules[8 * r + 3] == 1 {
         return first;
     }
     if passing::truth_from(deck, rules[8 * r + 5] as usize, own, far) {
         let action = rules[8 * r + 6] as usize;
-        offer(deck, counts, rules, parts, memo, pool, capacity, first, action, p, own, far)
+        offer(deck, counts, rules, parts, memo, index, pool, gone, capacity, first, action, p, own, far)
     } else {
         first
     }
@@ -137,7 +145,9 @@ fn fire_there(
     rules: &[u64],
     parts: &[u64],
     memo: &mut [u32],
+    index: &mut [u16],
     pool: &mut [i32],
+    gone: usize,
     capacity: u32,
     queue: Queue,
     values: &[i32],
@@ -145,8 +155,8 @@ fn fire_there(
     r: usize,
     q: usize,
 ) -> Queue
-    requires { ⌜ Tabled (now deck) counts (now rules) (now parts) × Offering (now rules) (now parts) counts capacity (now memo) (now pool) queue × (length (now values) ≡ 512) × (p < counts .parts) × (r < counts .rules) × (q < counts .parts) ⌝ }
-    ensures { λ s. ⌜ Offered (shape (now (rules .entry)) (now (parts .entry)) counts) capacity (firedThere (now (values .entry)) p (ruleAt (deckOf (now (deck .entry))) r) q) (now (pool .entry)) queue (now (memo .exit)) (now (pool .exit)) s ⌝ }
+    requires { ⌜ Tabled (now deck) counts (now rules) (now parts) × Offering (now rules) (now parts) counts capacity (now memo) (heldOf gone (now index) (now pool)) queue × (length (now values) ≡ 512) × (p < counts .parts) × (r < counts .rules) × (q < counts .parts) ⌝ }
+    ensures { λ s. ⌜ Offered (shape (now (rules .entry)) (now (parts .entry)) counts) capacity (firedThere (now (values .entry)) p (ruleAt (deckOf (now (deck .entry))) r) q) (heldOf gone (now (index .entry)) (now (pool .entry))) queue (now (memo .exit)) (heldOf gone (now (index .exit)) (now (pool .exit))) s ⌝ }
 {
     if rules[8 * r + 3] != 1 {
         return queue;
@@ -159,7 +169,7 @@ fn fire_there(
     let far = &values[start..end];
     if passing::truth_from(deck, rules[8 * r + 5] as usize, own, far) {
         let action = rules[8 * r + 6] as usize;
-        offer(deck, counts, rules, parts, memo, pool, capacity, queue, action, q, own, far)
+        offer(deck, counts, rules, parts, memo, index, pool, gone, capacity, queue, action, q, own, far)
     } else {
         queue
     }
@@ -172,22 +182,24 @@ fn fire_others(
     rules: &[u64],
     parts: &[u64],
     memo: &mut [u32],
+    index: &mut [u16],
     pool: &mut [i32],
+    gone: usize,
     capacity: u32,
     queue: Queue,
     values: &[i32],
     p: usize,
     r: usize,
 ) -> Queue
-    requires { ⌜ Tabled (now deck) counts (now rules) (now parts) × Offering (now rules) (now parts) counts capacity (now memo) (now pool) queue × (length (now values) ≡ 512) × (p < counts .parts) × (r < counts .rules) ⌝ }
-    ensures { λ s. ⌜ Offered (shape (now (rules .entry)) (now (parts .entry)) counts) capacity (flatMap (firedThere (now (values .entry)) p (ruleAt (deckOf (now (deck .entry))) r)) (others (deckOf (now (deck .entry))) p)) (now (pool .entry)) queue (now (memo .exit)) (now (pool .exit)) s ⌝ }
+    requires { ⌜ Tabled (now deck) counts (now rules) (now parts) × Offering (now rules) (now parts) counts capacity (now memo) (heldOf gone (now index) (now pool)) queue × (length (now values) ≡ 512) × (p < counts .parts) × (r < counts .rules) ⌝ }
+    ensures { λ s. ⌜ Offered (shape (now (rules .entry)) (now (parts .entry)) counts) capacity (flatMap (firedThere (now (values .entry)) p (ruleAt (deckOf (now (deck .entry))) r)) (others (deckOf (now (deck .entry))) p)) (heldOf gone (now (index .entry)) (now (pool .entry))) queue (now (memo .exit)) (heldOf gone (now (index .exit)) (now (pool .exit))) s ⌝ }
 {
     let n = counts.parts;
     let mut out = queue;
     let mut q: usize = 0;
     while q < n {
         if q != p {
-            out = fire_there(deck, counts, rules, parts, memo, pool, capacity, out, values, p, r, q);
+            out = fire_there(deck, counts, rules, parts, memo, index, pool, gone, capacity, out, values, p, r, q);
         }
         q += 1;
     }
@@ -201,22 +213,24 @@ fn fire_all_here(
     rules: &[u64],
     parts: &[u64],
     memo: &mut [u32],
+    index: &mut [u16],
     pool: &mut [i32],
+    gone: usize,
     capacity: u32,
     queue: Queue,
     values: &[i32],
     p: usize,
     changed: u64,
 ) -> Queue
-    requires { ⌜ Tabled (now deck) counts (now rules) (now parts) × Offering (now rules) (now parts) counts capacity (now memo) (now pool) queue × (length (now values) ≡ 512) × (p < counts .parts) ⌝ }
-    ensures { λ s. ⌜ FiresAll (deckOf (now (deck .entry))) (λ r. firedHere (now (values .entry)) p r) p changed (shape (now (rules .entry)) (now (parts .entry)) counts) capacity (now (pool .entry)) queue (now (memo .exit)) (now (pool .exit)) s × Offering (now (rules .entry)) (now (parts .entry)) counts capacity (now (memo .exit)) (now (pool .exit)) s ⌝ }
+    requires { ⌜ Tabled (now deck) counts (now rules) (now parts) × Offering (now rules) (now parts) counts capacity (now memo) (heldOf gone (now index) (now pool)) queue × (length (now values) ≡ 512) × (p < counts .parts) ⌝ }
+    ensures { λ s. ⌜ FiresAll (deckOf (now (deck .entry))) (λ r. firedHere (now (values .entry)) p r) p changed (shape (now (rules .entry)) (now (parts .entry)) counts) capacity (heldOf gone (now (index .entry)) (now (pool .entry))) queue (now (memo .exit)) (heldOf gone (now (index .exit)) (now (pool .exit))) s × Offering (now (rules .entry)) (now (parts .entry)) counts capacity (now (memo .exit)) (heldOf gone (now (index .exit)) (now (pool .exit))) s ⌝ }
 {
     let n = counts.rules;
     let mut out = queue;
     let mut r: usize = 0;
     while r < n {
         if charge::hears(rules, parts, p, r, changed) {
-            out = fire_here(deck, counts, rules, parts, memo, pool, capacity, out, values, p, r);
+            out = fire_here(deck, counts, rules, parts, memo, index, pool, gone, capacity, out, values, p, r);
         }
         r += 1;
     }
@@ -230,22 +244,24 @@ fn fire_all_others(
     rules: &[u64],
     parts: &[u64],
     memo: &mut [u32],
+    index: &mut [u16],
     pool: &mut [i32],
+    gone: usize,
     capacity: u32,
     queue: Queue,
     values: &[i32],
     p: usize,
     changed: u64,
 ) -> Queue
-    requires { ⌜ Tabled (now deck) counts (now rules) (now parts) × Offering (now rules) (now parts) counts capacity (now memo) (now pool) queue × (length (now values) ≡ 512) × (p < counts .parts) ⌝ }
-    ensures { λ s. ⌜ FiresAll (deckOf (now (deck .entry))) (λ r. flatMap (firedThere (now (values .entry)) p r) (others (deckOf (now (deck .entry))) p)) p changed (shape (now (rules .entry)) (now (parts .entry)) counts) capacity (now (pool .entry)) queue (now (memo .exit)) (now (pool .exit)) s ⌝ }
+    requires { ⌜ Tabled (now deck) counts (now rules) (now parts) × Offering (now rules) (now parts) counts capacity (now memo) (heldOf gone (now index) (now pool)) queue × (length (now values) ≡ 512) × (p < counts .parts) ⌝ }
+    ensures { λ s. ⌜ FiresAll (deckOf (now (deck .entry))) (λ r. flatMap (firedThere (now (values .entry)) p r) (others (deckOf (now (deck .entry))) p)) p changed (shape (now (rules .entry)) (now (parts .entry)) counts) capacity (heldOf gone (now (index .entry)) (now (pool .entry))) queue (now (memo .exit)) (heldOf gone (now (index .exit)) (now (pool .exit))) s ⌝ }
 {
     let n = counts.rules;
     let mut out = queue;
     let mut r: usize = 0;
     while r < n {
         if charge::hears(rules, parts, p, r, changed) {
-            out = fire_others(deck, counts, rules, parts, memo, pool, capacity, out, values, p, r);
+            out = fire_others(deck, counts, rules, parts, memo, index, pool, gone, capacity, out, values, p, r);
         }
         r += 1;
     }
@@ -259,18 +275,20 @@ pub fn fire(
     rules: &[u64],
     parts: &[u64],
     memo: &mut [u32],
+    index: &mut [u16],
     pool: &mut [i32],
+    gone: usize,
     capacity: u32,
     queue: Queue,
     values: &[i32],
     p: usize,
     changed: u64,
 ) -> Queue
-    requires { ⌜ Tabled (now deck) counts (now rules) (now parts) × Offering (now rules) (now parts) counts capacity (now memo) (now pool) queue × (length (now values) ≡ 512) × (p < counts .parts) ⌝ }
-    ensures { λ s. ⌜ Fires (deckOf (now (deck .entry))) (now (values .entry)) p changed (shape (now (rules .entry)) (now (parts .entry)) counts) capacity (now (pool .entry)) queue (now (memo .exit)) (now (pool .exit)) s ⌝ }
+    requires { ⌜ Tabled (now deck) counts (now rules) (now parts) × Offering (now rules) (now parts) counts capacity (now memo) (heldOf gone (now index) (now pool)) queue × (length (now values) ≡ 512) × (p < counts .parts) ⌝ }
+    ensures { λ s. ⌜ Fires (deckOf (now (deck .entry))) (now (values .entry)) p changed (shape (now (rules .entry)) (now (parts .entry)) counts) capacity (heldOf gone (now (index .entry)) (now (pool .entry))) queue (now (memo .exit)) (heldOf gone (now (index .exit)) (now (pool .exit))) s ⌝ }
 {
-    let first = fire_all_here(deck, counts, rules, parts, memo, pool, capacity, queue, values, p, changed);
-    fire_all_others(deck, counts, rules, parts, memo, pool, capacity, first, values, p, changed)
+    let first = fire_all_here(deck, counts, rules, parts, memo, index, pool, gone, capacity, queue, values, p, changed);
+    fire_all_others(deck, counts, rules, parts, memo, index, pool, gone, capacity, first, values, p, changed)
 }
 
 // The firing that follows when part p's values became `after`, with the pending updates that the pool holds.
@@ -280,7 +298,9 @@ pub fn react(
     rules: &[u64],
     parts: &[u64],
     memo: &mut [u32],
+    index: &mut [u16],
     pool: &mut [i32],
+    gone: usize,
     capacity: u32,
     pending: usize,
     charge: u32,
@@ -288,8 +308,8 @@ pub fn react(
     after: &[i32],
     p: usize,
 ) -> Queue
-    requires { ⌜ Reacting (now deck) counts (now rules) (now parts) (now memo) (now pool) capacity pending charge × (length (now before) ≡ 512) × (length (now after) ≡ 512) × (p < counts .parts) ⌝ }
-    ensures { λ r. ⌜ Reacts (deckOf (now (deck .entry))) (shape (now (rules .entry)) (now (parts .entry)) counts) capacity pending charge (now (before .entry)) (now (after .entry)) p (now (pool .entry)) (now (memo .exit)) (now (pool .exit)) r ⌝ }
+    requires { ⌜ Reacting (now deck) counts (now rules) (now parts) (now memo) (heldOf gone (now index) (now pool)) capacity pending charge × (length (now before) ≡ 512) × (length (now after) ≡ 512) × (p < counts .parts) ⌝ }
+    ensures { λ r. ⌜ Reacts (deckOf (now (deck .entry))) (shape (now (rules .entry)) (now (parts .entry)) counts) capacity pending charge (now (before .entry)) (now (after .entry)) p (heldOf gone (now (index .entry)) (now (pool .entry))) (now (memo .exit)) (heldOf gone (now (index .exit)) (now (pool .exit))) r ⌝ }
 {
     let mask = firing::changed(before, after, p, counts.channels);
     let queue = Queue {
@@ -297,7 +317,7 @@ pub fn react(
         charge: charge,
         full: false,
     };
-    fire(deck, counts, rules, parts, memo, pool, capacity, queue, after, p, mask)
+    fire(deck, counts, rules, parts, memo, index, pool, gone, capacity, queue, after, p, mask)
 }
 
 // A value table with an update applied, and the part of the update.
@@ -322,27 +342,26 @@ fn apply(values: [i32; Deck::VALUES], place: &[i32], parts: usize) -> Applied
     }
 }
 
-// What taking out an update leaves: its part, the values with it applied, and the charge of the other pending updates.
-pub struct Taken {
+// The update at a place: its part, the values with it applied, and its charge, up to 65,536.
+pub struct Looked {
     pub part: usize,
     pub values: [i32; Deck::VALUES],
     pub charge: u32,
 }
 
-// Update k is taken out and later places move down.
-fn take(
+// What stands at place k.
+fn look(
     counts: Deck,
     rules: &[u64],
     parts: &[u64],
     memo: &mut [u32],
-    pool: &mut [i32],
+    pool: &[i32],
     values: [i32; Deck::VALUES],
     pending: usize,
-    charge: u32,
     k: usize,
-) -> Taken
-    requires { ⌜ Taking counts (now rules) (now parts) (now memo) (now pool) pending charge k ⌝ }
-    ensures { λ r. ⌜ Takes (shape (now (rules .entry)) (now (parts .entry)) counts) k pending charge values (now (pool .entry)) (now (memo .exit)) (now (pool .exit)) (r .part) (r .values) (r .charge) ⌝ }
+) -> Looked
+    requires { ⌜ Looking counts (now rules) (now parts) (now memo) (now pool) pending k ⌝ }
+    ensures { λ r. ⌜ Looks (shape (now (rules .entry)) (now (parts .entry)) counts) k values (now (pool .entry)) (now (memo .exit)) (r .part) (r .values) (r .charge) ⌝ }
 {
     let at = 10 * k;
     let end = at + 10;
@@ -356,12 +375,11 @@ fn take(
         &pool[at..end],
     );
     let done = apply(values, &pool[at..end], counts.parts);
-    pool::take_out(pool, pending, k);
     let after = done.values;
-    Taken {
+    Looked {
         part: done.part,
         values: after,
-        charge: charge - c,
+        charge: c,
     }
 }
 
@@ -372,45 +390,89 @@ pub struct Step {
     pub applied: bool,
 }
 
-// The commit of place k.
+// The rest of a commit, when the update is out of the pool: the limit of its part decides.
+fn finish(
+    deck: &[u8],
+    counts: Deck,
+    rules: &[u64],
+    parts: &[u64],
+    memo: &mut [u32],
+    index: &mut [u16],
+    pool: &mut [i32],
+    gone: usize,
+    capacity: u32,
+    before: [i32; Deck::VALUES],
+    part: usize,
+    after: [i32; Deck::VALUES],
+    pending: usize,
+    charge: u32,
+) -> Step
+    requires { ⌜ Finishing (now deck) counts (now rules) (now parts) (now memo) (heldOf gone (now index) (now pool)) capacity before part after pending charge ⌝ }
+    ensures { λ r. ⌜ Finishes (deckOf (now (deck .entry))) (shape (now (rules .entry)) (now (parts .entry)) counts) capacity before part after pending charge (heldOf gone (now (index .entry)) (now (pool .entry))) (now (memo .exit)) (heldOf gone (now (index .exit)) (now (pool .exit))) (r .state .values) (r .state .pending) (r .charge) (r .applied) ⌝ }
+{
+    if passing::within(deck, counts, parts, &after, part) {
+        let queue = react(deck, counts, rules, parts, memo, index, pool, gone, capacity, pending, charge, &before, &after, part);
+        let state = State {
+            values: after,
+            pending: queue.pending as u32,
+        };
+        return Step { state: state, charge: queue.charge, applied: true };
+    }
+    let state = State {
+        values: before,
+        pending: pending as u32,
+    };
+    Step { state: state, charge: charge, applied: false }
+}
+
+// The commit of place k: it is taken out, and later places move down.
 pub fn commit(
     deck: &[u8],
     counts: Deck,
     rules: &[u64],
     parts: &[u64],
     memo: &mut [u32],
+    index: &mut [u16],
     pool: &mut [i32],
     capacity: u32,
     state: State,
     charge: u32,
     k: usize,
 ) -> Step
-    requires { ⌜ Committing (now deck) counts (now rules) (now parts) (now memo) (now pool) capacity (state .values) (state .pending) charge × (k < state .pending) ⌝ }
-    ensures { λ r. ⌜ Commits (deckOf (now (deck .entry))) (shape (now (rules .entry)) (now (parts .entry)) counts) capacity k (now (pool .entry)) (state .values) (state .pending) charge (now (memo .exit)) (now (pool .exit)) (r .state .values) (r .state .pending) (r .charge) (r .applied) ⌝ }
+    requires { ⌜ Committing (now deck) counts (now rules) (now parts) (now memo) (heldOf 0 (now index) (now pool)) capacity (state .values) (state .pending) charge × (k < state .pending) ⌝ }
+    ensures { λ r. ⌜ Commits (deckOf (now (deck .entry))) (shape (now (rules .entry)) (now (parts .entry)) counts) capacity k (heldOf 0 (now (index .entry)) (now (pool .entry))) (state .values) (state .pending) charge (now (memo .exit)) (heldOf 0 (now (index .exit)) (now (pool .exit))) (r .state .values) (r .state .pending) (r .charge) (r .applied) ⌝ }
 {
     let n = state.pending as usize;
     let before = state.values;
-    let taken = take(counts, rules, parts, memo, pool, before, n, charge, k);
-    let part = taken.part;
-    let after = taken.values;
-    if passing::within(deck, counts, parts, &after, part) {
-        let queue = react(deck, counts, rules, parts, memo, pool, capacity, n - 1, taken.charge, &before, &after, part);
-        Step {
-            state: State {
-                values: after,
-                pending: queue.pending as u32,
-            },
-            charge: queue.charge,
-            applied: true,
-        }
-    } else {
-        Step {
-            state: State {
-                values: before,
-                pending: (n - 1) as u32,
-            },
-            charge: taken.charge,
-            applied: false,
-        }
-    }
+    let found = look(counts, rules, parts, memo, pool, before, n, k);
+    pool::take_out(pool, n, k);
+    index::forget(index, n, k);
+    let after = found.values;
+    let left = charge - found.charge;
+    finish(deck, counts, rules, parts, memo, index, pool, 0, capacity, before, found.part, after, n - 1, left)
+}
+
+// The commit of place 0, where the others stay: the pool from the next place on is lent.
+pub fn commit_front(
+    deck: &[u8],
+    counts: Deck,
+    rules: &[u64],
+    parts: &[u64],
+    memo: &mut [u32],
+    index: &mut [u16],
+    pool: &mut [i32],
+    gone: usize,
+    capacity: u32,
+    state: State,
+    charge: u32,
+) -> Step
+    requires { ⌜ Committing (now deck) counts (now rules) (now parts) (now memo) (heldOf gone (now index) (now pool)) capacity (state .values) (state .pending) charge × (0 < state .pending) ⌝ }
+    ensures { λ r. ⌜ CommitsFront (deckOf (now (deck .entry))) (shape (now (rules .entry)) (now (parts .entry)) counts) capacity (heldOf gone (now (index .entry)) (now (pool .entry))) (state .values) (state .pending) charge (now (memo .exit)) (heldOf (gone + 1) (now (index .exit)) (drop 10 (now (pool .exit)))) (r .state .values) (r .state .pending) (r .charge) (r .applied) ⌝ }
+{
+    let n = state.pending as usize;
+    let before = state.values;
+    let found = look(counts, rules, parts, memo, pool, before, n, 0);
+    let after = found.values;
+    let left = charge - found.charge;
+    finish(deck, counts, rules, parts, memo, index, &mut pool[Deck::PLACE..], gone + 1, capacity - 1, before, found.part, after, n - 1, left)
 }

@@ -1,6 +1,6 @@
 -- `charge::first_above` meets its contract. The loop's invariant: best is the largest charge at the places passed, and the
 -- memo is right. The measure is what is left of the places. Assumes nothing.
-use Prim.Native.Nat.{_*_, _-_, _≤_}
+use Prim.Native.Nat.{_*_, _-_, _/_, _≤_}
 use mathlib.Core.Path.{sym, _∙_}
 use mathlib.Core.Logic.{⊎-elim}
 use native.Mathlib.Omega.{arith}
@@ -8,14 +8,15 @@ use Rattle.deck.specs.Deck.{Deck}
 use Rattle.deck.specs.Shape.{shapeOf}
 use Rattle.deck.specs.Laws.Shape.{shape-N}
 use Rattle.charge.specs.Memo.{Memo}
-use Rattle.charge.proofs.Search.{Passed, memo-new, few-rules, passed-none, passed-skip, passed-more, passed-all, passed-above, rule-known, is-place, no-place}
+use Rattle.charge.proofs.Search.{Passed, memo-new, few-rules, passed-none, passed-skip, passed-more, passed-all, passed-above, rule-known, is-place, place-carried, no-place}
+use Rattle.charge.proofs.RowCharges.{gives-charge}
 use Rattle.charge.proofs.first_above.Statement.{statement}
 use Rattle.charge.proofs.first_above.Tie as tie
 use Rattle.charge.proofs.first_above.Reads as reads
 use Rattle.charge.proofs.first_above.Lts as lts
 use Rattle.charge.proofs.is_carried.Reads as is-carried-reads
 use Rattle.charge.proofs.larger.Reads as larger-reads
-use Rattle.charge.proofs.rule_charge.Reads as rule-charge-reads
+use Rattle.charge.proofs.rule_charges.Reads as rule-charges-reads
 
 abbrev Inv-loop : tie.InvT-loop
 Inv-loop rules parts channels count parts-count memo₀ best₀ place₀ memo best place =
@@ -29,8 +30,8 @@ abbrev claims : lts.Claims
 claims = (
   is-carried-reads.Asked,
   is-carried-reads.Learnt,
-  rule-charge-reads.Asked,
-  rule-charge-reads.Learnt,
+  rule-charges-reads.Asked,
+  rule-charges-reads.Learnt,
   larger-reads.Asked,
   larger-reads.Learnt,
 )
@@ -49,16 +50,36 @@ mul-loop c = omega arith
 is-carried-requires : tie.Need-is-carried-requires Inv-loop μ-loop
 is-carried-requires c κs = omega arith
 
-slice-aggregate-rule-charge : tie.Need-slice-aggregate-rule-charge Inv-loop μ-loop
-slice-aggregate-rule-charge c = sym (c .before .before .before .before .loop .inv .1 .long)
+slice-aggregate-rule-charges : tie.Need-slice-aggregate-rule-charges Inv-loop μ-loop
+slice-aggregate-rule-charges c = sym (c .before .before .before .before .loop .inv .1 .long)
 
-rule-charge-requires : tie.Need-rule-charge-requires Inv-loop μ-loop
-rule-charge-requires c κs =
+rule-charges-requires : tie.Need-rule-charges-requires Inv-loop μ-loop
+rule-charges-requires c κs =
     let s = c .before .before .before .before .before .before .before in
     let i = c .before .before .before .before .loop in
-    let known = rule-known (s .pre) (i .place) (c .before .before .before .loop-test .taken)
-    (sym (c .before .before .is-carried .ensures) ∙ c .before .if1 .taken) in
-    (record { tables = s .pre; memo = i .inv .1 }, omega arith, omega arith)
+    let k = c .before .before .before .loop-test .taken in
+    let t = sym (c .before .before .is-carried .ensures) ∙ c .before .if1 .taken in (
+      record { tables = s .pre; memo = i .inv .1 },
+      rule-known (s .pre) (i .place) k t,
+      place-carried (s .pre) (i .place) k t,
+    )
+
+mul-c : tie.Need-mul-c Inv-loop μ-loop
+mul-c c = omega arith
+
+add-c : tie.Need-add-c Inv-loop μ-loop
+add-c c = omega arith
+
+mul-c-2 : tie.Need-mul-c-2 Inv-loop μ-loop
+mul-c-2 c = omega arith
+
+array-read-c : tie.Need-array-read-c Inv-loop μ-loop
+array-read-c c = omega arith
+
+sub-c : tie.Need-sub-c Inv-loop μ-loop
+sub-c c =
+    let w = c .before .rule-charges .ensures .known .known (c .before .before .before .before .before .before .loop .place / 64) (omega arith) in
+    omega arith
 
 returns : tie.Need-returns Inv-loop μ-loop
 returns c =
@@ -67,8 +88,8 @@ returns c =
     let j = c .before .before .before .before in
     let y = is-place (s .pre) (i .place) (j .before .before .loop-test .taken)
     (sym (j .before .is-carried .ensures) ∙ j .if1 .taken) in
-    passed-above (deckOf s) (few-rules (s .pre)) (i .inv .2) y
-    (omega (arith, c .before .before .rule-charge .ensures .value))
+    let g = gives-charge (s .pre) (c .before .before .rule-charges .ensures) (i .place / 64) (omega arith) in
+    passed-above (deckOf s) (few-rules (s .pre)) (i .inv .2) y (omega (arith, g .value))
 
 larger-requires : tie.Need-larger-requires Inv-loop μ-loop
 larger-requires c κs = omega arith
@@ -91,7 +112,7 @@ loop-again c =
       rw (w .7)
           (passed-more (deckOf s) (few-rules (s .pre)) (i .inv .2)
           (is-place (s .pre) (i .place) k (sym (c .before .is-carried .ensures) ∙ w .0 .taken))
-          (w .2 .ensures .value) (w .4 .left) (w .5 .ensures)),
+          (gives-charge (s .pre) (w .2 .ensures) (i .place / 64) (omega arith) .value) (w .4 .left) (w .5 .ensures)),
     ))
     (λ w. (
       omega arith,
@@ -118,8 +139,13 @@ first-above-spec =
     loop-holds
     mul-loop
     is-carried-requires
-    slice-aggregate-rule-charge
-    rule-charge-requires
+    slice-aggregate-rule-charges
+    rule-charges-requires
+    mul-c
+    add-c
+    mul-c-2
+    array-read-c
+    sub-c
     returns
     larger-requires
     add-place

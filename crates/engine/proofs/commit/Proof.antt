@@ -1,61 +1,24 @@
--- `engine::commit` meets its contract. Assumes nothing.
-use mathlib.Core.Path.{refl, sym}
-use native.Mathlib.Omega.{arith}
+-- `engine::commit` meets its contract: the index is long enough, and the rest is the same. Assumes nothing.
+use mathlib.Core.Path.{refl}
 use borrow.Author.Needs.{needs}
-use Rattle.pool.specs.Places.{capacity}
-use Rattle.engine.specs.Laws.CommitAnswers.{commit-declined, commit-no-place, commit-made}
+use Rattle.engine.specs.Laws.Tested.{usable-short, usable-middle, usable}
 use Rattle.engine.proofs.commit.Statement.{statement}
 use Rattle.engine.proofs.commit.Tie as tie
 
--- the needs in the order of the code: the tables, the tests, and for each of their answers what the call answers
+-- the needs in the order of the code
 pub commit-spec : {M : Type 1} → statement M
-unfolding capacity
 commit-spec =
     tie.close
     (tie.spec
-    (λ c. refl)
-    (λ c. refl)
-    (λ c. refl)
     (λ c. search needs)
-    (λ c κs. (refl, refl, refl))
+    (λ c κs. usable-short _ (c .before .before .if1 .taken))
     (λ c. search needs)
+    (λ c. c .before .before .commit-with .ensures)
     (λ c. search needs)
+    (λ c κs. usable-middle _ (c .before .before .if2 .taken))
     (λ c. search needs)
-    (λ c.
-    let f = c .before .before .before in
-    let w = rw (f .found2 .given .1) at (f .before .before .before .before .before .test-lent .ensures) in
-    sym (commit-no-place _ _ _ _ (w .accepted) (c .if1 .taken)))
-    (λ c.
-    let f = c .before .before .before in
-    let w = rw (f .found2 .given .1) at (f .before .before .before .before .before .test-lent .ensures) in
-    omega (arith, w .entering .bounded))
-    (λ c.
-    let f = c .before .before .before .before in
-    let w = rw (f .found2 .given .1) at (f .before .before .before .before .before .test-lent .ensures) in
-    sym (w .entering .tabled .ruleTable .long))
-    (λ c.
-    let f = c .before .before .before .before .before in
-    let w = rw (f .found2 .given .1) at (f .before .before .before .before .before .test-lent .ensures) in
-    sym (w .entering .tabled .partTable .long))
-    (λ c.
-    let f = c .before .before .before .before .before .before in
-    let w = rw (f .found2 .given .1) at (f .before .before .before .before .before .test-lent .ensures) in
-    sym (w .entering .ready .memo .long))
-    (λ c κs.
-    let i = c .before .before .before .before in
-    let f = i .before .before .before in
-    let w = rw (f .found2 .given .1) at (f .before .before .before .before .before .test-lent .ensures) in
-    (w .entering, omega (arith, i .if1 .left)))
-    (λ c κs. search needs)
+    (λ c. c .before .before .commit-with2 .ensures)
     (λ c. search needs)
-    (λ c.
-    let f = c .before in
-    sym (commit-declined _ _ _ _ _ (rw (f .found .given .1) at (f .before .before .before .before .before .test-lent .ensures))))
+    (λ c κs. usable _)
     (λ c. search needs)
-    (λ c.
-    let a = c .before in
-    let s = a .before .before .before in
-    let i = s .before .before .before .before .before in
-    let f = i .before .before .before in
-    let w = rw (f .found2 .given .1) at (f .before .before .before .before .before .test-lent .ensures) in
-    commit-made _ _ _ (w .accepted) (w .loaded) (s .commit .ensures) (omega (arith, i .if1 .left)) (a .commit-answer .ensures)))
+    (λ c. c .before .before .commit-with3 .ensures))

@@ -1,45 +1,24 @@
--- `engine::input` meets its contract: the tests, and for each of their answers what the call answers. Assumes nothing.
+-- `engine::input` meets its contract: the index is long enough, and the rest is the same. Assumes nothing.
+use mathlib.Core.Path.{refl}
 use borrow.Author.Needs.{needs}
-use Rattle.engine.specs.Laws.InputAnswers.{input-refused, input-answers}
+use Rattle.engine.specs.Laws.Tested.{usable-short, usable-middle, usable}
 use Rattle.engine.proofs.input.Statement.{statement}
 use Rattle.engine.proofs.input.Tie as tie
 
-enter-requires : tie.Need-enter-requires
-enter-requires c κs =
-    let f = c .before .before .before .before .before in
-    (rw (f .found2 .given .1) at (f .before .before .before .before .before .test-lent .ensures)) .entering
-
-returns : tie.Need-returns
-returns c =
-    let f = c .before in
-    input-refused _ _ _ _ _ _ (rw (f .found .given .1) at (f .before .before .before .before .before .test-lent .ensures))
-
--- the call keeps the length of the pool
-long : tie.Need-same-length-2
-long c = search needs
-
-returns-2 : tie.Need-returns-2
-returns-2 c =
-    let f = c .before .before .before .before .before .before .before .before in
-    let w = rw (f .found2 .given .1) at (f .before .before .before .before .before .test-lent .ensures) in
-    input-answers w _ _ (long c) (c .before .before .enter .ensures)
-
+-- the needs in the order of the code
 pub input-spec : {M : Type 1} → statement M
 input-spec =
     tie.close
     (tie.spec
     (λ c. search needs)
+    (λ c κs. usable-short _ (c .before .before .if1 .taken))
     (λ c. search needs)
+    (λ c. c .before .before .input-with .ensures)
     (λ c. search needs)
+    (λ c κs. usable-middle _ (c .before .before .if2 .taken))
     (λ c. search needs)
-    (λ c κs. search needs)
+    (λ c. c .before .before .input-with2 .ensures)
     (λ c. search needs)
+    (λ c κs. usable _)
     (λ c. search needs)
-    (λ c. search needs)
-    (λ c. search needs)
-    (λ c. search needs)
-    enter-requires
-    (λ c. search needs)
-    returns
-    long
-    returns-2)
+    (λ c. c .before .before .input-with3 .ensures))

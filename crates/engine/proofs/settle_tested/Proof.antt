@@ -1,71 +1,70 @@
--- `engine::settle_tested` meets its contract: each turn is a commit of place 0. Assumes nothing.
-use Prim.Native.Nat.{_-_}
-use mathlib.Core.Path.{sym, _∙_}
+-- `engine::settle_tested` meets its contract: each turn is a commit of place 0, and the places move down at the end. Assumes
+-- nothing.
+use Prim.Native.Nat.{_-_, _*_}
+use mathlib.Core.Path.{sym, ap, _∙_}
+use mathlib.Core.Logic.{⊎-elim, inl, inr}
 use native.Mathlib.Omega.{arith}
 use borrow.Author.Needs.{needs}
-use Rattle.engine.specs.Laws.SettleTurns.{Turning, first-turn, next-turn, turns-settled, turns-spent}
+use lib.ListN.{length}
+use Rattle.steps.specs.Laws.Looking.{tail-lent}
+use Rattle.engine.specs.Laws.SettleTurns.{Turning, first-turn, next-turn, gone-room, shift-room, shift-long, turns-ended}
 use Rattle.engine.proofs.settle_tested.Statement.{statement}
 use Rattle.engine.proofs.settle_tested.Tie as tie
 
 abbrev Inv-loop : tie.InvT-loop
-Inv-loop deck counts rules parts memo₀ pool₀ capacity charge budget later₀ total₀ made₀ memo pool later total made =
-    Turning deck counts rules parts capacity budget (later₀ .values) (later₀ .pending) total₀ pool₀ memo pool
+Inv-loop deck counts rules parts memo₀ index₀ pool₀ capacity charge budget later₀ total₀ made₀ memo index pool later total made =
+    Turning deck counts rules parts capacity budget (later₀ .values) (later₀ .pending) total₀ index₀ pool₀ memo index pool
     (later .values) (later .pending) total made
 
 abbrev μ-loop : tie.MeasureT-loop
-μ-loop deck counts rules parts memo₀ pool₀ capacity charge budget later₀ total₀ made₀ memo pool later total made = budget - made
+μ-loop deck counts rules parts memo₀ index₀ pool₀ capacity charge budget later₀ total₀ made₀ memo index pool later total made =
+    budget - made
 
 loop-holds : tie.Need-loop-holds Inv-loop μ-loop
 loop-holds c =
-    let s = c .before .before .before .before in
+    let s = c .before .before .before .before .before in
     first-turn (s .args .budget) (s .pre)
 
-same-length : tie.Need-same-length Inv-loop μ-loop
-same-length c =
-    let h = c .before .before .before in
-    let s = h .before .before .before .before .before in
-    h .loop .inv .committing .ready .memo .long ∙ sym (s .pre .ready .memo .long)
-
-same-length-2 : tie.Need-same-length-2 Inv-loop μ-loop
-same-length-2 c = c .before .before .before .loop .inv .long
-
-returns : tie.Need-returns Inv-loop μ-loop
-returns c = turns-settled (c .before .before .before .loop .inv) (c .if1 .taken)
-
-commit-requires : tie.Need-commit-requires Inv-loop μ-loop
-commit-requires c κs =
-    let i = c .before .before in
-    (i .before .before .before .loop .inv .committing, omega (arith, i .if1 .left))
-
-add-made : tie.Need-add-made Inv-loop μ-loop
-add-made c = omega arith
-
-loop-less : tie.Need-loop-less Inv-loop μ-loop
-loop-less c = omega arith
+commit-front-requires : tie.Need-commit-front-requires Inv-loop μ-loop
+commit-front-requires c κs =
+    let i = c .before .before .before in
+    let h = i .before .before .before in
+    (rw (tail-lent (h .loop .pool) (10 * h .loop .made)) (h .loop .inv .committing), omega (arith, i .if1 .left))
 
 loop-again : tie.Need-loop-again Inv-loop μ-loop
 loop-again c =
-    let r = c .before .before .before .before in
-    let i = r .before .before .before in
+    let r = c .before .before .before .before .before .before in
+    let i = r .before .before .before .before in
     let h = i .before .before .before in
-    next-turn (h .loop .inv) (i .before .before .loop-test .taken) (omega (arith, i .if1 .left)) (r .commit .ensures)
+    let lent = tail-lent (h .loop .pool) (10 * h .loop .made) in
+    next-turn (h .loop .inv) (r .commit-front .last .1 .1 .1 .1 .1 .1 .0) (i .before .before .loop-test .taken) (omega (arith, i .if1 .left))
+    (r .commit-front .kept .1 .1 .1 .1 .1 .1 .0 ∙ ap length lent)
+    (rw lent at (r .commit-front .ensures))
 
-settle-answer-requires : tie.Need-settle-answer-requires Inv-loop μ-loop
-settle-answer-requires c κs = search needs
+shift-requires : tie.Need-shift-requires Inv-loop μ-loop
+shift-requires c κs = omega (arith, shift-room (c .before .before .before .loop .inv))
+
+same-length : tie.Need-same-length Inv-loop μ-loop
+same-length c =
+    let h = c .before .before .before .before .before .before in
+    let s = h .before .before .before .before .before .before in
+    h .loop .inv .committing .ready .memo .long ∙ sym (s .pre .ready .memo .long)
+
+same-length-2 : tie.Need-same-length-2 Inv-loop μ-loop
+same-length-2 c = c .before .before .before .before .before .before .loop .inv .index-long
 
 same-length-3 : tie.Need-same-length-3 Inv-loop μ-loop
 same-length-3 c =
-    let h = c .before .before in
-    let s = h .before .before .before .before .before in
-    h .loop .inv .committing .ready .memo .long ∙ sym (s .pre .ready .memo .long)
+    let h = c .before .before .before .before .before .before in
+    ap length (c .before .before .shift .ensures) ∙ shift-long (h .loop .inv)
 
-same-length-4 : tie.Need-same-length-4 Inv-loop μ-loop
-same-length-4 c = c .before .before .loop .inv .long
-
-returns-2 : tie.Need-returns-2 Inv-loop μ-loop
-returns-2 c =
-    let h = c .before .before in
-    turns-spent (h .loop .inv) (omega (arith, c .before .loop-test .left)) (c .settle-answer .ensures)
+returns : tie.Need-returns Inv-loop μ-loop
+returns c =
+    let f = c .before .before in
+    let h = c .before .before .before .before .before .before in
+    rw (f .shift .ensures)
+    (turns-ended (h .loop .inv) (⊎-elim (λ l. inr (omega (arith, l .left))) (λ w. inl (w .2 .taken)) (c .before .before .before .before .before .loop-test .came))
+    (c .settle-answer .ensures))
 
 pub settle-tested-spec : {M : Type 1} → statement M
 settle-tested-spec =
@@ -74,14 +73,24 @@ settle-tested-spec =
     Inv-loop
     μ-loop
     loop-holds
+    (λ c. search needs)
+    (λ c. record { fits = omega (arith, c .before .before .loop-test .taken) })
+    (λ c. search needs)
+    (λ c. omega (arith, gone-room (c .before .before .before .before .before .loop .inv)))
+    (λ c. omega (arith, gone-room (c .before .before .before .before .before .loop .inv)))
+    (λ c. omega (arith, gone-room (c .before .before .before .before .before .loop .inv)))
+    (λ c. omega (arith, c .before .before .before .before .before .before .loop .inv .enough))
+    commit-front-requires
+    (λ c. search needs)
+    (λ c. omega (arith, c .before .before .before .before .before .before .before .before .before .before .before .before .loop-test .taken))
+    loop-again
+    (λ c. search needs)
+    (λ c. search needs)
+    (λ c. search needs)
+    (λ c. search needs)
+    shift-requires
+    (λ c κs. search needs)
     same-length
     same-length-2
-    returns
-    commit-requires
-    add-made
-    loop-less
-    loop-again
-    settle-answer-requires
     same-length-3
-    same-length-4
-    returns-2)
+    returns)

@@ -3,6 +3,7 @@ use mathlib.Core.Path.{refl, sym, _∙_}
 use mathlib.Core.Logic.{inl, inr}
 use borrow.Author.Needs.{needs}
 use borrow.Author.Tests.{not-true, not-false}
+use Rattle.states.specs.Laws.Indexing.{roomy-same}
 use Rattle.engine.proofs.test_state.Statement.{statement}
 use Rattle.engine.proofs.test_state.Tie as tie
 
@@ -13,22 +14,30 @@ test-state-spec =
     (λ c κs. search needs)
     (λ c. (refl, inl (refl, sym (c .before .good-length .ensures) ∙ not-true _ (c .if1 .taken))))
     (λ c κs.
-    let g = c .before .before in
-    let s = g .before .before .before .before in
-    (s .pre .0, s .pre .1, sym (g .good-length .ensures) ∙ not-false _ (c .before .if1 .left)))
+    let g = c .before .before .before in
+    let s = g .before .before .before .before .before in
+    let long = sym (g .good-length .ensures) ∙ not-false _ (c .before .before .if1 .left) in
+    (s .pre .0, s .pre .1, long, s .pre .2 long))
+    (λ c. search needs)
     (λ c. search needs)
     (λ c. search needs)
     (λ c. search needs)
     (λ c.
-    let j = c .before .before .before .before .before in
-    let i = j .before .before in (
+    let j = c .before .before .before .before .before .before .before in
+    let i = j .before .before .before in
+    let s = i .before .before .before .before .before .before in
+    let long = sym (i .before .good-length .ensures) ∙ not-false _ (i .if1 .left) in
+    let e = j .judge .ensures in (
       refl,
-      sym (i .before .good-length .ensures) ∙ not-false _ (i .if1 .left),
-      sym (c .before .good2 .given .1) ∙ j .judge .ensures .answer,
-      j .judge .ensures .memo,
+      long,
+      sym (c .before .good2 .given .1) ∙ e .answer,
+      e .memo,
+      e .indexes .indexed (_, c .before .good2 .given .1),
+      roomy-same (e .indexes .long) (s .pre .2 long .roomy),
     ))
     (λ c. search needs)
+    (λ c. search needs)
     (λ c.
-    let j = c .before .before .before .before in
-    let i = j .before .before in
+    let j = c .before .before .before .before .before .before in
+    let i = j .before .before .before in
     (refl, inr (refl, sym (i .before .good-length .ensures) ∙ not-false _ (i .if1 .left), sym (c .enum-told .given .1) ∙ j .judge .ensures .answer))))

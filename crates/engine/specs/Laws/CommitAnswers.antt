@@ -15,11 +15,12 @@ use Rattle.pool.specs.Places.{capacity}
 use Rattle.pool.specs.States.{Machine, Memory, load, store}
 use Rattle.passing.specs.Tabled.{deckOf}
 use Rattle.firing.specs.Firing.{committed}
+use Rattle.steps.specs.Queue.{heldOf}
 use Rattle.steps.specs.Commits.{Stored, Commits}
 use Rattle.engine.specs.Calls.{Answer, applied, discarded, Reply, reply, tested, commit}
 use Rattle.engine.specs.Answers.{memoryOf, replyOf}
 use Rattle.engine.specs.Tested.{Passed}
-use Rattle.engine.specs.Laws.StoredMemory.{stored-memory}
+use Rattle.engine.specs.Laws.StoredMemory.{left-memory, stored-left}
 
 -- the answer of a commit
 abbrev pub committedAs : Bool → ℕ → Answer
@@ -44,10 +45,11 @@ module _ (s : List ℕ) (m : Memory) (k : ℕ) where
   unfolding commit reply outcomes
   commit-done d e h = rw (e, lt-ltb k (m .state .pending) h)
 
-  pub commit-made : {a : Outcome Answer} {m₂ : List ℕ} {e : Deck} {total now : ℕ} {vs pool : List ℤ} {pending : ℕ} {b : Bool}
+  pub commit-made : {a : Outcome Answer} {m₂ index index₂ : List ℕ} {e : Deck} {total now : ℕ} {vs pool : List ℤ} {pending : ℕ} {b : Bool}
       → tested s m ≡ accepted (deckOf s)
-      → Stored (deckOf s) (capacity (length (m .pool))) (load m) (m .state .values) (m .state .pending) total (m .pool)
-      → Commits (deckOf s) e (capacity (length (m .pool))) k (m .pool) (m .state .values) (m .state .pending) total m₂ pool vs pending now b
+      → Stored (deckOf s) (capacity (length (m .pool))) (load m) (m .state .values) (m .state .pending) total (heldOf 0 index (m .pool))
+      → Commits (deckOf s) e (capacity (length (m .pool))) k (heldOf 0 index (m .pool)) (m .state .values) (m .state .pending) total m₂
+      (heldOf 0 index₂ pool) vs pending now b
       → k < m .state .pending
       → a ≡ accepted (committedAs b now)
       → replyOf a (record { values = vs; pending = pending }) pool ≡ commit s m k
@@ -57,5 +59,5 @@ module _ (s : List ℕ) (m : Memory) (k : ℕ) where
       let y = committed d k (load m) in
       ap₂ (λ x z. record { answer = x; memory = z })
       (f ∙ ap accepted (ap₂ committedAs (r .1) (r .0 .charged)))
-      (stored-memory d (capacity (length (m .pool))) (y .machine) vs pending now pool (length (m .pool)) (r .0) (c .long))
+      (left-memory (y .machine) vs pending pool (length (m .pool)) (stored-left (r .0)) (c .size .pool))
       ∙ sym (commit-done d t h)

@@ -22,14 +22,13 @@ use Rattle.passing.specs.Tabled.{deckOf}
 use Rattle.passing.specs.Judged.{shape}
 use Rattle.firing.specs.Firing.{fired, changed, enqueue, setAndFire}
 use Rattle.firing.specs.Evaluated.{Assignable}
-use Rattle.firing.specs.Laws.Commits.{set-fine, set-grows}
+use Rattle.firing.specs.Laws.Commits.{set-grows}
 use Rattle.steps.specs.declared.Queue.{Queue}
-use Rattle.steps.specs.Queue.{Grown}
+use Rattle.steps.specs.Queue.{heldOf, Grown}
 use Rattle.steps.specs.Commits.{Reacting, Reacts, Stored}
 use Rattle.steps.specs.Laws.Committing.{charge-same}
 use Rattle.engine.specs.Calls.{Answer, added, Done, goodInput}
-use Rattle.engine.specs.Tested.{GoodInput, Entering, entered, Leaves, Enters}
-use Rattle.engine.specs.Laws.Inputs.{input-known}
+use Rattle.engine.specs.Tested.{GoodInput, Entering, entered, Left, Leaves, Enters}
 use Rattle.engine.specs.Laws.InputTests.{input-assignable}
 
 -- ---- what the definition makes of an input
@@ -58,7 +57,7 @@ module _ (d : Deck) (C : ℕ) (x : Machine) (p : ℕ) (l : List ℤ) where
 -- ---- what is lent, and what is left
 
 -- the end of a pool, cleared
-emptied : (n : ℕ) (pool tail : List ℤ) → n ≤ length pool → tail ≡ zeros (length (take (length pool - n) (drop n pool)))
+pub emptied : (n : ℕ) (pool tail : List ℤ) → n ≤ length pool → tail ≡ zeros (length (take (length pool - n) (drop n pool)))
     → take n pool ++ (tail ++ drop (length pool - n) (drop n pool)) ≡ take n pool ++ zeros (length pool - n)
 emptied n pool tail h e =
     let long : length (take (length pool - n) (drop n pool)) ≡ length pool - n =
@@ -68,8 +67,8 @@ emptied n pool tail h e =
     ap₂ (λ t z. take n pool ++ (t ++ z)) (e ∙ ap zeros long) none
     ∙ ap (λ t. take n pool ++ t) (append-nil (zeros (length pool - n)))
 
-module _ {s : List ℕ} {k : Counted.Deck} {rules parts memo : List ℕ} {pool : List ℤ} {vs : List ℤ} {pending total : ℕ}
-    (w : Entering s k rules parts memo pool vs pending total) where
+module _ {s : List ℕ} {k : Counted.Deck} {rules parts memo index : List ℕ} {pool : List ℤ} {vs : List ℤ} {pending total : ℕ}
+    (w : Entering s k rules parts memo index pool vs pending total) where
   abbrev d : Deck
   d = deckOf s
 
@@ -84,19 +83,18 @@ module _ {s : List ℕ} {k : Counted.Deck} {rules parts memo : List ℕ} {pool :
 
   pub enter-room : C ≤ 65535
   unfolding capacity
-  enter-room = w .bounded
+  enter-room = omega (arith, w .room .bounded)
 
-  pub enter-reacting : Reacting s k rules parts memo pool C pending total
+  pub enter-reacting : Reacting s k rules parts memo (heldOf 0 index pool) C pending total
   unfolding capacity
   enter-reacting =
       let st = w .stored in
       record {
         tabled = w .tabled;
         ready = w .ready;
-        bounded = w .bounded;
-        places = w .places;
+        room = w .room;
         us = w .machine .pending;
-        laid = st .laid;
+        kept = st .kept;
         count = st .count;
         charged = st .charged ∙ sym (charge-same s rules parts k (w .tabled) (w .machine .pending));
         within = omega (arith, st .charged, st .fine .bounded);
@@ -109,13 +107,13 @@ module _ {s : List ℕ} {k : Counted.Deck} {rules parts memo : List ℕ} {pool :
     -- a refusal leaves everything as it was
     refusal : (n : ℕ) {answer : Outcome Answer} {vs₁ : List ℤ} {pending₁ : ℕ} {pool₁ : List ℤ}
         → answer ≡ refused n 0 → vs₁ ≡ vs → pending₁ ≡ pending → pool₁ ≡ pool
-        → (o : Outcome Done) → o ≡ refused n 0 → Leaves d (capacity (length pool)) o vs pending pool answer vs₁ pending₁ pool₁
+        → (o : Outcome Done) → o ≡ refused n 0 → Leaves o vs pending pool answer vs₁ pending₁ pool₁
     refusal n {answer} {vs₁} {pending₁} {pool₁} a v c q o h =
-        subst (λ o. Leaves d (capacity (length pool)) o vs pending pool answer vs₁ pending₁ pool₁) (sym h) (a, v, c, q)
+        subst (λ o. Leaves o vs pending pool answer vs₁ pending₁ pool₁) (sym h) (a, v, c, q)
 
     pub enter-unknown : {answer : Outcome Answer} {vs₁ : List ℤ} {pending₁ : ℕ}
         → k .parts ≤ p → answer ≡ refused unknownPart 0 → vs₁ ≡ vs → pending₁ ≡ pending
-        → Enters s vs pending total pool p l answer vs₁ pending₁ pool
+        → Enters s vs pending total index pool p l answer vs₁ pending₁ pool
     enter-unknown h a v c x st =
         refusal unknownPart a v c refl _ (entered-unknown d (capacity (length pool)) x p l (omega (arith, h, w .tabled .counts .parts)))
 
@@ -125,7 +123,7 @@ module _ {s : List ℕ} {k : Counted.Deck} {rules parts memo : List ℕ} {pool :
 
       pub enter-bad : {answer : Outcome Answer} {vs₁ : List ℤ} {pending₁ : ℕ}
           {b : Bool} → GoodInput (k .channels) l b → not b ≡ true → answer ≡ refused badInput 0 → vs₁ ≡ vs → pending₁ ≡ pending
-          → Enters s vs pending total pool p l answer vs₁ pending₁ pool
+          → Enters s vs pending total index pool p l answer vs₁ pending₁ pool
       enter-bad {b = b} g h a v c x st =
           refusal badInput a v c refl _
           (entered-bad d (capacity (length pool)) x p l low (sym (g d (sym (w .tabled .counts .channels))) ∙ not-true b h))
@@ -140,8 +138,9 @@ module _ {s : List ℕ} {k : Counted.Deck} {rules parts memo : List ℕ} {pool :
         pub enter-after : length after ≡ 512
         enter-after = ap length is ∙ assign-length p (pairsOf l) vs ∙ enter-long
 
-        module _ {m : List ℕ} {pool₁ : List ℤ} {q : Queue} (r : Reacts d e C pending total vs after p pool m pool₁ q) where
-          module _ (x : Machine) (st : Stored d (capacity (length pool)) x vs pending total pool) where
+        module _ {m index₁ : List ℕ} {pool₁ : List ℤ} {q : Queue}
+            (r : Reacts d e C pending total vs after p (heldOf 0 index pool) m (heldOf 0 index₁ pool₁) q) where
+          module _ (x : Machine) (st : Stored d (capacity (length pool)) x vs pending total (heldOf 0 index pool)) where
             abbrev y : Machine
             y = setAndFire d p (pairsOf l) x
 
@@ -152,9 +151,9 @@ module _ {s : List ℕ} {k : Counted.Deck} {rules parts memo : List ℕ} {pool :
             unfolding setAndFire
             now = is ∙ ap (assign p (pairsOf l)) (st .values)
 
-            grown : Grown e C (x .pending) new pool₁ q
+            grown : Grown e C (x .pending) new (heldOf 0 index₁ pool₁) q
             grown =
-                r .grown (x .pending) (st .laid) (st .count)
+                r .grown (x .pending) (st .kept) (st .count)
                 (st .charged ∙ sym (charge-same s rules parts k (w .tabled) (x .pending)))
 
             same-pending : enqueue (x .pending) new ≡ y .pending
@@ -176,17 +175,17 @@ module _ {s : List ℕ} {k : Counted.Deck} {rules parts memo : List ℕ} {pool :
             cleared : take (10 * pending) pool₁ ++ zeros (length pool₁ - 10 * pending) ≡ pool
             cleared =
                 let us = x .pending in
-                let z = laid-cleared us (grown .extra) (grown .laid) in
-                let long = cleared-length us (grown .extra) (grown .laid) ∙ r .long in
+                let z = laid-cleared us (grown .extra) (grown .kept .laid) in
+                let long = cleared-length us (grown .extra) (grown .kept .laid) ∙ r .size .pool in
                 ap (λ n. take (10 * n) pool₁ ++ zeros (length pool₁ - 10 * n)) (st .count)
                 ∙ z .is
                 ∙ ap (λ n. poolOf n us) long
-                ∙ sym (st .laid .is)
+                ∙ sym (st .kept .laid .is)
 
             full-leaves : {answer : Outcome Answer} {vs₁ : List ℤ} {pending₁ : ℕ} {pool₂ : List ℤ} → q .full ≡ true
                 → answer ≡ refused overCapacity 0 → vs₁ ≡ vs → pending₁ ≡ pending
                 → pool₂ ≡ take (10 * pending) pool₁ ++ zeros (length pool₁ - 10 * pending)
-                → Leaves d (capacity (length pool)) (entered d (capacity (length pool)) x p l) vs pending pool answer vs₁ pending₁ pool₂
+                → Leaves (entered d (capacity (length pool)) x p l) vs pending pool answer vs₁ pending₁ pool₂
             full-leaves f a v c z =
                 refusal overCapacity a v c (z ∙ cleared) _ (entered-over d (capacity (length pool)) x p l low g (over f))
 
@@ -205,37 +204,38 @@ module _ {s : List ℕ} {k : Counted.Deck} {rules parts memo : List ℕ} {pool :
               grows : total ≤ q .charge
               grows = omega (arith, charged, st .charged, set-grows d (w .tabled .counts .formed) p (pairsOf l) x)
 
-              stored : Stored d (capacity (length pool)) y after (q .pending) (q .charge) pool₁
-              stored =
+              left : Left y after (q .pending) pool₁
+              left =
                   let room = grown .room f in
                   record {
-                    fine =
-                        set-fine d (w .tabled .counts .formed) (capacity (length pool)) (capacity (length pool)) p (pairsOf l) x
-                        (st .fine) low (input-known d l g) bounded;
                     values = now;
                     count = grown .pending ∙ ap length (room .0 ∙ same-pending);
-                    laid = subst (Laid pool₁) (room .0 ∙ same-pending) (grown .laid);
-                    charged = charged;
+                    laid = subst (Laid pool₁) (room .0 ∙ same-pending) (grown .kept .laid);
                   }
 
-              room-leaves : Leaves d (capacity (length pool)) (entered d (capacity (length pool)) x p l) vs pending pool
+              room-leaves : Leaves (entered d (capacity (length pool)) x p l) vs pending pool
                   (accepted (added (q .charge - total))) after (q .pending) pool₁
               room-leaves =
                   subst
-                  (λ o. Leaves d (capacity (length pool)) o vs pending pool (accepted (added (q .charge - total))) after (q .pending) pool₁)
+                  (λ o. Leaves o vs pending pool (accepted (added (q .charge - total))) after (q .pending) pool₁)
                   (sym (entered-done d (capacity (length pool)) x p l low g bounded))
-                  (ap₂ (λ a b. accepted (added (a - b))) charged (st .charged), (q .charge, stored))
+                  (ap₂ (λ a b. accepted (added (a - b))) charged (st .charged), left)
 
           -- the pending updates of before stand in front
           pub enter-cut : 10 * pending ≤ length pool₁
-          enter-cut = omega (arith, r .long, w .stored .laid .room, w .stored .count)
+          enter-cut = omega (arith, r .size .pool, w .stored .kept .laid .room, w .stored .count)
 
-          pub enter-full : {answer : Outcome Answer} {vs₁ : List ℤ} {pending₁ : ℕ} {tail : List ℤ} → q .full ≡ true
+          pub enter-full : {answer : Outcome Answer} {vs₁ : List ℤ} {pending₁ : ℕ} {pool₂ : List ℤ} → q .full ≡ true
               → answer ≡ refused overCapacity 0 → vs₁ ≡ vs → pending₁ ≡ pending
-              → tail ≡ zeros (length (take (length pool₁ - 10 * pending) (drop (10 * pending) pool₁)))
-              → Enters s vs pending total pool p l answer vs₁ pending₁
-              (take (10 * pending) pool₁ ++ (tail ++ drop (length pool₁ - 10 * pending) (drop (10 * pending) pool₁)))
-          enter-full {tail = tail} f a v c z x st = full-leaves x st f a v c (emptied (10 * pending) pool₁ tail enter-cut z)
+              → pool₂ ≡ take (10 * pending) pool₁ ++ zeros (length pool₁ - 10 * pending)
+              → Enters s vs pending total index pool p l answer vs₁ pending₁ pool₂
+          enter-full f a v c z x st = full-leaves x st f a v c z
+
+          -- all that is written lies in the pool
+          pub enter-all : 10 * q .pending ≤ length pool₁
+          enter-all =
+              let g = grown (w .machine) (w .stored) in
+              omega (arith, g .pending, g .kept .laid .room)
 
           module _ (f : q .full ≡ false) where
             pub enter-grows : total ≤ q .charge
@@ -248,5 +248,5 @@ module _ {s : List ℕ} {k : Counted.Deck} {rules parts memo : List ℕ} {pool :
                 let room = g .room f in
                 omega (arith, g .pending, count-bounded e (x .pending ++ g .extra), room .1, room .2, enter-room)
 
-            pub enter-done : Enters s vs pending total pool p l (accepted (added (q .charge - total))) after (q .pending) pool₁
+            pub enter-done : Enters s vs pending total index pool p l (accepted (added (q .charge - total))) after (q .pending) pool₁
             enter-done x st = room-leaves x st f

@@ -2,6 +2,7 @@
 use Prim.Native.Nat.{ℕ, _/_, _≤_, _<_}
 use mathlib.Core.Path.{_≡_, sym, ap₂, _∙_}
 use mathlib.Core.List.{List}
+use native.Mathlib.Omega.{arith}
 use lib.ListN.{length}
 use lib.IntN.{ℤ}
 use borrow.Author.Tests.{le-leb, lt-leb}
@@ -12,11 +13,12 @@ use Rattle.deck.specs.declared.Deck as Counted
 use Rattle.pool.specs.Places.{capacity}
 use Rattle.pool.specs.States.{Memory, load, store}
 use Rattle.passing.specs.Tabled.{deckOf}
+use Rattle.steps.specs.Queue.{heldOf}
 use Rattle.steps.specs.Commits.{Committing}
 use Rattle.engine.specs.Calls.{Answer, reply, tested, settling, settle}
 use Rattle.engine.specs.Answers.{replyOf}
 use Rattle.engine.specs.Tested.{Passed, settledAs, Settles}
-use Rattle.engine.specs.Laws.StoredMemory.{stored-memory}
+use Rattle.engine.specs.Laws.StoredMemory.{left-memory}
 
 module _ (s : List ℕ) (m : Memory) (budget : ℕ) where
   pub settle-refused : (n p : ℕ) → tested s m ≡ refused n p → settle s m budget ≡ replyOf (refused n p) (m .state) (m .pool)
@@ -38,22 +40,22 @@ module _ (s : List ℕ) (m : Memory) (budget : ℕ) where
 
 -- ---- behind the tests
 
-module _ {s rules parts memo : List ℕ} {m : Memory} {k : Counted.Deck} {total : ℕ} (w : Passed s rules parts memo m k total) where
+module _ {s rules parts memo index : List ℕ} {m : Memory} {k : Counted.Deck} {total : ℕ} (w : Passed s rules parts memo index m k total) where
   -- the number of places, as the code has it
   pub settle-places : length (m .pool) / 10 ≤ 65535
   unfolding capacity
-  settle-places = w .entering .bounded
+  settle-places = omega (arith, w .entering .room .bounded)
 
-  pub settle-requires : Committing s k rules parts memo (m .pool) (length (m .pool) / 10) (m .state .values) (m .state .pending) total
+  pub settle-requires : Committing s k rules parts memo (heldOf 0 index (m .pool)) (length (m .pool) / 10) (m .state .values) (m .state .pending) total
   unfolding capacity
   settle-requires = w .entering
 
   pub settle-reply : {budget : ℕ} {answer : Outcome Answer} {vs : List ℤ} {pending : ℕ} {pool : List ℤ} → budget ≤ 65535
       → length pool ≡ length (m .pool)
-      → Settles s (length (m .pool) / 10) (m .state .values) (m .state .pending) total (m .pool) budget answer vs pending pool
+      → Settles s (length (m .pool) / 10) (m .state .values) (m .state .pending) total index (m .pool) budget answer vs pending pool
       → replyOf answer (record { values = vs; pending = pending }) pool ≡ settle s m budget
   unfolding capacity
   settle-reply {budget} {answer} {vs} {pending} {pool} h l e =
       let r = e (load m) (w .loaded) in
-      ap₂ (λ a x. record { answer = a; memory = x }) (r .0) (stored-memory _ _ _ _ _ _ _ _ (r .1 .1) l)
+      ap₂ (λ a x. record { answer = a; memory = x }) (r .0) (left-memory _ _ _ _ _ (r .1) l)
       ∙ sym (settle-done s m budget (deckOf s) (w .accepted) h)

@@ -1,5 +1,5 @@
 -- The tests that every call begins with: from what the code finds to the definition. Assumes nothing.
-use Prim.Native.Nat.{ℕ, _*_, _/_, _%_, _≤_, _<_}
+use Prim.Native.Nat.{ℕ, _+_, _*_, _/_, _%_, _≤_, _<_}
 use mathlib.Core.Path.{_≡_, refl, sym, ap, ap₂, _∙_, subst}
 use mathlib.Core.Logic.{inl, inr}
 use mathlib.Core.Bool.{Bool, true, false, _&&_}
@@ -22,7 +22,7 @@ use Rattle.pool.specs.Places.{capacity, updatesOf}
 use Rattle.pool.specs.States.{Memory, load, goodLength, good}
 use Rattle.pool.specs.Laws.Good.{fine-loaded, updates-length}
 use Rattle.pool.specs.Laws.Laid.{laid-good}
-use Rattle.states.specs.Answer.{goodnessOf}
+use Rattle.states.specs.Answer.{Fresh, goodnessOf}
 use Rattle.states.specs.declared.Goodness.{Goodness}
 use Rattle.states.specs.declared.Goodness.the-variants.{Good, Bad}
 use Rattle.states.specs.Laws.Judged.{good-answer, bad-answer}
@@ -33,10 +33,13 @@ use Rattle.passing.specs.Judged as Judging
 use Rattle.passing.specs.Judged.{shape}
 use Rattle.passing.specs.Laws.Passing.{passing-clean}
 use Rattle.passing.specs.Laws.Judged.{zeros-table}
+use Rattle.index.specs.Index.{headsOf, Indexed, keys, Roomy}
+use Rattle.index.specs.Laws.Indexed.{keys-laid}
+use Rattle.steps.specs.Queue.{heldOf}
 use Rattle.steps.specs.Commits.{Stored}
 use Rattle.engine.specs.Calls.{tested}
 use Rattle.engine.specs.Answers.{memoryOf}
-use Rattle.engine.specs.Tested.{TestsState, Passed, Tests}
+use Rattle.engine.specs.Tested.{Usable, TestsState, Passed, Tests}
 use Rattle.engine.specs.declared.Tested.{Tested}
 use Rattle.engine.specs.declared.Tested.the-variants.{Ready as Readied, Refused}
 
@@ -65,12 +68,42 @@ pub capacity-places : (n : ℕ) → 10 * capacity n ≤ n
 unfolding capacity
 capacity-places n = omega arith
 
+-- ---- an index of zeros is long enough
+
+zeros-long : (n : ℕ) → length {A = ℕ} (replicate n 0) ≡ n
+zeros-long n = let none : ℕ = 0 in length-replicate n none
+
+zeros-roomy : (most n : ℕ) → 3 ≤ n → n ≤ 98304 → n / 3 + most ≤ n → Roomy most (replicate n 0)
+unfolding headsOf
+zeros-roomy most n a b c =
+    let e = zeros-long n in
+    record { some = omega (arith, e, a); few = omega (arith, e, b); links = omega (arith, e, c) }
+
+zeros-fresh : (n m : ℕ) → Roomy (capacity n) (replicate m 0) → Fresh n (replicate m 0)
+zeros-fresh n m r = record { roomy = r; zeros = ap (λ k. replicate k 0) (sym (zeros-long m)) }
+
+pub usable-short : (n : ℕ) → n ≤ 10240 → Usable n (replicate 1536 0)
+unfolding capacity
+usable-short n h g = zeros-fresh n 1536 (zeros-roomy (n / 10) 1536 (omega arith) (omega arith) (omega (arith, h)))
+
+pub usable-middle : (n : ℕ) → n ≤ 81920 → Usable n (replicate 12288 0)
+unfolding capacity
+usable-middle n h g = zeros-fresh n 12288 (zeros-roomy (n / 10) 12288 (omega arith) (omega arith) (omega (arith, h)))
+
+pub usable : (n : ℕ) → Usable n (replicate 98304 0)
+usable n g =
+    zeros-fresh n 98304 (zeros-roomy (capacity n) 98304 (omega arith) (omega arith) (omega (arith, length-bounded n g)))
+
 -- ---- a memo of zeros is right
 
 pub memo-none : (d : Deck) → Memo d (replicate 1024 0)
 memo-none d =
     let none : ℕ = 0 in
-    record { long = length-replicate 1024 none; right = λ i h. absurd (h (zeros-table 1024 i)) }
+    record {
+      long = length-replicate 1024 none;
+      right = λ i h. absurd (h (zeros-table 1024 i));
+      whole = λ r q l h z. h (zeros-table 1024 (16 * r));
+    }
 
 -- ---- the definition's tests, one by one
 
@@ -95,15 +128,26 @@ module _ (s : List ℕ) (m : Memory) where
 -- ---- all that the rest of a call needs
 
 -- the numbers of a good state stand for what they load as
-held-loaded : (d : Deck) (m : Memory) (total : ℕ) → good d m ≡ true → total ≡ charge d (updatesOf (m .state .pending) (m .pool))
-    → Stored d (capacity (length (m .pool))) (load m) (m .state .values) (m .state .pending) total (m .pool)
+held-loaded : (d : Deck) (m : Memory) (index : List ℕ) (total : ℕ) → good d m ≡ true
+    → total ≡ charge d (updatesOf (m .state .pending) (m .pool))
+    → Indexed 0 (keys (headsOf index) (m .state .pending) (m .pool)) index
+    → Stored d (capacity (length (m .pool))) (load m) (m .state .values) (m .state .pending) total (heldOf 0 index (m .pool))
 unfolding load
-held-loaded d m total g t =
+held-loaded d m index total g t x =
+    let n = updates-length (m .state .pending) (m .pool) in
+    let laid = laid-good d m g in
     record {
       fine = fine-loaded d m g;
       values = refl;
-      count = sym (updates-length (m .state .pending) (m .pool));
-      laid = laid-good d m g;
+      count = sym n;
+      kept =
+          record {
+            laid = laid;
+            indexed =
+                subst (λ ks. Indexed 0 ks index)
+                (ap (λ k. keys (headsOf index) k (m .pool)) (sym n) ∙ keys-laid laid (headsOf index))
+                x;
+          };
       charged = t;
     }
 
@@ -124,21 +168,24 @@ module _ (s rules parts : List ℕ) (k : Counted.Deck) (n : ℕ) (w : Judging.Pa
     omega (arith, w .tabled .counts .channels, w .tabled .counts .formed .channels),
   )
 
-  module _ (memo : List ℕ) (pool vs : List ℤ) (pending : ℕ) where
+  module _ (memo index : List ℕ) (pool vs : List ℤ) (pending : ℕ) where
     abbrev m : Memory
     m = memoryOf (record { values = vs; pending = pending }) pool
 
-    pub state-passed : (c : Counted.Deck) (total : ℕ) → TestsState k rules parts memo pool vs pending (Readied c total) → Passed s rules parts memo m c total
+    pub state-passed : (c : Counted.Deck) (total : ℕ) → TestsState k rules parts memo index pool vs pending (Readied c total) → Passed s rules parts memo index m c total
     state-passed c total t =
-        subst (λ c. Passed s rules parts memo m c total) (sym (t .0))
+        subst (λ c. Passed s rules parts memo index m c total) (sym (t .0))
         (record {
           accepted = tested-good s m (w .passes) (t .1) (a .0);
           entering = record {
             tabled = w .tabled;
             ready = record { tables = w .acyclic; memo = t .3 };
             acyclic = passed-acyclic;
-            bounded = length-bounded (length pool) (t .1);
-            places = capacity-places (length pool);
+            room = record {
+              bounded = omega (arith, length-bounded (length pool) (t .1));
+              places = capacity-places (length pool);
+              index = subst (λ n. Roomy n index) (let e : capacity (length pool) ≡ 0 + capacity (length pool) = omega arith in e) (t .5);
+            };
             machine = load m;
             stored = held;
           };
@@ -148,14 +195,14 @@ module _ (s rules parts : List ℕ) (k : Counted.Deck) (n : ℕ) (w : Judging.Pa
         a : (good (deckOf s) m ≡ true) × (total ≡ charge (deckOf s) (updatesOf pending pool))
         a = good-answer (deckOf s) m (t .2 ∙ goodness-same m)
 
-        held : Stored (deckOf s) (capacity (length pool)) (load m) vs pending total pool
-        held = held-loaded (deckOf s) m total (a .0) (a .1)
+        held : Stored (deckOf s) (capacity (length pool)) (load m) vs pending total (heldOf 0 index pool)
+        held = held-loaded (deckOf s) m index total (a .0) (a .1) (t .4)
 
-    pub state-refused : (n p : ℕ) → TestsState k rules parts memo pool vs pending (Refused n p) → tested s m ≡ refused n p
+    pub state-refused : (n p : ℕ) → TestsState k rules parts memo index pool vs pending (Refused n p) → tested s m ≡ refused n p
     state-refused n p (z, inl x) = tested-pool s m (w .passes) (x .1) ∙ ap₂ refused (sym (x .0)) (sym z)
     state-refused n p (z, inr x) =
         tested-state s m (w .passes) (x .1) (bad-answer (deckOf s) m (x .2 ∙ goodness-same m)) ∙ ap₂ refused (sym (x .0)) (sym z)
 
-    pub state-tests : (r : Tested) → TestsState k rules parts memo pool vs pending r → Tests s rules parts memo pool vs pending r
+    pub state-tests : (r : Tested) → TestsState k rules parts memo index pool vs pending r → Tests s rules parts memo index pool vs pending r
     state-tests (Readied c total) t = state-passed c total t
     state-tests (Refused n p) t = state-refused n p t

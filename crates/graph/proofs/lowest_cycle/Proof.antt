@@ -1,6 +1,7 @@
 -- `graph::lowest_cycle` meets its contract: no channel below `start` can reach itself, and the rounds made from `start`
 -- have not led back to it. Assumes nothing.
 use mathlib.Core.Path.{_≡_}
+use mathlib.Core.Logic.{⊎-elim}
 use mathlib.Core.Bool.{false}
 use Prim.Native.Nat.{ℕ, _≤_, _<_, _-_}
 use native.Mathlib.Omega.{arith}
@@ -9,7 +10,7 @@ use Rattle.lists.specs.Laws.BitTests.{bit-yes, bit-no}
 use Rattle.graph.specs.Graph.{reachesItself}
 use Rattle.graph.specs.Masks.{edgeAt}
 use Rattle.lists.specs.Laws.First.{first-is}
-use Rattle.graph.proofs.Searching.{Searching, searching-none, searching-more, searching-hit, searching-miss}
+use Rattle.graph.proofs.Searching.{Searching, searching-none, searching-more, searching-hit, searching-miss, searching-closed}
 use Rattle.graph.proofs.lowest_cycle.Statement.{statement}
 use Rattle.graph.proofs.lowest_cycle.Tie as tie
 
@@ -29,14 +30,20 @@ abbrev μ-search : tie.MeasureT-search
 loop-again : tie.Need-loop-again Inv-loop μ-loop Inv-search μ-search
 loop-again c = (
   omega arith,
-  searching-more (c .before .before .before .loop .inv .1) (c .before .spread .ensures) (bit-no _ _ (c .if1 .left)),
+  searching-more (c .before .before .before .before .loop .inv .1) (c .before .before .spread .ensures)
+      (bit-no _ _ (c .before .if1 .left)),
 )
 
 search-again : tie.Need-search-again Inv-loop μ-loop Inv-search μ-search
-search-again c = (
-  omega arith,
-  below-more _ _ (c .before .before .before .search .inv .1) (searching-miss (c .before .loop .inv .1) (omega arith)),
-)
+search-again c =
+    let h = c .before .loop .inv .1 in (
+      omega arith,
+      below-more _ _ (c .before .before .before .search .inv .1)
+          (⊎-elim
+          (λ w. searching-miss h (omega arith))
+          (λ w. searching-closed h (w .1 .ensures) (w .3 .taken))
+          (c .loop-test .came)),
+    )
 
 returns : tie.Need-returns Inv-loop μ-loop Inv-search μ-search
 returns c = first-is _ _ _ (omega arith) (λ l. absurd (omega arith)) (c .before .search .inv .1)

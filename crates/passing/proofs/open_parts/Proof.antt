@@ -103,7 +103,7 @@ loop-again c =
     let v = l .loop .values in
     let t = c .before .open-part .last .0 in
     let next : (f : Formed (deckOf (a .deck .now)))
-        → take (32 * p) v ++ (t ++ drop (length v - 32 * p) (drop (32 * p) v)) ≡ openTo (deckOf (a .deck .now)) f (p + 1)
+    → take (32 * p) v ++ (t ++ drop (length v - 32 * p) (drop (32 * p) v)) ≡ openTo (deckOf (a .deck .now)) f (p + 1)
     = λ f.
     (open-next (deckOf (a .deck .now)) f p lp (l .loop .values) (l .loop .inv .2 f) (c .before .open-part .last .0)
     (c .before .open-part .ensures

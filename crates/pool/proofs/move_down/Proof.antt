@@ -12,13 +12,13 @@ use Rattle.pool.proofs.move_down.Statement.{statement}
 use Rattle.pool.proofs.move_down.Tie as tie
 
 abbrev Inv-loop : tie.InvT-loop
-Inv-loop pool₀ at count i₀ pool i = (i ≤ count) × (length pool ≡ length pool₀) × (pool ≡ moved pool₀ at i)
+Inv-loop pool₀ at distance count i₀ pool i = (i ≤ count) × (length pool ≡ length pool₀) × (pool ≡ moved pool₀ at distance i)
 
 abbrev μ-loop : tie.MeasureT-loop
-μ-loop pool₀ at count i₀ pool i = count - i
+μ-loop pool₀ at distance count i₀ pool i = count - i
 
 loop-holds : tie.Need-loop-holds Inv-loop μ-loop
-loop-holds c = (omega arith, refl, paste-zero (c .args .pool .now) (c .args .at) (drop (c .args .at + 10) (c .args .pool .now)))
+loop-holds c = (omega arith, refl, paste-zero (c .args .pool .now) (c .args .at) (drop (c .args .at + c .args .distance) (c .args .pool .now)))
 
 add-x : tie.Need-add-x Inv-loop μ-loop
 add-x c = omega arith
@@ -51,10 +51,10 @@ loop-again : tie.Need-loop-again Inv-loop μ-loop
 loop-again c =
     let l = c .before .before in
     let a = l .before .args in
-    let h : a .at + l .loop .i + 10 < length (a .pool .now) = omega arith in (
+    let h : a .at + l .loop .i + a .distance < length (a .pool .now) = omega arith in (
       omega arith,
       simp length-set (omega arith),
-      rw (toZ-ofZ w32 _ (record { sfits = c .x .given }), l .loop .inv .2) (moved-next (a .pool .now) (a .at) (l .loop .i) h),
+      rw (toZ-ofZ w32 _ (record { sfits = c .x .given }), l .loop .inv .2) (moved-next (a .pool .now) (a .at) (a .distance) (l .loop .i) h),
     )
 
 same-length : tie.Need-same-length Inv-loop μ-loop

@@ -16,7 +16,7 @@ use Rattle.deck.specs.Deck.{Deck}
 use Rattle.pool.specs.Updates.{Update, isAmong}
 use Rattle.pool.specs.Places.{zeros, capacity, place, poolOf, places, updatesOf}
 use Rattle.pool.specs.States.{Memory, load, store, good}
-use Rattle.pool.specs.Moves.{written, removed, Laid}
+use Rattle.pool.specs.Moves.{written, removed, shifted, Laid}
 use Rattle.pool.specs.Laws.Places.{short, update-back, place-length, place-well, map-back, places-back, places-length, pool-length}
 use Rattle.pool.specs.Laws.Good.{all-well, updates-length, updates-short, good-tests, store-load}
 use Rattle.pool.specs.Laws.Equal.{numbers-among}
@@ -213,6 +213,43 @@ module _ {pool : List ℤ} (us extra : List Update) (h : Laid pool (us ++ extra)
       same-length (length pool) us (all-left short us extra (h .short)) first-room
       (take (10 * length us) pool ++ zeros (length pool - 10 * length us))
       cleared
+
+-- the place at the front is gone, and the others are where they were
+module _ {pool : List ℤ} (us : List Update) (h : Laid pool us) (some : 0 < length us) where
+  fewer : 10 * length (drop 1 us) ≤ length pool - 10
+  fewer = omega (arith, h .room, length-drop 1 us)
+
+  from-next : drop 10 pool ≡ poolOf (length pool - 10) (drop 1 us)
+  unfolding poolOf
+  from-next =
+      let k : length pool - 10 * length us ≡ length pool - 10 - 10 * length (drop 1 us) = omega (arith, length-drop 1 us) in
+      ap (drop 10) (h .is)
+      ∙ drop-pool (length pool) us (h .short) 1 some
+      ∙ ap (λ n. flatMap place (drop 1 us) ++ zeros n) k
+
+  pub laid-front : Laid (drop 10 pool) (drop 1 us)
+  laid-front = is-laid (length pool - 10) (drop 1 us) (all-drop short 1 us (h .short)) fewer (drop 10 pool) from-next
+
+-- updates that stood further back, moved to the front
+module _ (pool : List ℤ) (from : ℕ) (us : List Update) (h : Laid (drop from pool) us) (within : from ≤ length pool) where
+  room-left : 10 * length us ≤ length pool - from
+  room-left = omega (arith, h .room, length-drop from pool)
+
+  moved-up : shifted pool from (10 * length us) ≡ poolOf (length pool) us
+  unfolding poolOf
+  moved-up =
+      let n = length (drop from pool) in
+      let z : from + (n - 10 * length us) ≡ length pool - 10 * length us = omega (arith, length-drop from pool, room-left) in
+      ap₂ (λ a b. a ++ (zeros from ++ b))
+      (ap (take (10 * length us)) (h .is) ∙ take-pool n us (h .short) (length us) (omega arith) ∙ ap (flatMap place) (take-length us))
+      (sym (drop-drop (10 * length us) from pool) ∙ ap (drop (10 * length us)) (h .is) ∙ drop-all n us (h .short))
+      ∙ ap (λ b. flatMap place us ++ b) (zeros-append from (n - 10 * length us) ∙ ap zeros z)
+
+  pub laid-shifted : Laid (shifted pool from (10 * length us)) us
+  laid-shifted = is-laid (length pool) us (h .short) (omega (arith, room-left)) (shifted pool from (10 * length us)) moved-up
+
+  pub shifted-length : length (shifted pool from (10 * length us)) ≡ length pool
+  shifted-length = same-length (length pool) us (h .short) (omega (arith, room-left)) (shifted pool from (10 * length us)) moved-up
 
 -- a good state's pool holds its pending updates
 pub laid-good : (d : Deck) (m : Memory) → good d m ≡ true → Laid (m .pool) (updatesOf (m .state .pending) (m .pool))

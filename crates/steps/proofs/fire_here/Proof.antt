@@ -30,10 +30,10 @@ firing s = record { tabled = s .pre .0; long = s .pre .2; part = s .pre .3; rule
 
 -- behind the default action, behind the test of the kind, and behind the condition
 abbrev start-of : tie.After-offer → tie.Start
-start-of o = o .before .before .before .before .before .before .before .before .before .before .before
+start-of o = o .before .before .before .before .before .before .before .before .before .before .before .before .before
 
 abbrev default-of : tie.Else1 → tie.After-offer
-default-of k = k .before .before .before .before .before
+default-of k = k .before .before .before .before .before .before .before
 
 abbrev kind-of : tie.After-truth-from → tie.Else1
 kind-of t = t .before .before
@@ -54,12 +54,12 @@ value t = let k = kind-of t in condition-value (firing (start-of (default-of k))
 
 offer-requires : tie.Need-offer-requires
 offer-requires c κs =
-    let s = c .before .before .before .before .before .before .before .before .before .before in
+    let s = c .before .before .before .before .before .before .before .before .before .before .before .before in
     (s .pre .1, default-sound (firing s), s .pre .3)
 
 returns : tie.Need-returns
 returns c =
-    let o = c .before .before .before .before .before in
+    let o = c .before .before .before .before .before .before .before in
     let s = start-of o in
     rw (here-wide (values-of s) (s .args .p) (rule-of s) (is-wide (firing s) (c .if1 .taken)))
     (default-offered (firing s) (o .offer .ensures))
@@ -68,34 +68,31 @@ truth-from-requires : tie.Need-truth-from-requires
 truth-from-requires c κs = let k = c .before in condition-known (firing (start-of (default-of k))) (lent k)
 
 -- the row of a known rule lies inside the table
-row-inside : (k : tie.Else1) → let a = start-of (default-of k) .args in 8 * a .r + 8 ≤ length (a .rules .now)
-row-inside k =
-    let s = start-of (default-of k) in
+row-inside : (s : tie.Start) → 8 * s .args .r + 8 ≤ length (s .args .rules .now)
+row-inside s =
     let t = s .pre .0 in
     omega (arith, s .pre .4, t .counts .rules, t .counts .formed .rules, t .ruleTable .long)
 
-row-low : (k : tie.Else1) → start-of (default-of k) .args .r < 64
-row-low k =
-    let s = start-of (default-of k) in
-    omega (arith, s .pre .4, s .pre .0 .counts .rules, s .pre .0 .counts .formed .rules)
+row-low : (s : tie.Start) → s .args .r < 64
+row-low s = omega (arith, s .pre .4, s .pre .0 .counts .rules, s .pre .0 .counts .formed .rules)
 
 offer-requires-2 : tie.Need-offer-requires-2
 offer-requires-2 c κs =
-    let k = c .before .before .before .before .before .before in
+    let k = c .before .before .before .before .before .before .before in
     let o = default-of k in
     let s = start-of o in
     (offering-next (s .pre .1) (default-offered (firing s) (o .offer .ensures)), task-sound (firing s) (lent k), s .pre .3)
 
 returns-2 : tie.Need-returns-2
 returns-2 c =
-    let t = c .before .before .before .before .before .before .before .before in
+    let t = c .before .before .before .before .before .before .before .before .before .before .before in
     let k = kind-of t in
     let o = default-of k in
     let s = start-of o in
-    let true-here = sym (value t) ∙ c .before .before .before .before .before .before .before .if2 .taken in
+    let true-here = sym (value t) ∙ c .before .before .before .before .before .before .before .before .before .before .if2 .taken in
     rw (here-true (values-of s) (s .args .p) (rule-of s) (here k) true-here)
     (offered-then (default-offered (firing s) (o .offer .ensures))
-    (task-offered (firing s) (lent k) (c .before .before .before .offer2 .ensures)))
+    (task-offered (firing s) (lent k) (c .before .before .before .before .before .offer2 .ensures)))
 
 returns-3 : tie.Need-returns-3
 returns-3 c =
@@ -122,26 +119,29 @@ fire-here-spec =
     (λ c. search needs)
     (λ c. search needs)
     offer-requires
-    (λ c. search needs)
-    (λ c. search needs)
-    (λ c. search needs)
+    (λ c. record { fits = omega (arith, row-low (start-of (c .before .before .before .before .before))) })
+    (λ c. record { fits = omega (arith, row-low (start-of (c .before .before .before .before .before))) })
+    (λ c. record { fits = omega (arith, row-low (start-of (c .before .before .before .before .before))) })
+    (λ c. omega (arith, row-inside (start-of (c .before .before .before .before .before .before))))
     (λ c. search needs)
     (λ c. search needs)
     (λ c. search needs)
     returns
-    (λ c. search needs)
-    (λ c. search needs)
-    (λ c. search needs)
-    (λ c. search needs)
+    (λ c. record { fits = omega (arith, row-low (start-of (default-of c))) })
+    (λ c. record { fits = omega (arith, row-low (start-of (default-of c))) })
+    (λ c. record { fits = omega (arith, row-low (start-of (default-of c))) })
+    (λ c. omega (arith, row-inside (start-of (default-of (c .before)))))
     truth-from-requires
-    (λ c. record { fits = omega (arith, row-low (c .before .before .before)) })
-    (λ c. record { fits = omega (arith, row-low (c .before .before .before)) })
-    (λ c. record { fits = omega (arith, row-low (c .before .before .before)) })
-    (λ c. omega (arith, row-inside (c .before .before .before .before)))
+    (λ c. record { fits = omega (arith, row-low (start-of (default-of (c .before .before .before)))) })
+    (λ c. record { fits = omega (arith, row-low (start-of (default-of (c .before .before .before)))) })
+    (λ c. record { fits = omega (arith, row-low (start-of (default-of (c .before .before .before)))) })
+    (λ c. omega (arith, row-inside (start-of (default-of (c .before .before .before .before)))))
     offer-requires-2
     (λ c. search needs)
     (λ c. search needs)
+    (λ c. search needs)
     returns-2
+    (λ c. search needs)
     (λ c. search needs)
     (λ c. search needs)
     returns-3)

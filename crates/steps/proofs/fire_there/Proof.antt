@@ -32,7 +32,7 @@ channels-of s p = sliceOf (s .args .counts .channels) p (values-of s)
 
 -- behind the test of the kind, and behind the condition
 abbrev start-of : tie.Else1 → tie.Start
-start-of k = k .before .before .before .before .before .before
+start-of k = k .before .before .before .before .before .before .before
 
 abbrev kind-of : tie.After-truth-from → tie.Else1
 kind-of t = t .before .before .before .before .before .before
@@ -53,7 +53,7 @@ value t = let k = kind-of t in condition-value (firing (start-of k)) (lent k) (t
 
 returns : tie.Need-returns
 returns c =
-    let s = c .before .before .before .before .before .before in
+    let s = c .before .before .before .before .before .before .before in
     rw (there-here (values-of s) (s .args .p) (rule-of s) (s .args .q) (is-here (firing s) (c .if1 .taken)))
     (offered-none _ (s .pre .1 .ready .memo))
 
@@ -62,18 +62,18 @@ truth-from-requires c κs = let k = c .before .before .before .before .before in
 
 offer-requires : tie.Need-offer-requires
 offer-requires c κs =
-    let k = c .before .before .before .before .before .before .before .before .before .before in
+    let k = c .before .before .before .before .before .before .before .before .before .before .before in
     let s = start-of k in
     (s .pre .1, task-sound (firing s) (lent k), s .pre .5)
 
 returns-2 : tie.Need-returns-2
 returns-2 c =
-    let t = c .before .before .before .before .before .before .before .before in
+    let t = c .before .before .before .before .before .before .before .before .before .before .before in
     let k = kind-of t in
     let s = start-of k in
-    let true-there = sym (value t) ∙ c .before .before .before .before .before .before .before .if2 .taken in
+    let true-there = sym (value t) ∙ c .before .before .before .before .before .before .before .before .before .before .if2 .taken in
     rw (there-true (values-of s) (s .args .p) (rule-of s) (s .args .q) (wide k) true-there)
-    (task-offered (firing s) (lent k) (c .before .before .before .offer .ensures))
+    (task-offered (firing s) (lent k) (c .before .before .before .before .before .offer .ensures))
 
 returns-3 : tie.Need-returns-3
 returns-3 c =
@@ -114,6 +114,7 @@ fire-there-spec =
     (λ c. search needs)
     (λ c. search needs)
     offer-requires
+    (λ c. search needs)
     (λ c. search needs)
     (λ c. search needs)
     returns-2

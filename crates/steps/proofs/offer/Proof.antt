@@ -11,26 +11,26 @@ use Rattle.steps.proofs.offer.Tie as tie
 
 shared-slice-read-if1 : tie.Need-shared-slice-read-if1
 shared-slice-read-if1 c =
-    let s = c .before .before .before .before .before in
+    let s = c .before .before .before .before .before .before in
     let a = s .args in
     action-count (scope (length (a .own .now)) (length (a .far .now))) (a .deck .now) (a .at) (s .pre .1 .0) (s .pre .1 .1) .1
 
 returns : tie.Need-returns
 returns c =
-    let s = c .before .before .before .before .before .before in
+    let s = c .before .before .before .before .before .before .before in
     let a = s .args in
     offers-none (a .deck .now) (a .at) (a .own .now) (a .far .now) (a .part) (a .memo .now) (s .pre .0 .ready .memo) (c .if1 .taken)
 
 evaluate-requires : tie.Need-evaluate-requires
 evaluate-requires c κs =
-    let s = c .before .before .before .before .before .before in
+    let s = c .before .before .before .before .before .before .before in
     ((s .pre .1 .0, s .pre .1 .1), omega (arith, s .pre .2, s .pre .0 .ready .tables .few-parts))
 
 add-requires : tie.Need-add-requires
 add-requires c κs =
-    let e = c .before .before .before in
+    let e = c .before .before .before .before in
     let f = e .before in
-    let s = f .before .before .before .before .before .before in
+    let s = f .before .before .before .before .before .before .before in
     let a = s .args in
     let k = a .counts in
     let rN = shape-N (a .rules .now) (a .parts .now) (k .channels) (k .rules) (k .parts) in
@@ -42,10 +42,10 @@ add-requires c κs =
 
 returns-2 : tie.Need-returns-2
 returns-2 c =
-    let d = c .before .before .before in
-    let e = d .before .before .before .before in
+    let d = c .before .before .before .before .before in
+    let e = d .before .before .before .before .before in
     let f = e .before in
-    let s = f .before .before .before .before .before .before in
+    let s = f .before .before .before .before .before .before .before in
     let a = s .args in
     offers-one (a .deck .now) (a .at) (a .own .now) (a .far .now) (a .part) (e .evaluate .result) (e .evaluate .ensures) (f .if1 .left)
     (d .add .ensures)
@@ -59,6 +59,7 @@ offer-spec =
     evaluate-requires
     (λ c. search needs)
     add-requires
+    (λ c. search needs)
     (λ c. search needs)
     (λ c. search needs)
     returns-2)

@@ -9,7 +9,7 @@ use Rattle.steps.proofs.react.Tie as tie
 
 changed-requires : tie.Need-changed-requires
 changed-requires c κs =
-    let s = c .before .before .before .before in
+    let s = c .before .before .before .before .before in
     let k = s .pre .0 .tabled .counts in (
       s .pre .1,
       s .pre .2,
@@ -19,18 +19,25 @@ changed-requires c κs =
 
 fire-requires : tie.Need-fire-requires
 fire-requires c κs =
-    let s = c .before .before .before .before .before .before .before in
+    let s = c .before .before .before .before .before .before .before .before .before in
     (s .pre .0 .tabled, offering-first (s .pre .0), s .pre .2, s .pre .3)
 
 returns : tie.Need-returns
 returns c =
-    let f = c .before .before .before in
-    let m = f .before .before .before in
-    let s = m .before .before .before .before .before in
+    let f = c .before .before .before .before .before in
+    let m = f .before .before .before .before in
+    let s = m .before .before .before .before .before .before in
     let a = s .args in
     reacted (a .deck .now) (a .counts) (a .rules .now) (a .parts .now) (s .pre .0) (a .before .now) (a .after .now) (a .p)
     (m .changed .ensures (deckOf (a .deck .now)) (sym (s .pre .0 .tabled .counts .channels)))
     (f .fire .ensures)
 
 pub react-spec : {M : Type 1} → statement M
-react-spec = tie.close (tie.spec changed-requires fire-requires (λ c. search needs) (λ c. search needs) returns)
+react-spec = tie.close
+    (tie.spec
+    changed-requires
+    fire-requires
+    (λ c. search needs)
+    (λ c. search needs)
+    (λ c. search needs)
+    returns)

@@ -15,9 +15,10 @@ use Rattle.deck.specs.Laws.Formed.{Formed}
 use Rattle.deck.specs.Laws.Shape.{shape-R, shape-N}
 use Rattle.graph.specs.Laws.Cycles.{Acyclic}
 use Rattle.charge.specs.Memo.{Memo, Ready}
-use Rattle.pool.specs.Updates.{Update, assign, charge}
+use Rattle.charge.specs.Laws.Equations.{update-at-least-one}
+use Rattle.pool.specs.Updates.{Update, channels, assign, charge}
 use Rattle.pool.specs.States.{Machine, known}
-use Rattle.pool.specs.Moves.{Laid}
+use Rattle.pool.specs.Moves.{removed}
 use Rattle.pool.specs.Laws.Values.{assign-length}
 use Rattle.pool.specs.Laws.Good.{Fine, count-bounded}
 use Rattle.states.specs.Laws.Shape.{same-known, shape-charge}
@@ -25,9 +26,12 @@ use Rattle.passing.specs.Check.{within}
 use Rattle.passing.specs.Tabled.{deckOf, Tabled, PartsKnown}
 use Rattle.passing.specs.Judged.{shape}
 use Rattle.firing.specs.Firing.{Commit, fired, changed, enqueue, setAndFire, pick, without, committed}
-use Rattle.firing.specs.Laws.Commits.{Known, pick-known, commit-falls, commit-fine}
-use Rattle.steps.specs.Queue.{Grown}
-use Rattle.steps.specs.Commits.{Reacting, Reacts, Taking, Takes, Stored, Committing, Commits}
+use Rattle.firing.specs.Laws.Commits.{Known, pick-known, commit-falls, commit-fine, without-charge}
+use Rattle.index.specs.Index.{headsOf, Roomy, forgotten}
+use Rattle.steps.specs.Queue.{Held, heldOf, Kept, Room, SameSize, Grown}
+use Rattle.steps.specs.Commits.{Reacting, Reacts, Looking, Looks, Stored, Without, Finishing, Finishes, Committing, Commits, CommitsFront}
+use Rattle.steps.specs.Laws.Queue.{same-size, size-then, room-same}
+use Rattle.steps.specs.Laws.Looking.{taken-charge, without-kept, without-size, front-kept}
 use Rattle.steps.specs.declared.Queue.{Queue}
 
 -- ---- what the definition makes of place j
@@ -78,175 +82,314 @@ module _ (s rules parts : List ℕ) (k : Counted.Deck) (t : Tabled s k rules par
       ∙ e)
       us h
 
--- ---- what is lent, for each of the functions that a commit calls
+-- a state with C places is one with more
+pub fine-wider : {d : Deck} {C : ℕ} {x : Machine} → Fine d C x → (E : ℕ) → C ≤ E → Fine d E x
+fine-wider f E h =
+    record {
+      long = f .long;
+      unused = f .unused;
+      known = f .known;
+      short = f .short;
+      different = f .different;
+      bounded = omega (arith, f .bounded, h);
+    }
 
-module _ {s : List ℕ} {k : Counted.Deck} {rules parts memo : List ℕ} {pool : List ℤ} {C : ℕ} {vs : List ℤ} {pending total : ℕ}
-    (w : Committing s k rules parts memo pool C vs pending total) (j : ℕ) (h : j < pending) where
+fine-narrower : {d : Deck} {C : ℕ} {x : Machine} → Fine d C x → (E : ℕ) → charge d (x .pending) ≤ E → Fine d E x
+fine-narrower f E h =
+    record {
+      long = f .long;
+      unused = f .unused;
+      known = f .known;
+      short = f .short;
+      different = f .different;
+      bounded = h;
+    }
+
+-- ---- the rest of a commit, when the update is out
+
+module _ {s : List ℕ} {k : Counted.Deck} {rules parts memo : List ℕ} {held : Held} {C : ℕ} {vs : List ℤ} {part : ℕ} {now : List ℤ} {pending total : ℕ}
+    (w : Finishing s k rules parts memo held C vs part now pending total) where
   abbrev d : Deck
   d = deckOf s
 
   abbrev e : Deck
   e = shape rules parts k
 
-  pub commit-taking : Taking k rules parts memo pool pending total j
-  commit-taking =
+  module _ (j : ℕ) (x : Machine) (t : Without d C j x vs part now pending total held) where
+    same-after : now ≡ after d j x
+    same-after = t .after-is ∙ ap (assign (pick j (x .pending) .part) (pick j (x .pending) .pairs)) (t .values)
+
+    known-update : Known d (pick j (x .pending))
+    known-update = pick-known d (C + 1) x j (t .fine) (t .inside)
+
+    falls : charge d (committed d j x .machine .pending) < charge d (x .pending)
+    falls = commit-falls d (w .tabled .counts .formed) (w .acyclic) j x (t .inside) (known-update .part)
+
+    -- the charge falls, so that there is room for what is left
+    fine-after : Fine d C (committed d j x .machine)
+    fine-after =
+        fine-narrower (commit-fine d (w .tabled .counts .formed) (w .acyclic) (C + 1) j x (t .fine) (t .inside)) C
+        (omega (arith, falls, t .fine .bounded))
+
+  pub part-known : part < k .parts
+  part-known =
+      let t = w .taken in
+      omega (arith, t .part-is, known-update (w .place) (w .machine) t .part, w .tabled .counts .parts)
+
+  pub after-long : length now ≡ 512
+  after-long =
+      let x = w .machine in
+      ap length (same-after (w .place) x (w .taken)) ∙ assign-length _ _ (x .values) ∙ w .taken .fine .long
+
+  pub before-long : length vs ≡ 512
+  before-long = ap length (w .taken .values) ∙ w .taken .fine .long
+
+  left-low : total ≤ C
+  left-low =
+      let x = w .machine in
+      let t = w .taken in
+      let whole = without-charge d (w .place) (x .pending) (t .inside) in
+      let some = update-at-least-one d (pick (w .place) (x .pending) .part) (channels (pick (w .place) (x .pending))) in
+      omega (arith, t .charged, whole, some, t .fine .bounded)
+
+  pub pending-low : pending ≤ 65535
+  pending-low =
+      let t = w .taken in
+      omega (arith, t .count, count-bounded d (without (w .place) (w .machine .pending)), t .charged, left-low, w .room .bounded)
+
+  pub finish-reacting : Reacting s k rules parts memo held C pending total
+  finish-reacting =
+      let t = w .taken in
+      record {
+        tabled = w .tabled;
+        ready = w .ready;
+        room = w .room;
+        us = without (w .place) (w .machine .pending);
+        kept = t .kept;
+        count = t .count;
+        charged = t .charged ∙ sym (charge-same s rules parts k (w .tabled) (without (w .place) (w .machine .pending)));
+        within = left-low;
+      }
+
+  -- the update is discarded
+  pub finish-discarded : within d part now ≡ false → Finishes d e C vs part now pending total held memo held vs pending total false
+  finish-discarded f = record { result = discarded; memo = w .ready .memo; size = same-size }
+    where
+      discarded : (j : ℕ) (x : Machine) → Without d C j x vs part now pending total held
+          → Stored d C (committed d j x .machine) vs pending total held × (false ≡ committed d j x .applied)
+      discarded j x t =
+          let c = discarded-machine d j x (sym (ap₂ (within d) (t .part-is) (same-after j x t)) ∙ f) in (
+            subst (λ y. Fine d C (y .machine) → Stored d C (y .machine) vs pending total held) (sym c)
+                (λ f. record { fine = f; values = t .values; count = t .count; kept = t .kept; charged = t .charged })
+                (fine-after j x t),
+            ap (λ y. y .applied) (sym c),
+          )
+
+  -- it is applied, and the firing follows
+  module _ {m : List ℕ} {held₂ : Held} {q : Queue} (yes : within d part now ≡ true)
+      (r : Reacts d e C pending total vs now part held m held₂ q) where
+    module _ (j : ℕ) (x : Machine) (t : Without d C j x vs part now pending total held) where
+      grown-out : Grown e C (rest d j x) (new d j x) held₂ q
+      grown-out =
+          let g = r .grown (rest d j x) (t .kept) (t .count) (t .charged ∙ sym (charge-same s rules parts k (w .tabled) (rest d j x))) in
+          let fresh : fired d now part (changed d part vs now) ≡ new d j x
+          = ap₂ (λ p a. fired d a p (changed d p vs a)) (t .part-is) (same-after j x t)
+          ∙ ap (λ v. fired d (after d j x) (u d j x .part) (changed d (u d j x .part) v (after d j x))) (t .values) in
+          subst (λ l. Grown e C (rest d j x) l held₂ q) fresh g
+
+      applied-is : committed d j x ≡ record { applied = true; machine = record { values = after d j x; pending = enqueue (rest d j x) (new d j x) } }
+      applied-is = applied-machine d j x (sym (ap₂ (within d) (t .part-is) (same-after j x t)) ∙ yes)
+
+      same-charge : charge e (enqueue (rest d j x) (new d j x)) ≡ charge d (committed d j x .machine .pending)
+      same-charge =
+          charge-same s rules parts k (w .tabled) (enqueue (rest d j x) (new d j x))
+          ∙ ap (λ y. charge d (y .machine .pending)) (sym applied-is)
+
+      not-full : q .full ≡ false
+      not-full = go (q .full) refl
+        where
+          go : (b : Bool) → q .full ≡ b → q .full ≡ false
+          go false f = f
+          go true f = absurd (omega (arith, grown-out .over f, same-charge, fine-after j x t .bounded))
+
+    pub queue-low : q .pending ≤ 65535
+    queue-low =
+        let j = w .place in
+        let x = w .machine in
+        let g = grown-out j x (w .taken) in
+        let room = g .room (not-full j x (w .taken)) in
+        omega (arith, g .pending, count-bounded e (rest d j x ++ g .extra), room .1, room .2, w .room .bounded)
+
+    pub finish-applied : Finishes d e C vs part now pending total held m held₂ now (q .pending) (q .charge) true
+    finish-applied = record { result = done; memo = r .memo; size = r .size }
+      where
+        done : (j : ℕ) (x : Machine) → Without d C j x vs part now pending total held
+            → Stored d C (committed d j x .machine) now (q .pending) (q .charge) held₂ × (true ≡ committed d j x .applied)
+        done j x t =
+            let c = applied-is j x t in
+            let g = grown-out j x t in
+            let room = g .room (not-full j x t) in (
+              subst (λ y. Fine d C (y .machine) → Stored d C (y .machine) now (q .pending) (q .charge) held₂) (sym c)
+                  (λ f.
+                  record {
+                    fine = f;
+                    values = same-after j x t;
+                    count = g .pending ∙ ap length (room .0);
+                    kept = subst (Kept held₂) (room .0) (g .kept);
+                    charged = room .1 ∙ ap (charge e) (room .0) ∙ charge-same s rules parts k (w .tabled) (enqueue (rest d j x) (new d j x));
+                  })
+                  (fine-after j x t),
+              ap (λ y. y .applied) (sym c),
+            )
+
+-- ---- what is lent, for each of the functions that a commit calls
+
+module _ {s : List ℕ} {k : Counted.Deck} {rules parts memo : List ℕ} {held : Held} {C : ℕ} {vs : List ℤ} {pending total : ℕ}
+    (w : Committing s k rules parts memo held C vs pending total) where
+  -- the pending places lie in the pool, and their links in the index
+  pub commit-room : (10 * pending ≤ length (held .pool)) × (pending ≤ 65535) × (headsOf (held .index) + pending ≤ length (held .index))
+  commit-room =
+      let st = w .stored in
+      let few : pending ≤ C = omega (arith, st .count, count-bounded (deckOf s) (w .machine .pending), st .fine .bounded) in
+      let r = w .room in
+      (omega (arith, few, r .places), omega (arith, few, r .bounded), omega (arith, few, r .index .links))
+
+module _ {s : List ℕ} {k : Counted.Deck} {rules parts memo : List ℕ} {held : Held} {C : ℕ} {vs : List ℤ} {pending total : ℕ}
+    (w : Committing s k rules parts memo held C vs pending total) (j : ℕ) (h : j < pending) where
+  pub commit-looking : Looking k rules parts memo (held .pool) pending j
+  commit-looking =
       let st = w .stored in
       record {
         ready = w .ready;
         few = omega (arith, w .tabled .counts .channels, w .tabled .counts .formed .channels);
-        low = omega (arith, st .charged, st .fine .bounded, w .bounded);
         us = w .machine .pending;
-        laid = st .laid;
+        laid = st .kept .laid;
         count = st .count;
         known = known-same s rules parts k (w .tabled) (w .machine .pending) (st .fine .known);
-        charged = st .charged ∙ sym (charge-same s rules parts k (w .tabled) (w .machine .pending));
         place = h;
       }
 
-  -- what was taken out, for any values and pending updates that the numbers stand for
-  module _ {m : List ℕ} {pool₁ : List ℤ} {part : ℕ} {now : List ℤ} {left : ℕ} (t : Takes e j pending total vs pool m pool₁ part now left) where
-    module _ (x : Machine) (st : Stored d C x vs pending total pool) where
+  module _ {m : List ℕ} {part : ℕ} {now : List ℤ} {c : ℕ} (l : Looks (shape rules parts k) j vs (held .pool) m part now c) where
+    module _ (x : Machine) (st : Stored (deckOf s) C x vs pending total held) where
       inside : j < length (x .pending)
       inside = omega (arith, h, st .count)
 
-      abbrev out : Type 0
-      out = (part ≡ pick j (x .pending) .part)
-          × (now ≡ assign (pick j (x .pending) .part) (pick j (x .pending) .pairs) vs)
-          × Laid pool₁ (without j (x .pending))
-          × (left ≡ charge e (without j (x .pending)))
-
-      taken-out : out
-      taken-out =
-          t .result (x .pending) (st .laid) (st .count) (known-same s rules parts k (w .tabled) (x .pending) (st .fine .known))
+      left : (c ≤ total) × (total - c ≡ charge (deckOf s) (without j (x .pending)))
+      left =
+          let e = shape rules parts k in
+          let out = taken-charge e (held .pool) (x .pending) (st .kept .laid) j inside c total
+          (l .result (x .pending) (st .kept .laid) inside .2)
           (st .charged ∙ sym (charge-same s rules parts k (w .tabled) (x .pending)))
+          (omega (arith, st .charged, st .fine .bounded, w .room .bounded)) in
+          (out .0, out .1 ∙ charge-same s rules parts k (w .tabled) (without j (x .pending)))
 
-      same-after : now ≡ after d j x
-      same-after = taken-out .1 ∙ ap (assign (pick j (x .pending) .part) (pick j (x .pending) .pairs)) (st .values)
+      -- what is left without it, wherever that is held
+      without-of : {held₁ : Held} (E : ℕ) → C ≤ E + 1 → Kept held₁ (without j (x .pending))
+          → Without (deckOf s) E j x vs part now (pending - 1) (total - c) held₁
+      without-of E wide kept =
+          let o = l .result (x .pending) (st .kept .laid) inside in
+          record {
+            fine = fine-wider (st .fine) (E + 1) wide;
+            inside = inside;
+            values = st .values;
+            part-is = o .0;
+            after-is = o .1;
+            count = omega (arith, rest-length j (x .pending) inside, st .count);
+            kept = kept;
+            charged = left .1;
+          }
 
-      known-update : Known d (pick j (x .pending))
-      known-update = pick-known d C x j (st .fine) inside
+    pub commit-left : c ≤ total
+    commit-left = left (w .machine) (w .stored) .0
 
-    pub part-known : part < k .parts
-    part-known =
-        let x = w .machine in
-        omega (arith, taken-out x (w .stored) .0, known-update x (w .stored) .part, w .tabled .counts .parts)
-
-    pub after-long : length now ≡ 512
-    after-long =
-        let x = w .machine in
-        ap length (same-after x (w .stored)) ∙ assign-length _ _ (x .values) ∙ w .stored .fine .long
-
-    left-low : left ≤ C
-    left-low =
-        let x = w .machine in
-        let whole = Rattle.firing.specs.Laws.Commits.without-charge d j (x .pending) (inside x (w .stored)) in
-        omega (
-          arith,
-          taken-out x (w .stored) .3,
-          charge-same s rules parts k (w .tabled) (without j (x .pending)),
-          whole,
-          w .stored .fine .bounded,
-        )
-
-    pub commit-reacting : Reacting s k rules parts m pool₁ C (pending - 1) left
-    commit-reacting =
-        let x = w .machine in
-        let o = taken-out x (w .stored) in
+    pub finishing-of : {held₁ : Held} (E : ℕ) → C ≤ E + 1 → Room E held₁
+        → ((us : List Update) → pending ≡ length us → Kept held us → Kept held₁ (without j us))
+        → Finishing s k rules parts m held₁ E vs part now (pending - 1) (total - c)
+    finishing-of E wide room keeps =
         record {
           tabled = w .tabled;
-          ready = record { tables = w .ready .tables; memo = t .memo };
-          bounded = w .bounded;
-          places = subst (λ n. 10 * C ≤ n) (sym (t .long)) (w .places);
-          us = without j (x .pending);
-          laid = o .2;
-          count = omega (arith, rest-length j (x .pending) (inside x (w .stored)), w .stored .count);
-          charged = o .3;
-          within = left-low;
+          ready = record { tables = w .ready .tables; memo = l .memo };
+          acyclic = w .acyclic;
+          room = room;
+          place = j;
+          machine = w .machine;
+          taken = without-of (w .machine) (w .stored) E wide (keeps (w .machine .pending) (w .stored .count) (w .stored .kept));
         }
 
-    -- the update is discarded
-    pub commit-discarded : within d part now ≡ false → Commits d e C j pool vs pending total m pool₁ vs (pending - 1) left false
-    commit-discarded f = record { result = discarded; memo = t .memo; long = t .long }
-      where
-        discarded : (x : Machine) → Stored d C x vs pending total pool
-            → Stored d C (committed d j x .machine) vs (pending - 1) left pool₁ × (false ≡ committed d j x .applied)
-        discarded x st =
-            let o = taken-out x st in
-            let c = discarded-machine d j x (sym (ap₂ (within d) (o .0) (same-after x st)) ∙ f) in
-            let fine = commit-fine d (w .tabled .counts .formed) (w .acyclic) C j x (st .fine) (inside x st) in (
-              subst (λ y. Fine d C (y .machine) → Stored d C (y .machine) vs (pending - 1) left pool₁) (sym c)
-                  (λ f.
-                  record {
-                    fine = f;
-                    values = st .values;
-                    count = omega (arith, rest-length j (x .pending) (inside x st), st .count);
-                    laid = o .2;
-                    charged = o .3 ∙ charge-same s rules parts k (w .tabled) (without j (x .pending));
-                  })
-                  fine,
-              ap (λ y. y .applied) (sym c),
-            )
+-- ---- place k: later places move down
 
-    -- it is applied, and the firing follows
-    module _ {m₂ : List ℕ} {pool₂ : List ℤ} {q : Queue} (yes : within d part now ≡ true)
-        (r : Reacts d e C (pending - 1) left vs now part pool₁ m₂ pool₂ q) where
-      grown-out : (x : Machine) (st : Stored d C x vs pending total pool) → Grown e C (rest d j x) (new d j x) pool₂ q
-      grown-out x st =
-          let o = taken-out x st in
-          let g = r .grown (rest d j x) (o .2) (omega (arith, rest-length j (x .pending) (inside x st), st .count)) (o .3) in
-          let fresh : fired d now part (changed d part vs now) ≡ new d j x
-          = ap₂ (λ p a. fired d a p (changed d p vs a)) (o .0) (same-after x st)
-          ∙ ap (λ v. fired d (after d j x) (u d j x .part) (changed d (u d j x .part) v (after d j x))) (st .values) in
-          subst (λ l. Grown e C (rest d j x) l pool₂ q) fresh g
+module _ {s : List ℕ} {k : Counted.Deck} {rules parts memo index : List ℕ} {pool : List ℤ} {C : ℕ} {vs : List ℤ} {pending total : ℕ}
+    (w : Committing s k rules parts memo (heldOf 0 index pool) C vs pending total) (j : ℕ) (h : j < pending) where
+  abbrev out : Held
+  out = heldOf 0 (forgotten index pending j) (removed pool pending j)
 
-      applied-is : (x : Machine) (st : Stored d C x vs pending total pool)
-          → committed d j x ≡ record { applied = true; machine = record { values = after d j x; pending = enqueue (rest d j x) (new d j x) } }
-      applied-is x st = applied-machine d j x (sym (ap₂ (within d) (taken-out x st .0) (same-after x st)) ∙ yes)
+  out-size : SameSize (heldOf 0 index pool) out
+  out-size =
+      let us = w .machine .pending in
+      let st = w .stored in
+      subst (λ n. SameSize (heldOf 0 index pool) (heldOf 0 (forgotten index n j) (removed pool n j))) (sym (st .count))
+      (without-size index pool us (st .kept) j (omega (arith, h, st .count)))
 
-      -- the charge falls, so that there is room
-      not-full : (x : Machine) (st : Stored d C x vs pending total pool) → q .full ≡ false
-      not-full x st = go (q .full) refl
-        where
-          go : (b : Bool) → q .full ≡ b → q .full ≡ false
-          go false f = f
-          go true f =
-              let falls = commit-falls d (w .tabled .counts .formed) (w .acyclic) j x (inside x st) (known-update x st .part) in
-              absurd
-              (omega (
-                arith,
-                grown-out x st .over f,
-                charge-same s rules parts k (w .tabled) (enqueue (rest d j x) (new d j x)),
-                ap (λ y. charge d (y .machine .pending)) (applied-is x st),
-                falls,
-                st .fine .bounded,
-              ))
+  out-kept : (us : List Update) → pending ≡ length us → Kept (heldOf 0 index pool) us → Kept out (without j us)
+  out-kept us n x =
+      subst (λ n. Kept (heldOf 0 (forgotten index n j) (removed pool n j)) (without j us)) (sym n)
+      (without-kept index pool us x j (omega (arith, h, n)))
 
-      pub queue-low : q .pending ≤ 65535
-      queue-low =
-          let x = w .machine in
-          let g = grown-out x (w .stored) in
-          let room = g .room (not-full x (w .stored)) in
-          omega (arith, g .pending, count-bounded e (rest d j x ++ g .extra), room .1, room .2, w .bounded)
+  module _ {m : List ℕ} {part : ℕ} {now : List ℤ} {c : ℕ} (l : Looks (shape rules parts k) j vs pool m part now c) where
+    pub commit-finishing : Finishing s k rules parts m out C vs part now (pending - 1) (total - c)
+    commit-finishing = finishing-of w j h l C (omega arith) (room-same out-size (w .room)) out-kept
 
-      pub commit-applied : Commits d e C j pool vs pending total m₂ pool₂ now (q .pending) (q .charge) true
-      commit-applied = record { result = done; memo = r .memo; long = r .long ∙ t .long }
-        where
-          done : (x : Machine) → Stored d C x vs pending total pool
-              → Stored d C (committed d j x .machine) now (q .pending) (q .charge) pool₂ × (true ≡ committed d j x .applied)
-          done x st =
-              let c = applied-is x st in
-              let g = grown-out x st in
-              let room = g .room (not-full x st) in
-              let fine = commit-fine d (w .tabled .counts .formed) (w .acyclic) C j x (st .fine) (inside x st) in (
-                subst (λ y. Fine d C (y .machine) → Stored d C (y .machine) now (q .pending) (q .charge) pool₂) (sym c)
-                    (λ f.
-                    record {
-                      fine = f;
-                      values = same-after x st;
-                      count = g .pending ∙ ap length (room .0);
-                      laid = subst (Laid pool₂) (room .0) (g .laid);
-                      charged = room .1 ∙ ap (charge e) (room .0) ∙ charge-same s rules parts k (w .tabled) (enqueue (rest d j x) (new d j x));
-                    })
-                    fine,
-                ap (λ y. y .applied) (sym c),
-              )
+    pub commit-done : {m₂ : List ℕ} {held₂ : Held} {values : List ℤ} {n t : ℕ} {b : Bool}
+        → Finishes (deckOf s) (shape rules parts k) C vs part now (pending - 1) (total - c) out m₂ held₂ values n t b
+        → Commits (deckOf s) (shape rules parts k) C j (heldOf 0 index pool) vs pending total m₂ held₂ values n t b
+    commit-done f =
+        record {
+          result = λ x st. f .result j x (without-of w j h l x st C (omega arith) (out-kept (x .pending) (st .count) (st .kept)));
+          memo = f .memo;
+          size = size-then out-size (f .size);
+        }
+
+-- ---- place 0: the others stay
+
+module _ {s : List ℕ} {k : Counted.Deck} {rules parts memo : List ℕ} {gone : ℕ} {index : List ℕ} {pool : List ℤ} {C : ℕ} {vs : List ℤ} {pending total : ℕ}
+    (w : Committing s k rules parts memo (heldOf gone index pool) C vs pending total) (h : 0 < pending) where
+  -- there is a place, since something is pending
+  some-room : 1 ≤ C
+  some-room =
+      let st = w .stored in
+      omega (arith, h, st .count, count-bounded (deckOf s) (w .machine .pending), st .fine .bounded)
+
+  pub front-some : (1 ≤ C) × (10 ≤ length pool) × (gone ≤ 65534)
+  front-some = (some-room, omega (arith, some-room, w .room .places), omega (arith, some-room, w .room .bounded))
+
+  front-room : Room (C - 1) (heldOf (gone + 1) index (drop 10 pool))
+  front-room =
+      let r = w .room in
+      let roomy = r .index in
+      let same : gone + 1 + (C - 1) ≡ gone + C = omega (arith, some-room) in
+      record {
+        bounded = omega (arith, r .bounded, some-room);
+        places = omega (arith, r .places, length-drop 10 pool);
+        index = subst (λ n. Roomy n index) (sym same) roomy;
+      }
+
+  front-of : (us : List Update) → pending ≡ length us → Kept (heldOf gone index pool) us
+      → Kept (heldOf (gone + 1) index (drop 10 pool)) (without 0 us)
+  front-of us n x = front-kept gone index pool us x (omega (arith, h, n))
+
+  module _ {m : List ℕ} {part : ℕ} {now : List ℤ} {c : ℕ} (l : Looks (shape rules parts k) 0 vs pool m part now c) where
+    pub front-finishing : Finishing s k rules parts m (heldOf (gone + 1) index (drop 10 pool)) (C - 1) vs part now (pending - 1) (total - c)
+    front-finishing = finishing-of w 0 h l (C - 1) (omega (arith, some-room)) front-room front-of
+
+    pub front-done : {m₂ : List ℕ} {index₂ : List ℕ} {pool₂ : List ℤ} {values : List ℤ} {n t : ℕ} {b : Bool}
+        → Finishes (deckOf s) (shape rules parts k) (C - 1) vs part now (pending - 1) (total - c) (heldOf (gone + 1) index (drop 10 pool)) m₂
+        (heldOf (gone + 1) index₂ pool₂) values n t b
+        → CommitsFront (deckOf s) (shape rules parts k) C (heldOf gone index pool) vs pending total m₂ (heldOf (gone + 1) index₂ pool₂) values n t b
+    front-done f =
+        record {
+          result = λ x st. f .result 0 x (without-of w 0 h l x st (C - 1) (omega (arith, some-room)) (front-of (x .pending) (st .count) (st .kept)));
+          memo = f .memo;
+          gone = refl;
+          index = f .size .index;
+          pool = omega (arith, f .size .pool, length-drop 10 pool, w .room .places, some-room);
+        }

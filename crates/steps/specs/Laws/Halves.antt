@@ -20,8 +20,8 @@ use Rattle.charge.specs.Memo.{hearing}
 use Rattle.pool.specs.Updates.{Update}
 use Rattle.passing.specs.Judged.{shape}
 use Rattle.firing.specs.Firing.{firedHere, firedThere, fired}
-use Rattle.steps.specs.Queue.{Offering, Offered, FiresAll, Fires}
-use Rattle.steps.specs.Laws.Queue.{offered-then, offering-next}
+use Rattle.steps.specs.Queue.{Held, SameSize, Offering, Offered, FiresAll, Fires}
+use Rattle.steps.specs.Laws.Queue.{same-size, size-then, offered-then, offering-next}
 use Rattle.steps.specs.Laws.Turns.{turns, turned-none, turned-pass, turned-fail}
 use Rattle.steps.specs.declared.Queue.{Queue}
 
@@ -44,11 +44,11 @@ hearing-heard {d} {rules} {parts} t g p r cs h =
 
 -- the rules below n had their turn: f gives the updates of a rule, and `mask` is the set of the changed channels
 pub record Half (rules parts : List ℕ) (k : Counted.Deck) (C : ℕ) (d : Deck) (f : Rule → List Update) (p mask n : ℕ)
-    (pool₀ : List ℤ) (q₀ : Queue) (m : List ℕ) (pool : List ℤ) (q : Queue) : Type 0 where
-  pub offering : Offering rules parts k C m pool q
-  pub long : length pool ≡ length pool₀
+    (held₀ : Held) (q₀ : Queue) (m : List ℕ) (held : Held) (q : Queue) : Type 0 where
+  pub offering : Offering rules parts k C m held q
+  pub size : SameSize held₀ held
   pub fires : (cs : List ℕ) → ((c : ℕ) → member c cs ≡ true → c < 32) → mask ≡ maskOf cs
-      → Offered (shape rules parts k) C (turns (heard d p cs) (λ r. f (ruleAt d r)) n) pool₀ q₀ m pool q
+      → Offered (shape rules parts k) C (turns (heard d p cs) (λ r. f (ruleAt d r)) n) held₀ q₀ m held q
 
 flatMap-map : {A B C : Type 0} (h : B → List C) (k : A → B) (l : List A) → flatMap h (map k l) ≡ flatMap (λ x. h (k x)) l
 unfolding lists
@@ -63,59 +63,59 @@ active-turns d p cs n g e =
     ∙ sym (flatMap-map g (ruleAt d) (active d p cs))
 
 module _ {rules parts : List ℕ} {k : Counted.Deck} {C : ℕ} {d : Deck} {f : Rule → List Update} {p mask : ℕ}
-    {pool₀ : List ℤ} {q₀ : Queue} where
-  pub half-none : {m : List ℕ} → Offering rules parts k C m pool₀ q₀ → Half rules parts k C d f p mask 0 pool₀ q₀ m pool₀ q₀
+    {held₀ : Held} {q₀ : Queue} where
+  pub half-none : {m : List ℕ} → Offering rules parts k C m held₀ q₀ → Half rules parts k C d f p mask 0 held₀ q₀ m held₀ q₀
   half-none {m} o =
       record {
         offering = o;
-        long = refl;
+        size = same-size;
         fires = λ cs h e. turned-none (heard d p cs) (λ r. f (ruleAt d r)) m (o .ready .memo);
       }
 
   -- where two ways of a turn meet
-  pub half-came : {n : ℕ} {m m′ : List ℕ} {pool pool′ : List ℤ} {q q′ : Queue} → m ≡ m′ → pool ≡ pool′ → q ≡ q′
-      → Half rules parts k C d f p mask n pool₀ q₀ m′ pool′ q′ → Half rules parts k C d f p mask n pool₀ q₀ m pool q
-  half-came {n} {m} {m′} {pool} {pool′} {q} {q′} a b c x =
-      subst (λ m. Half rules parts k C d f p mask n pool₀ q₀ m pool q) (sym a)
-      (subst (λ pool. Half rules parts k C d f p mask n pool₀ q₀ m′ pool q) (sym b)
-      (subst (λ q. Half rules parts k C d f p mask n pool₀ q₀ m′ pool′ q) (sym c) x))
+  pub half-came : {n : ℕ} {m m′ : List ℕ} {held held′ : Held} {q q′ : Queue} → m ≡ m′ → held ≡ held′ → q ≡ q′
+      → Half rules parts k C d f p mask n held₀ q₀ m′ held′ q′ → Half rules parts k C d f p mask n held₀ q₀ m held q
+  half-came {n} {m} {m′} {held} {held′} {q} {q′} a b c x =
+      subst (λ m. Half rules parts k C d f p mask n held₀ q₀ m held q) (sym a)
+      (subst (λ held. Half rules parts k C d f p mask n held₀ q₀ m′ held q) (sym b)
+      (subst (λ q. Half rules parts k C d f p mask n held₀ q₀ m′ held′ q) (sym c) x))
 
   -- rule n had its turn, or it has none
-  module _ {m : List ℕ} {pool : List ℤ} {q : Queue} (t : TablesOf d rules parts) (g : Ranged d) (n : ℕ)
-      (x : Half rules parts k C d f p mask n pool₀ q₀ m pool q) (b : Bool) (a : b ≡ hearing rules parts p n mask) where
+  module _ {m : List ℕ} {held : Held} {q : Queue} (t : TablesOf d rules parts) (g : Ranged d) (n : ℕ)
+      (x : Half rules parts k C d f p mask n held₀ q₀ m held q) (b : Bool) (a : b ≡ hearing rules parts p n mask) where
     tested : (cs : List ℕ) → ((c : ℕ) → member c cs ≡ true → c < 32) → mask ≡ maskOf cs → heard d p cs n ≡ b
     tested cs h e = sym (hearing-heard t g p n cs h) ∙ ap (hearing rules parts p n) (sym e) ∙ sym a
 
-    pub half-pass : {m′ : List ℕ} {pool′ : List ℤ} {q′ : Queue} → b ≡ true
-        → Offered (shape rules parts k) C (f (ruleAt d n)) pool q m′ pool′ q′
-        → Half rules parts k C d f p mask (n + 1) pool₀ q₀ m′ pool′ q′
+    pub half-pass : {m′ : List ℕ} {held′ : Held} {q′ : Queue} → b ≡ true
+        → Offered (shape rules parts k) C (f (ruleAt d n)) held q m′ held′ q′
+        → Half rules parts k C d f p mask (n + 1) held₀ q₀ m′ held′ q′
     half-pass y o =
         record {
           offering = offering-next (x .offering) o;
-          long = o .long ∙ x .long;
+          size = size-then (x .size) (o .size);
           fires = λ cs h e. turned-pass (heard d p cs) (λ r. f (ruleAt d r)) n (x .fires cs h e) (tested cs h e ∙ y) o;
         }
 
-    pub half-fail : b ≡ false → Half rules parts k C d f p mask (n + 1) pool₀ q₀ m pool q
+    pub half-fail : b ≡ false → Half rules parts k C d f p mask (n + 1) held₀ q₀ m held q
     half-fail y =
         record {
           offering = x .offering;
-          long = x .long;
+          size = x .size;
           fires = λ cs h e. turned-fail (heard d p cs) (λ r. f (ruleAt d r)) n (x .fires cs h e) (tested cs h e ∙ y);
         }
 
   -- all rules had their turn
-  pub half-all : {n : ℕ} {m : List ℕ} {pool : List ℤ} {q : Queue} → n ≡ M d
-      → Half rules parts k C d f p mask n pool₀ q₀ m pool q
-      → FiresAll d f p mask (shape rules parts k) C pool₀ q₀ m pool q
-  half-all {n} {m} {pool} {q} i x cs h e =
-      subst (λ l. Offered (shape rules parts k) C l pool₀ q₀ m pool q) (active-turns d p cs n f i) (x .fires cs h e)
+  pub half-all : {n : ℕ} {m : List ℕ} {held : Held} {q : Queue} → n ≡ M d
+      → Half rules parts k C d f p mask n held₀ q₀ m held q
+      → FiresAll d f p mask (shape rules parts k) C held₀ q₀ m held q
+  half-all {n} {m} {held} {q} i x cs h e =
+      subst (λ l. Offered (shape rules parts k) C l held₀ q₀ m held q) (active-turns d p cs n f i) (x .fires cs h e)
 
 -- the firing is both halves
 pub both-halves : (d : Deck) (values : List ℤ) (p : ℕ) {e : Deck} {mask C : ℕ}
-    {pool₀ pool₁ pool₂ : List ℤ} {q₀ q₁ q₂ : Queue} {m₁ m₂ : List ℕ}
-    → FiresAll d (λ r. firedHere values p r) p mask e C pool₀ q₀ m₁ pool₁ q₁
-    → FiresAll d (λ r. flatMap (firedThere values p r) (others d p)) p mask e C pool₁ q₁ m₂ pool₂ q₂
-    → Fires d values p mask e C pool₀ q₀ m₂ pool₂ q₂
+    {held₀ held₁ held₂ : Held} {q₀ q₁ q₂ : Queue} {m₁ m₂ : List ℕ}
+    → FiresAll d (λ r. firedHere values p r) p mask e C held₀ q₀ m₁ held₁ q₁
+    → FiresAll d (λ r. flatMap (firedThere values p r) (others d p)) p mask e C held₁ q₁ m₂ held₂ q₂
+    → Fires d values p mask e C held₀ q₀ m₂ held₂ q₂
 unfolding fired
 both-halves d values p a b cs h i = offered-then (a cs h i) (b cs h i)

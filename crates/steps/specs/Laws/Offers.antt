@@ -23,7 +23,7 @@ use Rattle.states.specs.Answer.{Holds}
 use Rattle.firing.specs.Evaluated.{updateBy, ActionIs}
 use Rattle.firing.specs.Laws.Lined.{action-stands, action-count}
 use Rattle.firing.specs.Laws.Written.{row-length}
-use Rattle.steps.specs.Queue.{Offered, Offers, Sound, sentBy}
+use Rattle.steps.specs.Queue.{Held, Offered, Offers, Sound, sentBy}
 use Rattle.steps.specs.Laws.Queue.{offered-none}
 use Rattle.steps.specs.declared.Queue.{Queue}
 
@@ -84,17 +84,17 @@ module _ (s : List ℕ) (at : ℕ) (own far : List ℤ) (part : ℕ) where
             ∙ known-update d own far part a (omega (arith, l, eN)) (λ z. some (there .count ∙ z)) low (sound .3);
       }
 
-  module _ {d : Deck} {C : ℕ} {pool₀ : List ℤ} {q₀ : Queue} where
+  module _ {d : Deck} {C : ℕ} {held₀ : Held} {q₀ : Queue} where
     -- an empty action
-    pub offers-none : (m : List ℕ) → Memo d m → getD s at 0 ≡ 0 → Offers s at own far part d C pool₀ q₀ m pool₀ q₀
+    pub offers-none : (m : List ℕ) → Memo d m → getD s at 0 ≡ 0 → Offers s at own far part d C held₀ q₀ m held₀ q₀
     offers-none m r e a x =
-        subst (λ l. Offered d C l pool₀ q₀ m pool₀ q₀) (sym (sent-none own far part a (sym (count a x) ∙ e))) (offered-none m r)
+        subst (λ l. Offered d C l held₀ q₀ m held₀ q₀) (sym (sent-none own far part a (sym (count a x) ∙ e))) (offered-none m r)
 
     -- one that is not empty
-    pub offers-one : {m : List ℕ} {pool : List ℤ} {q : Queue} (row : List ℤ) → ActionIs s at part own far row → (getD s at 0 ≡ 0 → ⊥)
-        → Offered d C (updateOf row ∷ []) pool₀ q₀ m pool q → Offers s at own far part d C pool₀ q₀ m pool q
-    offers-one {m} {pool} {q} row is some o a x =
+    pub offers-one : {m : List ℕ} {held : Held} {q : Queue} (row : List ℤ) → ActionIs s at part own far row → (getD s at 0 ≡ 0 → ⊥)
+        → Offered d C (updateOf row ∷ []) held₀ q₀ m held q → Offers s at own far part d C held₀ q₀ m held q
+    offers-one {m} {held} {q} row is some o a x =
         let e : updateOf row ≡ updateBy own far part a = ap updateOf (is a x) ∙ update-back (updateBy own far part a) in
-        subst (λ l. Offered d C l pool₀ q₀ m pool q)
+        subst (λ l. Offered d C l held₀ q₀ m held q)
         (ap (λ u. u ∷ []) e ∙ sym (sent-one own far part a (λ z. some (count a x ∙ z))))
         o

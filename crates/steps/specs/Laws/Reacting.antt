@@ -13,12 +13,11 @@ use Rattle.deck.specs.Deck.{Deck, R}
 use Rattle.deck.specs.declared.Deck as Counted
 use Rattle.charge.specs.Memo.{Memo}
 use Rattle.pool.specs.Updates.{Update, charge, valueAt}
-use Rattle.pool.specs.Moves.{Laid}
 use Rattle.passing.specs.Tabled.{deckOf}
 use Rattle.passing.specs.Judged.{shape}
 use Rattle.firing.specs.Firing.{changed, fired}
 use Rattle.firing.specs.Laws.Enqueue.{enqueue-none}
-use Rattle.steps.specs.Queue.{Grown, Offering, Offered, Fires}
+use Rattle.steps.specs.Queue.{Held, Kept, Grown, Offering, Offered, Fires}
 use Rattle.steps.specs.Commits.{Reacting, Reacts}
 use Rattle.steps.specs.declared.Queue.{Queue}
 
@@ -26,29 +25,28 @@ use Rattle.steps.specs.declared.Queue.{Queue}
 abbrev pub first : ℕ → ℕ → Queue
 first pending total = record { pending = pending; charge = total; full = false }
 
-grown-first : (d : Deck) (C : ℕ) (us : List Update) (pool : List ℤ) (pending total : ℕ) → Laid pool us → pending ≡ length us → total ≡ charge d us → total ≤ C
-    → Grown d C us [] pool (first pending total)
-grown-first d C us pool pending total l n t b =
+grown-first : (d : Deck) (C : ℕ) (us : List Update) (held : Held) (pending total : ℕ) → Kept held us → pending ≡ length us → total ≡ charge d us → total ≤ C
+    → Grown d C us [] held (first pending total)
+grown-first d C us held pending total l n t b =
     let e = append-nil us in
     record {
       extra = [];
-      laid = subst (Laid pool) (sym e) l;
+      kept = subst (Kept held) (sym e) l;
       pending = n ∙ ap length (sym e);
       room = λ _. (e ∙ sym (enqueue-none us), t ∙ ap (charge d) (sym e), b);
       over = λ f. absurd (false≢true f);
     }
 
-module _ {s : List ℕ} {k : Counted.Deck} {rules parts memo : List ℕ} {pool : List ℤ} {C pending total : ℕ} where
-  pub offering-first : Reacting s k rules parts memo pool C pending total → Offering rules parts k C memo pool (first pending total)
+module _ {s : List ℕ} {k : Counted.Deck} {rules parts memo : List ℕ} {held : Held} {C pending total : ℕ} where
+  pub offering-first : Reacting s k rules parts memo held C pending total → Offering rules parts k C memo held (first pending total)
   offering-first w =
       record {
         ready = w .ready;
         few = omega (arith, w .tabled .counts .channels, w .tabled .counts .formed .channels);
-        bounded = w .bounded;
-        places = w .places;
+        room = w .room;
         us = w .us;
         new = [];
-        grown = grown-first (shape rules parts k) C (w .us) pool pending total (w .laid) (w .count) (w .charged) (w .within);
+        grown = grown-first (shape rules parts k) C (w .us) held pending total (w .kept) (w .count) (w .charged) (w .within);
       }
 
 -- the changed channels are channels
@@ -57,16 +55,16 @@ unfolding changed
 changed-low d p before after few c m =
     omega (arith, few, filter-below (λ c. not (eqZ (valueAt before p c) (valueAt after p c))) (R d) c .0 m .0)
 
-module _ (s : List ℕ) (k : Counted.Deck) (rules parts : List ℕ) {memo : List ℕ} {pool₀ : List ℤ} {C pending total : ℕ}
-    (w : Reacting s k rules parts memo pool₀ C pending total) (before after : List ℤ) (p : ℕ) where
-  pub reacted : {mask : ℕ} {m : List ℕ} {pool : List ℤ} {q : Queue} → mask ≡ maskOf (changed (deckOf s) p before after)
-      → Fires (deckOf s) after p mask (shape rules parts k) C pool₀ (first pending total) m pool q
-      → Reacts (deckOf s) (shape rules parts k) C pending total before after p pool₀ m pool q
+module _ (s : List ℕ) (k : Counted.Deck) (rules parts : List ℕ) {memo : List ℕ} {held₀ : Held} {C pending total : ℕ}
+    (w : Reacting s k rules parts memo held₀ C pending total) (before after : List ℤ) (p : ℕ) where
+  pub reacted : {mask : ℕ} {m : List ℕ} {held : Held} {q : Queue} → mask ≡ maskOf (changed (deckOf s) p before after)
+      → Fires (deckOf s) after p mask (shape rules parts k) C held₀ (first pending total) m held q
+      → Reacts (deckOf s) (shape rules parts k) C pending total before after p held₀ m held q
   reacted e f =
       let d = deckOf s in
       let x = f (changed d p before after) (changed-low d p before after (w .tabled .counts .formed .channels)) e in
       record {
-        grown = λ us l n t. x .grows us [] (grown-first (shape rules parts k) C us pool₀ pending total l n t (w .within));
+        grown = λ us l n t. x .grows us [] (grown-first (shape rules parts k) C us held₀ pending total l n t (w .within));
         memo = x .memo;
-        long = x .long;
+        size = x .size;
       }

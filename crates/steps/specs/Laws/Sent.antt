@@ -29,7 +29,7 @@ use Rattle.passing.specs.Laws.Limits.{stretchOf, stretch-length, stretch-value}
 use Rattle.passing.specs.Laws.Stands.{stands}
 use Rattle.firing.specs.Firing.{evaluated, sent, holds, firedHere, firedThere}
 use Rattle.firing.specs.Evaluated.{updateBy}
-use Rattle.steps.specs.Queue.{Offered, Offers, Sound, sentBy}
+use Rattle.steps.specs.Queue.{Held, Offered, Offers, Sound, sentBy}
 use Rattle.steps.specs.declared.Queue.{Queue}
 
 -- the channels that are lent are those of the scope: the own ones of part p, the far ones of part q
@@ -105,10 +105,10 @@ module _ {sc : Scope} {values : List ℤ} {p q : ℕ} {own far : List ℤ} (l : 
     action-sound : {n : ℕ} → Formed.Sound n a → Sound s at (length own) (length far) n
     action-sound f = (a, there, f .known, f .different)
 
-    action-offered : {d : Deck} {C : ℕ} {pool₀ pool : List ℤ} {q₀ q′ : Queue} {m : List ℕ} → allIn sc a ≡ true
-        → Offers s at own far q d C pool₀ q₀ m pool q′ → Offered d C (sent values p q a) pool₀ q₀ m pool q′
-    action-offered {d} {C} {pool₀} {pool} {q₀} {q′} {m} h o =
-        subst (λ us. Offered d C us pool₀ q₀ m pool q′) (sent-agree a h) (o a there)
+    action-offered : {d : Deck} {C : ℕ} {held₀ held : Held} {q₀ q′ : Queue} {m : List ℕ} → allIn sc a ≡ true
+        → Offers s at own far q d C held₀ q₀ m held q′ → Offered d C (sent values p q a) held₀ q₀ m held q′
+    action-offered {d} {C} {held₀} {held} {q₀} {q′} {m} h o =
+        subst (λ us. Offered d C us held₀ q₀ m held q′) (sent-agree a h) (o a there)
 
   -- and a condition can be evaluated
   module _ (s : List ℕ) (at : ℕ) (t : Truth) (r : ReadsAt s (expression (wholeTruth sc)) at t) where
@@ -212,9 +212,9 @@ module _ {s : List ℕ} {k : Counted.Deck} {rules parts : List ℕ} {values : Li
       action-sound here s (getD rules (8 * r + 4) 0) _ (x .tabled .ruleTable .default r known)
       (sound (rule .default) (x .tabled .counts .formed .default r))
 
-  pub default-offered : {e : Deck} {C : ℕ} {pool₀ pool : List ℤ} {q₀ q : Queue} {m : List ℕ}
-      → Offers s (getD rules (8 * r + 4) 0) own [] p e C pool₀ q₀ m pool q
-      → Offered e C (sent values p p (rule .default)) pool₀ q₀ m pool q
+  pub default-offered : {e : Deck} {C : ℕ} {held₀ held : Held} {q₀ q : Queue} {m : List ℕ}
+      → Offers s (getD rules (8 * r + 4) 0) own [] p e C held₀ q₀ m held q
+      → Offered e C (sent values p p (rule .default)) held₀ q₀ m held q
   default-offered o =
       action-offered here s (getD rules (8 * r + 4) 0) _ (x .tabled .ruleTable .default r known) (x .tabled .counts .scoped .default r) o
 
@@ -251,8 +251,8 @@ module _ {s : List ℕ} {k : Counted.Deck} {rules parts : List ℕ} {values : Li
         action-sound l s (getD rules (8 * r + 6) 0) _ (x .tabled .ruleTable .action r known)
         (sound (rule .action) (x .tabled .counts .formed .action r))
 
-    pub task-offered : {e : Deck} {C : ℕ} {pool₀ pool : List ℤ} {q₀ q′ : Queue} {m : List ℕ}
-        → Offers s (getD rules (8 * r + 6) 0) own far q e C pool₀ q₀ m pool q′
-        → Offered e C (sent values p q (rule .action)) pool₀ q₀ m pool q′
+    pub task-offered : {e : Deck} {C : ℕ} {held₀ held : Held} {q₀ q′ : Queue} {m : List ℕ}
+        → Offers s (getD rules (8 * r + 6) 0) own far q e C held₀ q₀ m held q′
+        → Offered e C (sent values p q (rule .action)) held₀ q₀ m held q′
     task-offered o =
         action-offered l s (getD rules (8 * r + 6) 0) _ (x .tabled .ruleTable .action r known) (x .tabled .counts .scoped .action r) o

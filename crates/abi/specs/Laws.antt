@@ -1,0 +1,2 @@
+-- Laws of what the calls for C return.
+pub mod Replies

@@ -1,0 +1,49 @@
+-- The replies of the six calls as a host in C sees them. Assumes nothing.
+use Prim.Native.Nat.{ℕ}
+use mathlib.Core.List.{List, [], _∷_}
+use lib.IntN.{ℤ}
+use Rattle.refusals.specs.Outcome.{Outcome}
+use Rattle.pool.specs.declared.State.{State}
+use Rattle.pool.specs.States.{Memory}
+use Rattle.engine.specs.Calls.{Answer, Reply, Section}
+use Rattle.engine.specs.Answers.{Numbers, numbersOf}
+
+-- the number that a function returns, 0 when the call is accepted, and the lent array of five: the place, then the answer numbers
+pub record Answered : Type 0 where
+  pub number : ℕ
+  pub answer : List ℕ
+
+abbrev pub answeredOf : ℕ → List ℕ → Answered
+answeredOf number answer = record { number = number; answer = answer }
+
+abbrev pub arrayOf : Numbers → Answered
+arrayOf n = answeredOf (n .number) (n .place ∷ n .values)
+
+-- an outcome as it is returned
+abbrev pub answered : Outcome Answer → Answered
+answered o = arrayOf (numbersOf o)
+
+-- a call that works on a state and a pool: what lies behind the pointers afterwards
+pub record Returned : Type 0 where
+  pub answered : Answered
+  pub memory : Memory
+
+abbrev pub memoryAt : List ℤ → ℕ → List ℤ → Memory
+memoryAt values pending pool = record { state = record { values = values; pending = pending }; pool = pool }
+
+abbrev pub returnedOf : ℕ → List ℕ → Memory → Returned
+returnedOf number answer memory = record { answered = answeredOf number answer; memory = memory }
+
+abbrev pub returned : Reply → Returned
+returned r = record { answered = answered (r .answer); memory = r .memory }
+
+-- section: the stretch, the number and the array, whose answer numbers are all 0
+pub record ReturnedSection : Type 0 where
+  pub stretch : List ℕ
+  pub answered : Answered
+
+abbrev pub returnedSectionOf : List ℕ → ℕ → List ℕ → ReturnedSection
+returnedSectionOf stretch number answer = record { stretch = stretch; answered = answeredOf number answer }
+
+abbrev pub returnedSection : Section → ReturnedSection
+returnedSection s = returnedSectionOf (s .stretch) (s .number) (s .place ∷ 0 ∷ 0 ∷ 0 ∷ 0 ∷ [])

@@ -1,0 +1,197 @@
+// The six calls for C, and so for C++ and Rust: `include/reaction.h` describes them. Each returns the refusal's number, 0 when the
+// call is accepted, and writes the place and the answer numbers into a lent array of five.
+ghost use mathlib.Core.Path.{_≡_};
+ghost use mathlib.Core.List.{[], _∷_};
+ghost use Rattle.engine.specs.Calls as Calls;
+ghost use Rattle.abi.specs.Returned.{answeredOf, answered, memoryAt, returnedOf, returned, returnedSectionOf, returnedSection};
+use deck::Deck;
+use pool::State;
+
+// The place, then the answer numbers.
+fn write(answer: &mut [u32; 5], place: u32, first: u32, second: u32, third: u32, fourth: u32)
+    ensures { λ _. ⌜ now (answer .exit) ≡ place ∷ first ∷ second ∷ third ∷ fourth ∷ [] ⌝ }
+{
+    *answer = [place, first, second, third, fourth];
+}
+
+// The state that a host holds.
+fn held(values: &[i32; Deck::VALUES], pending: u32) -> State
+    ensures { λ r. ⌜ (r .values ≡ now (values .entry)) × (r .pending ≡ pending) ⌝ }
+{
+    let v = *values;
+    State {
+        values: v,
+        pending: pending,
+    }
+}
+
+// A state, where the host holds it.
+fn store(values: &mut [i32; Deck::VALUES], pending: &mut u32, state: State)
+    ensures { λ _. ⌜ (now (values .exit) ≡ state .values) × (now (pending .exit) ≡ state .pending) ⌝ }
+{
+    let v = state.values;
+    *values = v;
+    *pending = state.pending;
+}
+
+#[no_mangle]
+pub extern "C" fn reaction_check(deck: &[u8], answer: &mut [u32; 5]) -> u32
+    ensures { λ r. ⌜ answeredOf r (now (answer .exit)) ≡ answered (Calls.check (now (deck .entry))) ⌝ }
+{
+    let made = engine::check(deck);
+    match made {
+        engine::CheckAnswer::Passed {
+            channels,
+            rules,
+            parts,
+            charge,
+        } => {
+            write(answer, 0, channels, rules, parts, charge);
+            0
+        }
+        engine::CheckAnswer::Refused { number, place } => {
+            write(answer, place, 0, 0, 0, 0);
+            number
+        }
+    }
+}
+
+// An exported function returns no reference: the stretch goes out through a lent one.
+#[no_mangle]
+pub extern "C" fn reaction_section<'a>(
+    deck: &'a [u8],
+    number: u32,
+    stretch: &mut &'a [u8],
+    answer: &mut [u32; 5],
+) -> u32
+    ensures { λ r. ⌜ returnedSectionOf (now (now (stretch .exit))) r (now (answer .exit)) ≡ returnedSection (Calls.section (now (deck .entry)) number) ⌝ }
+{
+    let mut refusal: u32 = 0;
+    let mut place: u32 = 0;
+    let part = engine::section(deck, number, &mut refusal, &mut place);
+    *stretch = part;
+    write(answer, place, 0, 0, 0, 0);
+    refusal
+}
+
+// The state is always written: zeros where the call is refused.
+#[no_mangle]
+pub extern "C" fn reaction_start(
+    deck: &[u8],
+    pool: &mut [i32],
+    values: &mut [i32; Deck::VALUES],
+    pending: &mut u32,
+    answer: &mut [u32; 5],
+) -> u32
+    ensures { λ r. ⌜ returnedOf r (now (answer .exit)) (memoryAt (now (values .exit)) (now (pending .exit)) (now (pool .exit))) ≡ returned (Calls.start (now (deck .entry)) (now (pool .entry))) ⌝ }
+{
+    let made = engine::start(deck, pool);
+    let state = made.state;
+    store(values, pending, state);
+    let reply = made.answer;
+    match reply {
+        engine::StartAnswer::Started => {
+            write(answer, 0, 0, 0, 0, 0);
+            0
+        }
+        engine::StartAnswer::Refused { number, place } => {
+            write(answer, place, 0, 0, 0, 0);
+            number
+        }
+    }
+}
+
+#[no_mangle]
+pub extern "C" fn reaction_input(
+    deck: &[u8],
+    pool: &mut [i32],
+    values: &mut [i32; Deck::VALUES],
+    pending: &mut u32,
+    part: u32,
+    pairs: &[i32],
+    answer: &mut [u32; 5],
+) -> u32
+    ensures { λ r. ⌜ returnedOf r (now (answer .exit)) (memoryAt (now (values .exit)) (now (pending .exit)) (now (pool .exit))) ≡ returned (Calls.input (now (deck .entry)) (memoryAt (now (values .entry)) (now (pending .entry)) (now (pool .entry))) part (now (pairs .entry))) ⌝ }
+{
+    let state = held(values, *pending);
+    let made = engine::input(deck, pool, state, part, pairs);
+    let later = made.state;
+    let reply = made.answer;
+    match reply {
+        engine::InputAnswer::Added(charge) => {
+            store(values, pending, later);
+            write(answer, 0, charge, 0, 0, 0);
+            0
+        }
+        engine::InputAnswer::Refused { number, place } => {
+            write(answer, place, 0, 0, 0, 0);
+            number
+        }
+    }
+}
+
+#[no_mangle]
+pub extern "C" fn reaction_commit(
+    deck: &[u8],
+    pool: &mut [i32],
+    values: &mut [i32; Deck::VALUES],
+    pending: &mut u32,
+    place: u32,
+    answer: &mut [u32; 5],
+) -> u32
+    ensures { λ r. ⌜ returnedOf r (now (answer .exit)) (memoryAt (now (values .exit)) (now (pending .exit)) (now (pool .exit))) ≡ returned (Calls.commit (now (deck .entry)) (memoryAt (now (values .entry)) (now (pending .entry)) (now (pool .entry))) place) ⌝ }
+{
+    let state = held(values, *pending);
+    let made = engine::commit(deck, pool, state, place);
+    let later = made.state;
+    let reply = made.answer;
+    match reply {
+        engine::CommitAnswer::Applied(charge) => {
+            store(values, pending, later);
+            write(answer, 0, 1, charge, 0, 0);
+            0
+        }
+        engine::CommitAnswer::Discarded(charge) => {
+            store(values, pending, later);
+            write(answer, 0, 0, charge, 0, 0);
+            0
+        }
+        engine::CommitAnswer::Refused { number, place: p } => {
+            write(answer, p, 0, 0, 0, 0);
+            number
+        }
+    }
+}
+
+#[no_mangle]
+pub extern "C" fn reaction_settle(
+    deck: &[u8],
+    pool: &mut [i32],
+    values: &mut [i32; Deck::VALUES],
+    pending: &mut u32,
+    budget: u32,
+    answer: &mut [u32; 5],
+) -> u32
+    ensures { λ r. ⌜ returnedOf r (now (answer .exit)) (memoryAt (now (values .exit)) (now (pending .exit)) (now (pool .exit))) ≡ returned (Calls.settle (now (deck .entry)) (memoryAt (now (values .entry)) (now (pending .entry)) (now (pool .entry))) budget) ⌝ }
+{
+    let state = held(values, *pending);
+    let made = engine::settle(deck, pool, state, budget);
+    let later = made.state;
+    let reply = made.answer;
+    match reply {
+        engine::SettleAnswer::Settled(commits) => {
+            store(values, pending, later);
+            write(answer, 0, commits, 1, 0, 0);
+            0
+        }
+        engine::SettleAnswer::Spent(commits) => {
+            store(values, pending, later);
+            write(answer, 0, commits, 0, 0, 0);
+            0
+        }
+        engine::SettleAnswer::Refused { number, place } => {
+            write(answer, place, 0, 0, 0, 0);
+            number
+        }
+    }
+}

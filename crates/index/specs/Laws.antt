@@ -1,0 +1,5 @@
+-- Laws of the index.
+pub mod Last
+pub mod Lowered
+pub mod Indexed
+pub mod Keys

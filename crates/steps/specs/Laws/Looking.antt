@@ -1,0 +1,169 @@
+-- An update of the pool: what stands at its place, and what is left without it. Assumes nothing.
+use Prim.Native.Nat.{ℕ, suc, _+_, _*_, _-_, _/_, _<_, _≤_}
+use mathlib.Core.Path.{_≡_, refl, sym, ap, _∙_, subst}
+use mathlib.Core.Bool.{true}
+use mathlib.Core.List.{List, [], _∷_, _++_, append-nil}
+use native.Mathlib.Omega.{arith}
+use native.Mathlib.Nat.{le-refl}
+use lib.ListN.{length, take, drop, length-take, length-drop, drop-of-length-le}
+use lib.Seq.{take-all, drop-at}
+use lib.IntN.{ℤ}
+use Rattle.lists.specs.Lists.{all}
+use Rattle.lists.specs.Laws.Alls.{all-at}
+use Rattle.deck.specs.Deck.{Deck}
+use Rattle.charge.specs.Charge.{updateCharge}
+use Rattle.charge.specs.Memo.{Answered, capped}
+use Rattle.deck.specs.declared.Deck as Counted
+use Rattle.deck.specs.Laws.Shape.{shape-R, shape-N}
+use Rattle.pool.specs.Updates.{Update, channels, assign, charge}
+use Rattle.pool.specs.Places.{place, updateOf, wellWritten}
+use Rattle.pool.specs.States.{known}
+use Rattle.pool.specs.Moves.{removed, Laid}
+use Rattle.pool.specs.Laws.Places.{short, update-back, place-length, place-well}
+use Rattle.pool.specs.Laws.Laid.{laid-removed, removed-length, laid-pick, laid-front}
+use Rattle.states.specs.Answer.{Holds, PlaceGives}
+use Rattle.firing.specs.Firing.{pick, without}
+use Rattle.firing.specs.Laws.Commits.{without-charge}
+use Rattle.passing.specs.Judged.{shape}
+use Rattle.index.specs.Hash.{bucketOf}
+use Rattle.index.specs.Index.{headsOf, Indexed, keysOf, forgotten}
+use Rattle.index.specs.Laws.Indexed.{indexed-front, indexed-forgotten, forgotten-length}
+use Rattle.index.specs.Laws.Keys.{keys-length, keys-without}
+use Rattle.steps.specs.Queue.{heldOf, Kept, SameSize}
+use Rattle.steps.specs.Commits.{Appliable, Looking, Looks}
+
+module _ (e : Deck) (pool : List ℤ) (us : List Update) (l : Laid pool us) (j : ℕ) (h : j < length us) where
+  -- the numbers of place j
+  abbrev row : List ℤ
+  row = take 10 (drop (10 * j) pool)
+
+  taken-place : row ≡ place (pick j us)
+  unfolding pick
+  taken-place = laid-pick l j h _
+
+  pub taken-update : updateOf row ≡ pick j us
+  taken-update = ap updateOf taken-place ∙ update-back (pick j us)
+
+  pub taken-holds : all (known e) us ≡ true → Holds e row
+  unfolding pick
+  taken-holds k =
+      subst (Holds e) (sym taken-place)
+      (record {
+        long = place-length (pick j us) (all-at short us j _ (l .short) h);
+        written = place-well (pick j us);
+        known = ap (known e) (update-back (pick j us)) ∙ all-at (known e) us j _ k h;
+      })
+
+  pub taken-laid : Laid (removed pool (length us) j) (without j us)
+  unfolding without
+  taken-laid = laid-removed l j h
+
+  pub taken-charge : (c total : ℕ) → c ≡ capped (updateCharge e (pick j us .part) (channels (pick j us))) → total ≡ charge e us → total ≤ 65535
+      → (c ≤ total) × (total - c ≡ charge e (without j us))
+  taken-charge c total same t low =
+      let whole = without-charge e j us h in
+      (omega (arith, same, whole, t, low), omega (arith, same, whole, t, low))
+
+-- the same for what the code is lent
+module _ {k : Counted.Deck} {rules parts memo : List ℕ} {pool : List ℤ} {pending j : ℕ}
+    (w : Looking k rules parts memo pool pending j) where
+  abbrev e : Deck
+  e = shape rules parts k
+
+  abbrev numbers : List ℤ
+  numbers = take 10 (drop (10 * j) pool)
+
+  inside : j < length (w .us)
+  inside = omega (arith, w .place, w .count)
+
+  pub looking-holds : Holds e numbers
+  looking-holds = taken-holds e pool (w .us) (w .laid) j inside (w .known)
+
+  pub looking-appliable : Appliable numbers (k .parts)
+  looking-appliable =
+      let parts-same = shape-N rules parts (k .channels) (k .rules) (k .parts) in
+      let channels-same = shape-R rules parts (k .channels) (k .rules) (k .parts) in
+      (e, looking-holds, parts-same, omega (arith, parts-same, w .ready .tables .few-parts), omega (arith, channels-same, w .few))
+
+  pub looks : (vs : List ℤ) {c : ℕ} {m : List ℕ} {after : List ℤ} {part : ℕ} → PlaceGives e numbers m c
+      → (part ≡ updateOf numbers .part) × (after ≡ assign (updateOf numbers .part) (updateOf numbers .pairs) vs)
+      → Looks e j vs pool m part after c
+  looks vs {c} {m} g a =
+      record {
+        result = λ us l h.
+            let u = taken-update e pool us l j h in (
+              a .0 ∙ ap (λ u. u .part) u,
+              a .1 ∙ ap (λ u. assign (u .part) (u .pairs) vs) u,
+              g .value ∙ ap (λ u. capped (updateCharge e (u .part) (channels u))) u,
+            );
+        memo = g .memo;
+      }
+
+-- ---- the others
+
+-- place j is taken out, and later places move down
+module _ (index : List ℕ) (pool : List ℤ) (us : List Update) (x : Kept (heldOf 0 index pool) us) (j : ℕ) (h : j < length us) where
+  heads : ℕ
+  heads = headsOf index
+
+  count : length (keysOf heads us) ≡ length us
+  count = keys-length heads us
+
+  links : headsOf index + length us ≤ length index
+  unfolding heads
+  links = omega (arith, x .indexed .room, count)
+
+  same-heads : headsOf (forgotten index (length us) j) ≡ heads
+  unfolding headsOf heads
+  same-heads = ap (λ n. n / 3) (forgotten-length index (length us) j h links)
+
+  others-indexed : Indexed 0 (take j (keysOf heads us) ++ drop (suc j) (keysOf heads us)) (forgotten index (length us) j)
+  unfolding heads
+  others-indexed =
+      subst (λ n. Indexed 0 (take j (keysOf heads us) ++ drop (suc j) (keysOf heads us)) (forgotten index n j)) count
+      (indexed-forgotten (x .indexed) j (omega (arith, count, h)))
+
+  pub without-kept : Kept (heldOf 0 (forgotten index (length us) j) (removed pool (length us) j)) (without j us)
+  unfolding without
+  without-kept =
+      record {
+        laid = laid-removed (x .laid) j h;
+        indexed =
+            subst (λ ks. Indexed 0 ks (forgotten index (length us) j))
+            (sym (keys-without heads j us) ∙ ap (λ n. keysOf n (take j us ++ drop (suc j) us)) (sym same-heads))
+            others-indexed;
+      }
+
+  pub without-size : SameSize (heldOf 0 index pool) (heldOf 0 (forgotten index (length us) j) (removed pool (length us) j))
+  without-size =
+      record {
+        gone = refl;
+        index = forgotten-length index (length us) j h links;
+        pool = removed-length (x .laid) j h;
+      }
+
+front-key : (n : ℕ) (us : List Update) → 0 < length us → keysOf n us ≡ bucketOf n (place (pick 0 us)) ∷ keysOf n (drop 1 us)
+unfolding keysOf pick
+front-key n [] h = absurd (omega arith)
+front-key n (u ∷ us) h = refl
+
+-- the one at the front is gone, and the others stay
+pub front-kept : (gone : ℕ) (index : List ℕ) (pool : List ℤ) (us : List Update) → Kept (heldOf gone index pool) us → 0 < length us
+    → Kept (heldOf (gone + 1) index (drop 10 pool)) (without 0 us)
+unfolding without
+front-kept gone index pool us x h =
+    record {
+      laid = laid-front us (x .laid) h;
+      indexed = indexed-front (subst (λ ks. Indexed gone ks index) (front-key (headsOf index) us h) (x .indexed));
+    }
+
+-- ---- a tail of the pool, as it is lent and as it comes back
+
+pub tail-lent : (p : List ℤ) (at : ℕ) → take (length p - at) (drop at p) ≡ drop at p
+tail-lent p at = take-all (length p - at) (drop at p) (simp length-drop (le-refl _))
+
+pub tail-back : (p t : List ℤ) (at : ℕ) → at ≤ length p → drop at (take at p ++ (t ++ drop (length p - at) (drop at p))) ≡ t
+tail-back p t at h =
+    drop-at (take at p) (t ++ drop (length p - at) (drop at p)) at (simp length-take (omega arith))
+    ∙ ap (λ r. t ++ r) (drop-of-length-le (drop at p) {i = length p - at} (simp length-drop (le-refl _)))
+    ∙ append-nil t

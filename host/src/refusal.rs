@@ -1,0 +1,64 @@
+//! Why a call declines.
+
+use std::error::Error;
+use std::fmt;
+
+/// Why a call declined: a number from 1 to 16, and where.
+///
+/// ```
+/// use reaction::Deck;
+///
+/// let refusal = Deck::check(&[]).unwrap_err();
+/// assert_eq!((refusal.number, refusal.place), (1, 0));
+/// assert_eq!(refusal.to_string(), "refused 1 0: the deck ends inside a field or expression");
+/// ```
+#[derive(Clone, Copy, Debug, PartialEq, Eq, Hash)]
+pub struct Refusal {
+    /// Which refusal it is.
+    pub number: u32,
+    /// For 1 the deck's length; for 2 to 5 an offset into the deck; for 6 the part; for 7 the channel; for 8
+    /// 64 times part + rule; otherwise 0.
+    pub place: u32,
+}
+
+/// What the refusals 1 to 16 say.
+const NAMES: [&str; 16] = [
+    "the deck ends inside a field or expression",
+    "a number of the deck is out of its range, or a list does not rise",
+    "an expression breaks its rules",
+    "a target stands twice in an action",
+    "bytes follow the last section",
+    "a part opens outside its limit",
+    "the dependency graph has a cycle",
+    "a carried rule's charge is above 65,535",
+    "the pool's length is not a multiple of 10 from 10 to 655,350",
+    "the state is not a good one",
+    "there is no such part",
+    "the input is not 1 to 32 pairs of known, different channels",
+    "the charge after the input would exceed the pool's places",
+    "the place is not pending",
+    "the section number is above 2",
+    "the budget is above 65,535",
+];
+
+impl Refusal {
+    /// What the refusal says, in words.
+    ///
+    /// ```
+    /// use reaction::Refusal;
+    ///
+    /// assert_eq!(Refusal { number: 14, place: 0 }.name(), "the place is not pending");
+    /// ```
+    pub fn name(&self) -> &'static str {
+        let index = (self.number as usize).wrapping_sub(1);
+        NAMES.get(index).copied().unwrap_or("no refusal of the engine")
+    }
+}
+
+impl fmt::Display for Refusal {
+    fn fmt(&self, f: &mut fmt::Formatter) -> fmt::Result {
+        write!(f, "refused {} {}: {}", self.number, self.place, self.name())
+    }
+}
+
+impl Error for Refusal {}

@@ -1,0 +1,89 @@
+/* The reaction engine: six calls over memory that the host owns.
+ *
+ * Every call returns the number of its refusal, or 0 when it is accepted. Whatever the numbers behind the pointers are, a call
+ * ends with one or the other. A refused call changes nothing but `answer` (and reaction_section its stretch, reaction_start the
+ * state, which becomes zeros).
+ *
+ * Number  Refusal                                                             Place, answer[0]
+ *      1  the deck ends inside a field or expression                          the deck's length
+ *      2  a count, label, kind, length, or channel or rule number is out      offset of the byte
+ *         of range, or a list does not rise
+ *      3  an expression breaks its rules                                      offset of its first byte
+ *      4  a target stands twice in an action                                  offset of the second
+ *      5  bytes follow the last section                                       offset of the first
+ *      6  a part opens outside its limit                                      the lowest such part
+ *      7  the dependency graph has a cycle                                    the lowest channel on one
+ *      8  a carried rule's charge is above 65,535                             the lowest 64 * part + rule
+ *      9  the pool's length is not a multiple of 10 from 10 to 655,350        0
+ *     10  the state is not a good one                                         0
+ *     11  there is no such part                                               0
+ *     12  the input is not 1 to 32 pairs of known, different channels         0
+ *     13  the charge after the input would exceed the pool's places           0
+ *     14  the place is not pending                                            0
+ *     15  the section number is above 2                                       0
+ *     16  the budget is above 65,535                                          0
+ *
+ * Memory. `deck` and its length are the deck's bytes. `pool` and its length are the lent places, ten numbers each: part,
+ * assignment count, four pairs of channel and value. `values` (channel c of part p at 32 * p + c) and `*pending` are the state.
+ * What a call is lent must not overlap, and no other thread may write it during the call; a null pointer is allowed only with a
+ * length of 0. A call allocates nothing and keeps no pointer. It needs up to 256 KiB of stack.
+ *
+ * Answer. `answer[0]` is the refusal's place, 0 when the call is accepted. The other four are the call's answer numbers, in the
+ * order below, and 0 where it has none or was refused.
+ */
+#ifndef REACTION_H
+#define REACTION_H
+
+#include <stddef.h>
+#include <stdint.h>
+
+#ifdef __cplusplus
+extern "C" {
+#endif
+
+enum {
+    REACTION_VALUES = 512,        /* numbers of a value table */
+    REACTION_CHANNELS = 32,       /* channels of a part in it */
+    REACTION_PLACE = 10,          /* numbers of a place of the pool */
+    REACTION_PLACES = 65535,      /* places of the longest pool */
+    REACTION_ANSWER = 5,          /* numbers of an answer */
+    REACTION_LONGEST_DECK = 42883 /* bytes of the longest deck that can pass */
+};
+
+/* A stretch of a deck: it points into the deck that the call was given. */
+typedef struct reaction_stretch {
+    const uint8_t *bytes;
+    size_t length;
+} reaction_stretch;
+
+/* Whether a deck passes. answer[1..4]: channels, rules, parts, the largest charge of any carried rule. */
+uint32_t reaction_check(const uint8_t *deck, size_t deck_length, uint32_t answer[REACTION_ANSWER]);
+
+/* The deck's section `number` (0 channels, 1 rules, 2 parts), from its count to its end; empty where refused. */
+uint32_t reaction_section(const uint8_t *deck, size_t deck_length, uint32_t number, reaction_stretch *stretch,
+                          uint32_t answer[REACTION_ANSWER]);
+
+/* The opening values, nothing pending, and the pool all 0. The state is written in any case: zeros where refused. */
+uint32_t reaction_start(const uint8_t *deck, size_t deck_length, int32_t *pool, size_t pool_length,
+                        int32_t values[REACTION_VALUES], uint32_t *pending, uint32_t answer[REACTION_ANSWER]);
+
+/* Sets channels of a part: `pairs` is channel, value, channel, value. answer[1]: the charge added. */
+uint32_t reaction_input(const uint8_t *deck, size_t deck_length, int32_t *pool, size_t pool_length,
+                        int32_t values[REACTION_VALUES], uint32_t *pending, uint32_t part, const int32_t *pairs,
+                        size_t pairs_length, uint32_t answer[REACTION_ANSWER]);
+
+/* Commits the update at a place of the pool. answer[1]: 1 applied, 0 discarded; answer[2]: the charge now pending. */
+uint32_t reaction_commit(const uint8_t *deck, size_t deck_length, int32_t *pool, size_t pool_length,
+                         int32_t values[REACTION_VALUES], uint32_t *pending, uint32_t place,
+                         uint32_t answer[REACTION_ANSWER]);
+
+/* Commits place 0 until none is pending or `budget` commits are made. answer[1]: commits made; answer[2]: 1 settled, 0 spent. */
+uint32_t reaction_settle(const uint8_t *deck, size_t deck_length, int32_t *pool, size_t pool_length,
+                         int32_t values[REACTION_VALUES], uint32_t *pending, uint32_t budget,
+                         uint32_t answer[REACTION_ANSWER]);
+
+#ifdef __cplusplus
+}
+#endif
+
+#endif
