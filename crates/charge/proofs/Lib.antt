@@ -1,5 +1,6 @@
 -- Laws that the proofs of the functions cite.
 pub mod Sets
+pub mod Columns
 pub mod Terms
 pub mod Heights
 pub mod Sums

@@ -148,6 +148,11 @@ pub share-most : (b : Bool) (total own : ℕ) → own ≤ total → cond b (tota
 share-most true total own l = omega arith
 share-most false total own l = l
 
+-- the total is needed for the others alone
+pub share-only : (b : Bool) (total own : ℕ) → cond b (cond b total 0 - own) own ≡ cond b (total - own) own
+share-only true total own = refl
+share-only false total own = refl
+
 -- ---- sums over the parts
 
 -- the part p, and the others

@@ -32,6 +32,3 @@ module _ {d : Deck} {x : ℕ} {f : ℕ → ℕ} {m : List ℕ} {s : ℕ} where
 
     pub more : {y z t : ℕ} {n : List ℕ} → f k ≡ y → Answered d y n z → t ≡ capped (s + z) → Summing d x f n t (k + 1)
     more q c e = record { sum = same (plus (h .sum) c e) (omega (arith, sum-next f k, q)) }
-
-    pub whole : (n : ℕ) → k ≡ n → Answered d (x + sum f (below n)) m s
-    whole n e = same (h .sum) (ap (λ j. x + sum f (below j)) e)

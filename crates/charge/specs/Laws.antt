@@ -4,3 +4,4 @@ pub mod Equations
 pub mod Largest
 pub mod Bound
 pub mod Shape
+pub mod Tables

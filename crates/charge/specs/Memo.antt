@@ -2,9 +2,9 @@
 use Prim.Native.Nat.{ℕ, suc, _+_, _*_, _-_, _/_, _%_, _≤_, _<_, min}
 use mathlib.Core.Path.{_≡_}
 use mathlib.Core.Logic.{_⊎_}
-use mathlib.Core.Bool.{Bool, _&&_, cond}
+use mathlib.Core.Bool.{Bool, _&&_, _||_, cond}
 use mathlib.Core.List.{List}
-use lib.Dec.{eqb}
+use lib.Dec.{eqb, ltb}
 use lib.ListN.{length, getD}
 use Rattle.lists.specs.Lists.{any, member, sum, below}
 use Rattle.lists.specs.Bits.{bit}
@@ -14,7 +14,32 @@ use Rattle.graph.specs.Masks.{carriedAt}
 use Rattle.graph.specs.Laws.Cycles.{KnownTargets, Acyclic}
 use Rattle.charge.specs.Charge.{unlessEmpty, updateCharge, ruleCharge}
 
--- what the reading pass and the test for cycles gave
+-- column 7 of row c has the carried rules that have channel c among their events
+pub record Noted (rules parts : List ℕ) (M N : ℕ) : Type 0 where
+  pub each : (c r : ℕ) → c < 32 → r < 64
+      → bit (getD rules (8 * c + 7) 0) r ≡ (ltb r M && (carriedAt parts N r && bit (getD rules (8 * r) 0) c))
+
+-- only column 7 differs
+pub record OthersKept (rules₀ rules : List ℕ) : Type 0 where
+  pub long : length rules ≡ length rules₀
+  pub each : (r k : ℕ) → k < 7 → getD rules (8 * r + k) 0 ≡ getD rules₀ (8 * r + k) 0
+
+-- it was cleared for all channels
+pub record Cleared (rules₀ rules : List ℕ) : Type 0 where
+  pub kept : OthersKept rules₀ rules
+  pub each : (c : ℕ) → c < 32 → getD rules (8 * c + 7) 0 ≡ 0
+
+-- rule r was added to it for the channels of the events
+pub record RuleNoted (events r : ℕ) (rules₀ rules : List ℕ) : Type 0 where
+  pub kept : OthersKept rules₀ rules
+  pub each : (c s : ℕ) → c < 32
+      → bit (getD rules (8 * c + 7) 0) s ≡ (bit (getD rules₀ (8 * c + 7) 0) s || bit events c && eqb s r)
+
+-- the rules that listen to a channel of the mask, by column 7
+pub record ListenersAre (rules : List ℕ) (mask s : ℕ) : Type 0 where
+  pub each : (r : ℕ) → bit s r ≡ any (λ c. bit (getD rules (8 * c + 7) 0) r) (bitsOf 32 mask)
+
+-- what the reading pass and the test for cycles gave, with the listeners noted
 pub record AcyclicTables (rules parts : List ℕ) (R M N : ℕ) : Type 0 where
   pub rules-long : 512 ≤ length rules
   pub parts-long : 64 ≤ length parts
@@ -22,6 +47,7 @@ pub record AcyclicTables (rules parts : List ℕ) (R M N : ℕ) : Type 0 where
   pub few-parts : N ≤ 16
   pub acyclic : Acyclic (shapeOf rules parts R M N)
   pub known : KnownTargets (shapeOf rules parts R M N)
+  pub noted : Noted rules parts M N
 
 -- exact below 65,536, the first number above the bound
 abbrev pub capped : ℕ → ℕ
@@ -57,6 +83,10 @@ hearing rules parts p r mask =
 abbrev pub listening : List ℕ → List ℕ → ℕ → ℕ → ℕ → Bool
 listening rules parts N r mask =
     any (λ c. member c (bitsOf 32 (getD rules (8 * r) 0))) (bitsOf 32 mask) && carriedAt parts N r
+
+-- the rules that are active at part p when the channels of the mask change
+pub record ActiveIs (rules parts : List ℕ) (M p mask s : ℕ) : Type 0 where
+  pub each : (r : ℕ) → r < M → bit s r ≡ hearing rules parts p r mask
 
 -- ---- rows: a number for each part
 

@@ -1,15 +1,16 @@
 // The charge of updates and rules, from the tables of a deck without cycles. The definitions are in specs/.
 ghost use mathlib.Core.Path.{_≡_};
-ghost use mathlib.Core.Bool.{true, cond, _&&_};
+ghost use mathlib.Core.Bool.{true, cond};
 ghost use Prim.Native.Nat.{_+_, _*_, _-_, _<_, _≤_, max};
-ghost use lib.Dec.{eqb, ltb};
+ghost use lib.Dec.{eqb};
 ghost use lib.ListN.{length, getD};
 ghost use Rattle.lists.specs.Lists.{sum, below};
 ghost use Rattle.lists.specs.Bits.{bit};
 ghost use Rattle.deck.specs.Shape.{shapeOf};
 ghost use Rattle.graph.specs.Masks.{carriedAt};
-ghost use Rattle.charge.specs.Memo.{AcyclicTables, Ready, UpdateGives, RulesGive, UpdatesGive, RowSmall, RowKnown, RowAdded, RowPut, hearing, listening, capped};
-ghost use Rattle.charge.specs.Answer.{boundOf};
+ghost use Rattle.charge.specs.Memo.{Noted, OthersKept, Cleared, RuleNoted, ListenersAre, AcyclicTables, Memo, Ready, UpdateGives, RulesGive, UpdatesGive, ActiveIs, RowSmall, RowKnown, RowAdded, RowPut, capped};
+ghost use Rattle.charge.specs.Answer.{boundOf, Passed, PartBound};
+use deck::Deck;
 
 // The largest charge of a carried rule; or the lowest place, 64 times part + rule, of one above 65,535.
 pub enum Bound {
@@ -26,6 +27,59 @@ fn capped_sum(a: u32, b: u32) -> u32
     if s < 65536 { s } else { 65536 }
 }
 
+// No rule listens to any channel: column 7 of the rules is for that.
+fn clear_listeners(rules: &mut [u64])
+    requires { ⌜ 512 ≤ length (now rules) ⌝ }
+    ensures { λ _. ⌜ Cleared (now (rules .entry)) (now (rules .exit)) ⌝ }
+{
+    let mut c: usize = 0;
+    while c < Deck::CHANNELS {
+        rules[8 * c + 7] = 0;
+        c += 1;
+    }
+}
+
+// Rule r listens to every channel of its events.
+fn note_rule(rules: &mut [u64], events: u64, r: usize)
+    requires { ⌜ (512 ≤ length (now rules)) × (r < 64) ⌝ }
+    ensures { λ _. ⌜ RuleNoted events r (now (rules .entry)) (now (rules .exit)) ⌝ }
+{
+    let mut c = lists::next_in(events, 0);
+    while c < Deck::CHANNELS {
+        rules[8 * c + 7] = rules[8 * c + 7] | (1u64 << r);
+        c = lists::next_in(events, c + 1);
+    }
+}
+
+// The carried rules that listen to each channel, in column 7.
+pub fn note_listeners(rules: &mut [u64], parts: &[u64], count: usize, parts_count: usize)
+    requires { ⌜ (512 ≤ length (now rules)) × (64 ≤ length (now parts)) × (count ≤ 64) × («parts_count» ≤ 16) ⌝ }
+    ensures { λ _. ⌜ OthersKept (now (rules .entry)) (now (rules .exit)) × Noted (now (rules .exit)) (now (parts .entry)) count «parts_count» ⌝ }
+{
+    clear_listeners(rules);
+    let carried = graph::carried_by_some(parts, parts_count);
+    let mut r = lists::next_in(carried, 0);
+    while r < count {
+        let events = rules[8 * r];
+        note_rule(rules, events, r);
+        r = lists::next_in(carried, r + 1);
+    }
+}
+
+// The rules that listen to a channel of the mask, as a set.
+fn listeners(rules: &[u64], mask: u64) -> u64
+    requires { ⌜ 512 ≤ length (now rules) ⌝ }
+    ensures { λ s. ⌜ ListenersAre (now (rules .entry)) mask s ⌝ }
+{
+    let mut set: u64 = 0;
+    let mut c = lists::next_in(mask, 0);
+    while c < Deck::CHANNELS {
+        set = set | rules[8 * c + 7];
+        c = lists::next_in(mask, c + 1);
+    }
+    set
+}
+
 // Whether part p carries rule r.
 fn carries(parts: &[u64], p: usize, r: usize) -> bool
     requires { ⌜ (64 ≤ length (now parts)) × (p < 16) × (r < 64) ⌝ }
@@ -35,30 +89,20 @@ fn carries(parts: &[u64], p: usize, r: usize) -> bool
     (carried >> r) % 2 == 1
 }
 
-// Whether part p carries rule r, and the rule has a channel of the mask among its events.
-pub fn hears(rules: &[u64], parts: &[u64], p: usize, r: usize, mask: u64) -> bool
-    requires { ⌜ (512 ≤ length (now rules)) × (64 ≤ length (now parts)) × (p < 16) × (r < 64) ⌝ }
-    ensures { λ b. ⌜ b ≡ hearing (now (rules .entry)) (now (parts .entry)) p r mask ⌝ }
+// The rules that are active at part p when the channels in the mask change, as a set.
+pub fn active(
+    rules: &[u64],
+    parts: &[u64],
+    channels: usize,
+    count: usize,
+    parts_count: usize,
+    p: usize,
+    mask: u64,
+) -> u64
+    requires { ⌜ AcyclicTables (now rules) (now parts) channels count «parts_count» × (p < «parts_count») ⌝ }
+    ensures { λ s. ⌜ ActiveIs (now (rules .entry)) (now (parts .entry)) count p mask s ⌝ }
 {
-    if carries(parts, p, r) {
-        let events = rules[8 * r];
-        let common = events & mask & 4294967295;
-        if common == 0 { false } else { true }
-    } else {
-        false
-    }
-}
-
-// Whether a rule that some part carries has a channel of the mask among its events.
-fn listens(rules: &[u64], parts: &[u64], parts_count: usize, r: usize, mask: u64) -> bool
-    requires { ⌜ (512 ≤ length (now rules)) × (64 ≤ length (now parts)) × («parts_count» ≤ 16) × (r < 64) ⌝ }
-    ensures { λ b. ⌜ b ≡ listening (now (rules .entry)) (now (parts .entry)) «parts_count» r mask ⌝ }
-{
-    let common = rules[8 * r] & mask & 4294967295;
-    if common == 0 {
-        return false;
-    }
-    graph::is_carried(parts, parts_count, r)
+    listeners(rules, mask) & parts[4 * p]
 }
 
 // Row r of the memo added to the charges of an update, at the parts that carry rule r.
@@ -91,14 +135,13 @@ fn update_charges(
     if mask & 4294967295 == 0 {
         return [0u32; 16];
     }
+    let set = listeners(rules, mask);
     let mut sums = [1u32; 16];
-    let mut r: usize = 0;
+    let mut r = lists::next_in(set, 0);
     while r < count {
-        if listens(rules, parts, parts_count, r, mask) {
-            rule_charges(rules, parts, memo, channels, count, parts_count, r);
-            add_row(&mut sums, parts, memo, parts_count, r);
-        }
-        r += 1;
+        rule_charges(rules, parts, memo, channels, count, parts_count, r);
+        add_row(&mut sums, parts, memo, parts_count, r);
+        r = lists::next_in(set, r + 1);
     }
     sums
 }
@@ -117,9 +160,21 @@ fn row_sum(row: &[u32], parts_count: usize) -> u32
     total
 }
 
+// The same where the kind of a rule needs it, else 0.
+fn total_for(kind: u64, row: &[u32], parts_count: usize) -> u32
+    requires { ⌜ RowSmall 64 (now row) × («parts_count» ≤ 16) ⌝ }
+    ensures { λ s. ⌜ s ≡ cond (eqb kind 1) (sum (λ q. getD (now (row .entry)) q 0) (below «parts_count»)) 0 ⌝ }
+{
+    if kind == 1 {
+        row_sum(row, parts_count)
+    } else {
+        0
+    }
+}
+
 // What the action adds to the charge of a rule of this kind at a part: its charge there, or at all other parts.
 fn share(kind: u64, total: u32, own: u32) -> u32
-    requires { ⌜ own ≤ total ⌝ }
+    requires { ⌜ (kind ≡ 1 → own ≤ total) ⌝ }
     ensures { λ s. ⌜ s ≡ cond (eqb kind 1) (total - own) own ⌝ }
 {
     if kind == 1 { total - own } else { own }
@@ -130,7 +185,7 @@ fn put_row(memo: &mut [u32], parts_count: usize, r: usize, kind: u64, first: &[u
     requires { ⌜ (length (now memo) ≡ 1024) × («parts_count» ≤ 16) × (r < 64) × RowSmall 64 (now first) × RowSmall 64 (now second) ⌝ }
     ensures { λ _. ⌜ RowPut «parts_count» r kind (now (first .entry)) (now (second .entry)) (now (memo .entry)) (now (memo .exit)) ⌝ }
 {
-    let total = row_sum(second, parts_count);
+    let total = total_for(kind, second, parts_count);
     let mut p: usize = 0;
     while p < parts_count {
         let rest = share(kind, total, second[p]);
@@ -163,6 +218,25 @@ fn rule_charges(
     put_row(memo, parts_count, r, rules[8 * r + 3], &first, &second);
 }
 
+// The charges of rule r at all parts, if they are not in the memo yet. Mostly they are, and this test costs no call.
+fn known_charges(
+    rules: &[u64],
+    parts: &[u64],
+    memo: &mut [u32],
+    channels: usize,
+    count: usize,
+    parts_count: usize,
+    r: usize,
+)
+    requires { ⌜ Ready (now rules) (now parts) channels count «parts_count» (now memo) × (r < count) × (carriedAt (now parts) «parts_count» r ≡ true) ⌝ }
+    ensures { λ _. ⌜ RulesGive (now (rules .entry)) (now (parts .entry)) channels count «parts_count» r (now (memo .entry)) (now (memo .exit)) ⌝ }
+{
+    if memo[16 * r] != 0 {
+        return;
+    }
+    rule_charges(rules, parts, memo, channels, count, parts_count, r);
+}
+
 // The charge at part p of an update of the channels in the mask, up to 65,536.
 pub fn update_charge(
     rules: &[u64],
@@ -177,28 +251,15 @@ pub fn update_charge(
     requires { ⌜ Ready (now rules) (now parts) channels count «parts_count» (now memo) × (p < «parts_count») ⌝ }
     ensures { λ s. ⌜ UpdateGives (now (rules .entry)) (now (parts .entry)) channels count «parts_count» p mask (now (memo .exit)) s ⌝ }
 {
+    let set = active(rules, parts, channels, count, parts_count, p, mask);
     let mut total: u32 = 1;
-    let mut r: usize = 0;
+    let mut r = lists::next_in(set, 0);
     while r < count {
-        if hears(rules, parts, p, r, mask) {
-            rule_charges(rules, parts, memo, channels, count, parts_count, r);
-            total = capped_sum(total, memo[16 * r + p] - 1);
-        }
-        r += 1;
+        known_charges(rules, parts, memo, channels, count, parts_count, r);
+        total = capped_sum(total, memo[16 * r + p] - 1);
+        r = lists::next_in(set, r + 1);
     }
     total
-}
-
-// Whether there is a rule r, and part p carries it.
-fn is_carried(parts: &[u64], count: usize, p: usize, r: usize) -> bool
-    requires { ⌜ (64 ≤ length (now parts)) × (p < 16) × (r < 64) ⌝ }
-    ensures { λ b. ⌜ b ≡ (ltb r count && bit (getD (now (parts .entry)) (4 * p) 0) r) ⌝ }
-{
-    if r < count {
-        carries(parts, p, r)
-    } else {
-        false
-    }
 }
 
 fn larger(a: u32, b: u32) -> u32
@@ -207,32 +268,60 @@ fn larger(a: u32, b: u32) -> u32
     if a < b { b } else { a }
 }
 
-// The bound on the charges of the carried rules, lowest place first.
+// The same at one part, behind the largest charge so far.
+fn part_above(
+    rules: &[u64],
+    parts: &[u64],
+    memo: &mut [u32],
+    channels: usize,
+    count: usize,
+    parts_count: usize,
+    p: usize,
+    best: u32,
+) -> Bound
+    requires { ⌜ Ready (now rules) (now parts) channels count «parts_count» (now memo) × (p < «parts_count») × Passed (shapeOf (now rules) (now parts) channels count «parts_count») (64 * p) best ⌝ }
+    ensures { λ b. ⌜ PartBound (shapeOf (now (rules .entry)) (now (parts .entry)) channels count «parts_count») p b × Memo (shapeOf (now (rules .entry)) (now (parts .entry)) channels count «parts_count») (now (memo .exit)) ⌝ }
+{
+    let carried = parts[4 * p];
+    let mut most = best;
+    let mut r = lists::next_in(carried, 0);
+    while r < count {
+        known_charges(rules, parts, memo, channels, count, parts_count, r);
+        let c = memo[16 * r + p] - 1;
+        if c == 65536 {
+            return Bound::Above(64 * p + r);
+        }
+        most = larger(most, c);
+        r = lists::next_in(carried, r + 1);
+    }
+    Bound::Within(most)
+}
+
+// The bound on the charges of the carried rules, lowest place first. The memo is lent, and has then what was computed.
 pub fn first_above(
     rules: &[u64],
     parts: &[u64],
+    memo: &mut [u32],
     channels: usize,
     count: usize,
     parts_count: usize,
 ) -> Bound
-    requires { ⌜ AcyclicTables (now rules) (now parts) channels count «parts_count» ⌝ }
-    ensures { λ b. ⌜ b ≡ boundOf (shapeOf (now (rules .entry)) (now (parts .entry)) channels count «parts_count») ⌝ }
+    requires { ⌜ Ready (now rules) (now parts) channels count «parts_count» (now memo) ⌝ }
+    ensures { λ b. ⌜ (b ≡ boundOf (shapeOf (now (rules .entry)) (now (parts .entry)) channels count «parts_count»)) × Memo (shapeOf (now (rules .entry)) (now (parts .entry)) channels count «parts_count») (now (memo .exit)) ⌝ }
 {
-    let mut memo = [0u32; 1024];
     let mut best: u32 = 0;
-    let mut place: usize = 0;
-    while place < 64 * parts_count {
-        let p = place / 64;
-        let r = place % 64;
-        if is_carried(parts, count, p, r) {
-            rule_charges(rules, parts, &mut memo, channels, count, parts_count, r);
-            let c = memo[16 * r + p] - 1;
-            if c == 65536 {
+    let mut p: usize = 0;
+    while p < parts_count {
+        let bound = part_above(rules, parts, memo, channels, count, parts_count, p, best);
+        match bound {
+            Bound::Above(place) => {
                 return Bound::Above(place);
             }
-            best = larger(best, c);
+            Bound::Within(most) => {
+                best = most;
+            }
         }
-        place += 1;
+        p += 1;
     }
     Bound::Within(best)
 }

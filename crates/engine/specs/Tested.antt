@@ -22,10 +22,10 @@ use Rattle.states.specs.Answer.{Fresh, goodnessOf}
 use Rattle.states.specs.declared.Goodness.the-variants.{Good, Bad}
 use Rattle.passing.specs.Judged.{shape}
 use Rattle.passing.specs.Tabled.{deckOf}
-use Rattle.firing.specs.Firing.{setAndFire}
+use Rattle.firing.specs.Firing.{Commit, setAndFire, committed}
 use Rattle.steps.specs.Queue.{heldOf}
 use Rattle.steps.specs.Commits.{Stored, Committing}
-use Rattle.engine.specs.Calls.{Answer, added, settled, spent, Done, tested, goodInput, Settling, settling}
+use Rattle.engine.specs.Calls.{Answer, added, applied, discarded, settled, spent, Done, tested, goodInput, Settling, settling}
 use Rattle.engine.specs.Answers.{memoryOf}
 use Rattle.engine.specs.declared.Tested.{Tested}
 use Rattle.engine.specs.declared.Tested.the-variants.{Ready, Refused}
@@ -83,6 +83,10 @@ entered d C x p l =
       machine = setAndFire d p (pairsOf l) x;
     })))
 
+-- the answer of a commit
+abbrev pub committedAs : Bool → ℕ → Answer
+committedAs b now = cond b (applied now) (discarded now)
+
 -- the numbers that are left stand for the values and pending updates x
 pub record Left (x : Machine) (vs : List ℤ) (pending : ℕ) (pool : List ℤ) : Type 0 where
   pub values : vs ≡ x .values
@@ -99,6 +103,13 @@ abbrev pub Enters : List ℕ → List ℤ → ℕ → ℕ → List ℕ → List 
 Enters s vs₀ pending₀ total index₀ pool₀ p l answer vs pending pool =
     (x : Machine) → Stored (deckOf s) (capacity (length pool₀)) x vs₀ pending₀ total (heldOf 0 index₀ pool₀)
     → Leaves (entered (deckOf s) (capacity (length pool₀)) x p l) vs₀ pending₀ pool₀ answer vs pending pool
+
+-- what is left of a commit behind the tests, for a pending place
+abbrev pub CommitsAs : List ℕ → List ℤ → ℕ → ℕ → List ℕ → List ℤ → ℕ → Outcome Answer → List ℤ → ℕ → List ℤ → Type 0
+CommitsAs s vs₀ pending₀ total index₀ pool₀ k answer vs pending pool =
+    (x : Machine) → Stored (deckOf s) (capacity (length pool₀)) x vs₀ pending₀ total (heldOf 0 index₀ pool₀)
+    → (answer ≡ accepted (committedAs (committed (deckOf s) k x .applied) (charge (deckOf s) (committed (deckOf s) k x .machine .pending))))
+    × Left (committed (deckOf s) k x .machine) vs pending pool
 
 -- what a settle answers
 unfoldable pub settledAs : Settling → Answer

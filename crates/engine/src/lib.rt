@@ -2,7 +2,7 @@
 // An answer that comes with a state stands beside it.
 ghost use mathlib.Core.Path.{_≡_};
 ghost use mathlib.Core.Bool.{cond};
-ghost use Prim.Native.Nat.{_*_, _-_, _≤_};
+ghost use Prim.Native.Nat.{_*_, _-_, _≤_, _<_};
 ghost use lib.Dec.{eqb};
 ghost use lib.IntN.{pos};
 ghost use mathlib.Core.List.{_++_};
@@ -12,7 +12,7 @@ ghost use Rattle.pool.specs.Places.{zeros};
 ghost use Rattle.pool.specs.States.{goodLength};
 ghost use Rattle.engine.specs.Calls as Calls;
 ghost use Rattle.engine.specs.Answers.{checkOutcome, sectionOf, startOutcome, inputOutcome, commitOutcome, settleOutcome, memoryOf, replyOf};
-ghost use Rattle.engine.specs.Tested.{GoodInput, Usable, TestsState, Tests, Entering, Enters, Settles};
+ghost use Rattle.engine.specs.Tested.{GoodInput, Usable, TestsState, Tests, Entering, Enters, CommitsAs, Settles};
 ghost use Rattle.charge.specs.Memo.{Ready};
 ghost use Rattle.steps.specs.Queue.{heldOf};
 ghost use Rattle.steps.specs.Commits.{Committing};
@@ -93,7 +93,8 @@ pub fn check(deck: &[u8]) -> CheckAnswer
 {
     let mut rules = [0u64; 512];
     let mut parts = [0u64; 64];
-    let verdict = passing::judge(deck, &mut rules, &mut parts);
+    let mut memo = [0u32; 1024];
+    let verdict = passing::judge(deck, &mut rules, &mut parts, &mut memo);
     match verdict {
         Judged::Passing { counts, charge } => CheckAnswer::Passed {
             channels: counts.channels as u32,
@@ -115,7 +116,8 @@ pub fn section<'a>(deck: &'a [u8], number: u32, refusal: &mut u32, place: &mut u
 {
     let mut rules = [0u64; 512];
     let mut parts = [0u64; 64];
-    let judged = passing::judge(deck, &mut rules, &mut parts);
+    let mut memo = [0u32; 1024];
+    let judged = passing::judge(deck, &mut rules, &mut parts, &mut memo);
     match judged {
         Judged::Refused {
             number: n,
@@ -190,8 +192,9 @@ pub fn start(deck: &[u8], pool: &mut [i32]) -> Started
 {
     let mut rules = [0u64; 512];
     let mut parts = [0u64; 64];
+    let mut memo = [0u32; 1024];
     let mut values = [0i32; Deck::VALUES];
-    let found = passing::judge(deck, &mut rules, &mut parts);
+    let found = passing::judge(deck, &mut rules, &mut parts, &mut memo);
     match found {
         Judged::Refused { number, place } => start_refused(number, place),
         Judged::Passing { counts, charge: _ } => {
@@ -262,7 +265,7 @@ fn test_lent(
     requires { ⌜ (now rules ≡ replicate 512 0) × (now parts ≡ replicate 64 0) × (now memo ≡ replicate 1024 0) × Usable (length (now pool)) (now index) ⌝ }
     ensures { λ r. ⌜ Tests (now (deck .entry)) (now (rules .exit)) (now (parts .exit)) (now (memo .exit)) (now (index .exit)) (now (pool .entry)) (now (values .entry)) pending r ⌝ }
 {
-    let found = passing::judge(deck, rules, parts);
+    let found = passing::judge(deck, rules, parts, memo);
     match found {
         Judged::Refused { number, place } => Tested::Refused {
             number: number,
@@ -385,8 +388,7 @@ fn input_with(deck: &[u8], pool: &mut [i32], state: State, part: u32, pairs: &[i
     let mut rules = [0u64; 512];
     let mut parts = [0u64; 64];
     let mut memo = [0u32; 1024];
-    let values = state.values;
-    let found = test_lent(deck, &mut rules, &mut parts, &mut memo, index, pool, &values, state.pending);
+    let found = test_lent(deck, &mut rules, &mut parts, &mut memo, index, pool, &state.values, state.pending);
     match found {
         Tested::Refused { number, place } => Entered {
             answer: InputAnswer::Refused {
@@ -427,6 +429,34 @@ fn commit_answer(applied: bool, charge: u32) -> CommitAnswer
     }
 }
 
+// The commit of a pending place on what was tested.
+fn commit_tested(
+    deck: &[u8],
+    counts: Deck,
+    rules: &[u64],
+    parts: &[u64],
+    memo: &mut [u32],
+    index: &mut [u16],
+    pool: &mut [i32],
+    state: State,
+    charge: u32,
+    place: u32,
+) -> Committed
+    requires { ⌜ Entering (now deck) counts (now rules) (now parts) (now memo) (now index) (now pool) (state .values) (state .pending) charge × (place < state .pending) ⌝ }
+    ensures { λ r. ⌜ CommitsAs (now (deck .entry)) (state .values) (state .pending) charge (now (index .entry)) (now (pool .entry)) place (commitOutcome (r .answer)) (r .state .values) (r .state .pending) (now (pool .exit)) ⌝ }
+{
+    let capacity = (pool.len() / Deck::PLACE) as u32;
+    let mut before = state.values;
+    let mut values = state.values;
+    let step = steps::commit(deck, counts, rules, parts, memo, index, pool, capacity, &mut before, &mut values, state.pending as usize, charge, place as usize);
+    let answer = commit_answer(step.applied, step.charge);
+    let later = State {
+        values: values,
+        pending: step.pending as u32,
+    };
+    Committed { answer: answer, state: later }
+}
+
 // The commit with an index that is long enough for the pool.
 fn commit_with(deck: &[u8], pool: &mut [i32], state: State, place: u32, index: &mut [u16]) -> Committed
     requires { ⌜ Usable (length (now pool)) (now index) ⌝ }
@@ -435,8 +465,7 @@ fn commit_with(deck: &[u8], pool: &mut [i32], state: State, place: u32, index: &
     let mut rules = [0u64; 512];
     let mut parts = [0u64; 64];
     let mut memo = [0u32; 1024];
-    let values = state.values;
-    let found = test_lent(deck, &mut rules, &mut parts, &mut memo, index, pool, &values, state.pending);
+    let found = test_lent(deck, &mut rules, &mut parts, &mut memo, index, pool, &state.values, state.pending);
     match found {
         Tested::Refused { number, place: p } => Committed {
             answer: CommitAnswer::Refused {
@@ -455,14 +484,7 @@ fn commit_with(deck: &[u8], pool: &mut [i32], state: State, place: u32, index: &
                     state: state,
                 };
             }
-            let capacity = (pool.len() / Deck::PLACE) as u32;
-            let step = steps::commit(deck, counts, &rules, &parts, &mut memo, index, pool, capacity, state, charge, place as usize);
-            let answer = commit_answer(step.applied, step.charge);
-            let later = step.state;
-            Committed {
-                answer: answer,
-                state: later,
-            }
+            commit_tested(deck, counts, &rules, &parts, &mut memo, index, pool, state, charge, place)
         }
     }
 }
@@ -493,6 +515,17 @@ fn settle_answer(pending: u32, made: u32) -> SettleAnswer
     }
 }
 
+fn settle_done(values: [i32; Deck::VALUES], pending: u32, made: u32) -> Settled
+    ensures { λ r. ⌜ (settleOutcome (r .answer) ≡ accepted (cond (eqb pending 0) (Calls.settled made) (Calls.spent made))) × (r .state .values ≡ values) × (r .state .pending ≡ pending) ⌝ }
+{
+    let answer = settle_answer(pending, made);
+    let state = State {
+        values: values,
+        pending: pending,
+    };
+    Settled { answer: answer, state: state }
+}
+
 // Place 0 is committed until none is pending or the budget is used. What was tested once is not tested again, and the places
 // move down once, at the end.
 fn settle_tested(
@@ -511,23 +544,24 @@ fn settle_tested(
     requires { ⌜ Committing (now deck) counts (now rules) (now parts) (now memo) (heldOf 0 (now index) (now pool)) capacity (state .values) (state .pending) charge ⌝ }
     ensures { λ r. ⌜ Settles (now (deck .entry)) capacity (state .values) (state .pending) charge (now (index .entry)) (now (pool .entry)) budget (settleOutcome (r .answer)) (r .state .values) (r .state .pending) (now (pool .exit)) ⌝ }
 {
-    let mut later = state;
+    let mut before = state.values;
+    let mut values = state.values;
+    let mut pending = state.pending as usize;
     let mut total = charge;
     let mut made: u32 = 0;
     while made < budget {
-        if later.pending == 0 {
+        if pending == 0 {
             break;
         }
         let gone = made as usize;
         let from = Deck::PLACE * gone;
-        let step = steps::commit_front(deck, counts, rules, parts, memo, index, &mut pool[from..], gone, capacity - made, later, total);
-        later = step.state;
+        let step = steps::commit_front(deck, counts, rules, parts, memo, index, &mut pool[from..], gone, capacity - made, &mut before, &mut values, pending, total);
+        pending = step.pending;
         total = step.charge;
         made += 1;
     }
-    pool::shift(pool, Deck::PLACE * (made as usize), Deck::PLACE * (later.pending as usize));
-    let answer = settle_answer(later.pending, made);
-    Settled { answer: answer, state: later }
+    pool::shift(pool, Deck::PLACE * (made as usize), Deck::PLACE * pending);
+    settle_done(values, pending as u32, made)
 }
 
 // The settle with an index that is long enough for the pool.
@@ -538,8 +572,7 @@ fn settle_with(deck: &[u8], pool: &mut [i32], state: State, budget: u32, index: 
     let mut rules = [0u64; 512];
     let mut parts = [0u64; 64];
     let mut memo = [0u32; 1024];
-    let values = state.values;
-    let found = test_lent(deck, &mut rules, &mut parts, &mut memo, index, pool, &values, state.pending);
+    let found = test_lent(deck, &mut rules, &mut parts, &mut memo, index, pool, &state.values, state.pending);
     match found {
         Tested::Refused { number, place } => Settled {
             answer: SettleAnswer::Refused {

@@ -4,4 +4,5 @@ pub mod UnknownBytes
 pub mod Readings
 pub mod Evaluating
 pub mod Checking
+pub mod Leaves
 pub mod WholeAnswers

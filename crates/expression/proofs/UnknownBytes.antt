@@ -22,7 +22,7 @@ beyond : (n b : ℕ) → n ≤ b → ¬ (b ≡ n) → ¬ (b ≡ suc n) → ¬ (b
 beyond n b h n0 n1 n2 n3 n4 n5 n6 =
     after _ b (after _ b (after _ b (after _ b (after _ b (after _ b (after _ b h n0) n1) n2) n3) n4) n5) n6
 
-num-past : (b : ℕ) → 7 ≤ b → OfNum.Unknown ≡ numOp b
+pub num-past : (b : ℕ) → 7 ≤ b → OfNum.Unknown ≡ numOp b
 num-past b h =
     let e : suc (suc (suc (suc (suc (suc (suc (b - 7))))))) ≡ b = omega arith in
     subst (λ n. OfNum.Unknown ≡ numOp n) e refl

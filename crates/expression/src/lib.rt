@@ -2,13 +2,13 @@
 // The code goes over the bytes as they stand: it reads an operator and calls itself for each operand.
 
 ghost use mathlib.Core.Path.{_≡_};
-ghost use mathlib.Core.Bool.{not};
-ghost use Prim.Native.Nat.{_-_};
-ghost use lib.ListN.{length};
+ghost use mathlib.Core.Bool.{true, not};
+ghost use Prim.Native.Nat.{_-_, _<_};
+ghost use lib.ListN.{length, getD};
 ghost use Rattle.clamped.specs.Clamp.{negated};
 ghost use Rattle.expression.specs.Values.{arith, join, compare};
 ghost use Rattle.expression.specs.Reading.{numOp, truthOp, word, signed, literalAt, channelAt, wholeNum, wholeTruth};
-ghost use Rattle.expression.specs.Answers.{mapRead, Answers, scope, valueIn, numAt, truthAt, endOf, numEnd, truthEnd};
+ghost use Rattle.expression.specs.Answers.{mapRead, Answers, scope, valueIn, numAt, truthAt, numEnd, truthEnd};
 ghost use Rattle.expression.specs.Answers.{ofNum, ofTruth, ofEnd, endsAt, isGot, wholeNumValue, wholeTruthValue};
 
 // What two numbers make a number.
@@ -293,21 +293,37 @@ pub fn truth_at(s: &[u8], at: usize, own: &[i32], far: &[i32]) -> TruthAt
 
 // It answers the place after an expression, and 0 where there is none.
 
-// The end of a literal's four bytes.
-fn literal_end(s: &[u8], at: usize) -> usize
-    ensures { λ r. ⌜ ofEnd r ≡ endOf (literalAt (now (s .entry)) at) ⌝ }
+// The end of a literal or of a channel whose operator b, 0 to 2, stands at a place of s. The bound is looked up, not branched
+// on: which of them comes next is hard to predict.
+fn leaf_end(s: &[u8], at: usize, b: u8, own: usize, far: usize) -> usize
+    requires { ⌜ (at < length (now s)) × (b ≡ getD (now s) at 0) × (b < 3) ⌝ }
+    ensures { λ r. ⌜ Answers (numEnd (scope own far)) (now (s .entry)) at (ofEnd r) ⌝ }
 {
-    if left(s, at) < 4 { 0 } else { at + 4 }
+    let size = if b == 0 { 5 } else { 2 };
+    if s.len() - at < size {
+        return 0;
+    }
+    let bounds = [256, own, far];
+    if wide(s[at + 1]) < bounds[b as usize] {
+        at + size
+    } else {
+        0
+    }
 }
 
-// The end of a channel's number, of n that are known.
-fn channel_end(s: &[u8], at: usize, n: usize) -> usize
-    ensures { λ r. ⌜ ofEnd r ≡ endOf (channelAt n (now (s .entry)) at) ⌝ }
+// The end of an operand: a literal or a channel is passed without a call of `num_end`.
+fn operand_end(s: &[u8], at: usize, own: usize, far: usize) -> usize
+    ensures { λ r. ⌜ Answers (numEnd (scope own far)) (now (s .entry)) at (ofEnd r) ⌝ }
 {
     if s.len() <= at {
         return 0;
     }
-    if wide(s[at]) < n { at + 1 } else { 0 }
+    let b = s[at];
+    if b < 3 {
+        leaf_end(s, at, b, own, far)
+    } else {
+        num_end(s, at, own, far)
+    }
 }
 
 // The end of the number at a place of s, with so many own and far channels known.
@@ -317,18 +333,21 @@ pub fn num_end(s: &[u8], at: usize, own: usize, far: usize) -> usize
     if s.len() <= at {
         return 0;
     }
-    let op = num_op(s[at]);
-    let next = at + 1;
-    match op {
-        NumOp::Literal => literal_end(s, next),
-        NumOp::Own => channel_end(s, next, own),
-        NumOp::Far => channel_end(s, next, far),
-        NumOp::Two(_) => {
-            let n = num_end(s, next, own, far);
-            if n == 0 { 0 } else { num_end(s, n, own, far) }
-        }
-        NumOp::Negation => num_end(s, next, own, far),
-        NumOp::Unknown => 0,
+    let b = s[at];
+    if b < 3 {
+        return leaf_end(s, at, b, own, far);
+    }
+    if b > 6 {
+        return 0;
+    }
+    let n = operand_end(s, at + 1, own, far);
+    if b == 6 {
+        return n;
+    }
+    if n == 0 {
+        0
+    } else {
+        operand_end(s, n, own, far)
     }
 }
 
@@ -358,6 +377,147 @@ pub fn truth_end(s: &[u8], at: usize, own: usize, far: usize) -> usize
 
 // ---- whole expressions
 
+// Most expressions are one operator with leaves. To enter a function that calls itself costs more than to read a leaf, so
+// the functions for whole expressions look at the first operator themselves, and call those only for what is deeper.
+
+// Whether a literal or a channel stands at a place of s.
+fn is_leaf(s: &[u8], at: usize) -> bool
+    ensures { λ r. ⌜ (r ≡ true → (at < length (now (s .entry))) × (getD (now (s .entry)) at 0 < 3)) ⌝ }
+{
+    if s.len() <= at {
+        return false;
+    }
+    if s[at] < 3 { true } else { false }
+}
+
+// The value of a literal or of a channel.
+fn leaf_at(s: &[u8], at: usize, own: &[i32], far: &[i32]) -> NumAt
+    requires { ⌜ (at < length (now s)) × (getD (now s) at 0 < 3) ⌝ }
+    ensures { λ r. ⌜ Answers (numAt (now (own .entry)) (now (far .entry))) (now (s .entry)) at (ofNum r) ⌝ }
+{
+    let b = s[at];
+    let next = at + 1;
+    if b == 0 {
+        return literal_at(s, next);
+    }
+    if b == 1 {
+        return channel_at(s, next, own);
+    }
+    channel_at(s, next, far)
+}
+
+// The number that s begins with: a leaf, or an operator of two leaves, without a recursive call.
+fn first_num(s: &[u8], own: &[i32], far: &[i32]) -> NumAt
+    ensures { λ r. ⌜ Answers (numAt (now (own .entry)) (now (far .entry))) (now (s .entry)) 0 (ofNum r) ⌝ }
+{
+    if s.len() == 0 {
+        return NumAt::Nothing;
+    }
+    if is_leaf(s, 0) {
+        return leaf_at(s, 0, own, far);
+    }
+    let op = num_op(s[0]);
+    let NumOp::Two(k) = op else {
+        return num_at(s, 0, own, far);
+    };
+    if !is_leaf(s, 1) {
+        return num_at(s, 0, own, far);
+    }
+    let first = leaf_at(s, 1, own, far);
+    let NumAt::Value(a, n) = first else {
+        return NumAt::Nothing;
+    };
+    if !is_leaf(s, n) {
+        return num_at(s, 0, own, far);
+    }
+    calculate_at(k, a, leaf_at(s, n, own, far))
+}
+
+// The truth that s begins with: a constant, or a comparison of two leaves, without a recursive call.
+fn first_truth(s: &[u8], own: &[i32], far: &[i32]) -> TruthAt
+    ensures { λ r. ⌜ Answers (truthAt (now (own .entry)) (now (far .entry))) (now (s .entry)) 0 (ofTruth r) ⌝ }
+{
+    if s.len() == 0 {
+        return TruthAt::Nothing;
+    }
+    let op = truth_op(s[0]);
+    if let TruthOp::Constant(p) = op {
+        return TruthAt::Value(p, 1);
+    }
+    let TruthOp::Two(k) = op else {
+        return truth_at(s, 0, own, far);
+    };
+    if !is_leaf(s, 1) {
+        return truth_at(s, 0, own, far);
+    }
+    let first = leaf_at(s, 1, own, far);
+    let NumAt::Value(a, n) = first else {
+        return TruthAt::Nothing;
+    };
+    if !is_leaf(s, n) {
+        return truth_at(s, 0, own, far);
+    }
+    compare_at(k, a, leaf_at(s, n, own, far))
+}
+
+// The end of the number that s begins with, with so many own and far channels known.
+fn first_num_end(s: &[u8], own: usize, far: usize) -> usize
+    ensures { λ r. ⌜ Answers (numEnd (scope own far)) (now (s .entry)) 0 (ofEnd r) ⌝ }
+{
+    if s.len() == 0 {
+        return 0;
+    }
+    let b = s[0];
+    if b < 3 {
+        return leaf_end(s, 0, b, own, far);
+    }
+    if b > 5 {
+        return num_end(s, 0, own, far);
+    }
+    if !is_leaf(s, 1) {
+        return num_end(s, 0, own, far);
+    }
+    let first = s[1];
+    let n = leaf_end(s, 1, first, own, far);
+    if n == 0 {
+        return 0;
+    }
+    if !is_leaf(s, n) {
+        return num_end(s, 0, own, far);
+    }
+    let second = s[n];
+    leaf_end(s, n, second, own, far)
+}
+
+// The end of the truth that s begins with, with so many own and far channels known.
+fn first_truth_end(s: &[u8], own: usize, far: usize) -> usize
+    ensures { λ r. ⌜ Answers (truthEnd (scope own far)) (now (s .entry)) 0 (ofEnd r) ⌝ }
+{
+    if s.len() == 0 {
+        return 0;
+    }
+    let op = truth_op(s[0]);
+    if let TruthOp::Constant(_) = op {
+        return 1;
+    }
+    let TruthOp::Two(_) = op else {
+        return truth_end(s, 0, own, far);
+    };
+    if !is_leaf(s, 1) {
+        return truth_end(s, 0, own, far);
+    }
+    let first = s[1];
+    let n = leaf_end(s, 1, first, own, far);
+    if n == 0 {
+        return 0;
+    }
+    if !is_leaf(s, n) {
+        return truth_end(s, 0, own, far);
+    }
+    let second = s[n];
+    leaf_end(s, n, second, own, far)
+}
+
 // Whether an expression that ends there ends with the bytes, so that nothing stands after it.
 fn ends(s: &[u8], end: usize) -> bool
     ensures { λ b. ⌜ b ≡ endsAt (length (now (s .entry))) (ofEnd end) ⌝ }
@@ -369,21 +529,21 @@ fn ends(s: &[u8], end: usize) -> bool
 pub fn is_num(s: &[u8], own: usize, far: usize) -> bool
     ensures { λ r. ⌜ r ≡ isGot (wholeNum (scope own far) (now (s .entry))) ⌝ }
 {
-    ends(s, num_end(s, 0, own, far))
+    ends(s, first_num_end(s, own, far))
 }
 
 // Whether the bytes are a truth.
 pub fn is_truth(s: &[u8], own: usize, far: usize) -> bool
     ensures { λ r. ⌜ r ≡ isGot (wholeTruth (scope own far) (now (s .entry))) ⌝ }
 {
-    ends(s, truth_end(s, 0, own, far))
+    ends(s, first_truth_end(s, own, far))
 }
 
 // The value of the number that the bytes are.
 pub fn num_value(s: &[u8], own: &[i32], far: &[i32]) -> NumValue
     ensures { λ r. ⌜ r ≡ wholeNumValue (now (own .entry)) (now (far .entry)) (now (s .entry)) ⌝ }
 {
-    match num_at(s, 0, own, far) {
+    match first_num(s, own, far) {
         NumAt::Value(v, n) => {
             if n == s.len() {
                 NumValue::Value(v)
@@ -399,7 +559,7 @@ pub fn num_value(s: &[u8], own: &[i32], far: &[i32]) -> NumValue
 pub fn truth_value(s: &[u8], own: &[i32], far: &[i32]) -> TruthValue
     ensures { λ r. ⌜ r ≡ wholeTruthValue (now (own .entry)) (now (far .entry)) (now (s .entry)) ⌝ }
 {
-    match truth_at(s, 0, own, far) {
+    match first_truth(s, own, far) {
         TruthAt::Value(v, n) => {
             if n == s.len() {
                 TruthValue::Value(v)

@@ -1,9 +1,11 @@
 -- What the code of the firing evaluates at the offsets of the deck. Assumes nothing.
-use Prim.Native.Nat.{ℕ, _+_, _*_, _<_}
+use Prim.Native.Nat.{ℕ, _+_, _*_, _≤_, _<_}
 use mathlib.Core.Path.{_≡_}
+use mathlib.Core.Bool.{Bool, true, false, not}
 use mathlib.Core.List.{List, map}
 use lib.ListN.{length, getD}
 use lib.IntN.{ℤ, pos}
+use Rattle.lists.specs.Lists.{eqZ}
 use Rattle.lists.specs.Bits.{maskOf}
 use Rattle.expression.specs.Syntax.{Num}
 use Rattle.expression.specs.Reading.{wholeNum}
@@ -11,7 +13,7 @@ use Rattle.expression.specs.Answers.{scope, numIn}
 use Rattle.deck.specs.Deck.{Deck, Action, R}
 use Rattle.deck.specs.Layout.{action}
 use Rattle.deck.specs.Laws.Points.{ReadsAt}
-use Rattle.pool.specs.Updates.{Update}
+use Rattle.pool.specs.Updates.{Update, valueAt}
 use Rattle.pool.specs.Places.{place}
 use Rattle.passing.specs.Stands.{Stands}
 use Rattle.firing.specs.Firing.{changed}
@@ -37,6 +39,17 @@ ActionIs s at q own far r =
 -- pairs whose channels are below 32
 abbrev pub Assignable : List ℤ → Type 0
 Assignable l = (i : ℕ) → 2 * i + 1 < length l → (c : ℕ) × (getD l (2 * i) (pos 0) ≡ pos c) × (c < 32)
+
+-- the test of one channel
+unfoldable pub differs : ℕ → List ℤ → List ℤ → ℕ → Bool
+differs p before after c = not (eqZ (valueAt before p c) (valueAt after p c))
+
+-- r is the lowest channel of part p from one on that differs, or n where there is none below
+pub record NextChanged (p : ℕ) (before after : List ℤ) (from n r : ℕ) : Type 0 where
+  pub most : r ≤ n
+  pub on : from ≤ r
+  pub found : r < n → differs p before after r ≡ true
+  pub passed : (i : ℕ) → from ≤ i → i < r → differs p before after i ≡ false
 
 -- the changed channels as a set
 abbrev pub ChangedIs : ℕ → ℕ → List ℤ → List ℤ → ℕ → Type 0

@@ -4,7 +4,7 @@ ghost use Prim.Native.Nat.{_+_, _*_, _≤_, _<_};
 ghost use lib.ListN.{length};
 ghost use Rattle.pool.specs.Updates.{assign};
 ghost use Rattle.pool.specs.Places.{pairsOf};
-ghost use Rattle.firing.specs.Evaluated.{HasNumber, NumberIs, HasAction, ActionIs, Assignable, ChangedIs};
+ghost use Rattle.firing.specs.Evaluated.{HasNumber, NumberIs, HasAction, ActionIs, Assignable, NextChanged, ChangedIs};
 use deck::Deck;
 
 // The value of the number that stands at an offset of the deck.
@@ -59,19 +59,33 @@ pub fn assign_pairs(values: &mut [i32], part: usize, pairs: &[i32])
     }
 }
 
+// The lowest channel of a part from one on whose values differ, or the number of channels where there is none. A loop that leaves
+// early is not compiled to vector instructions, which would wait for values that were just written.
+fn next_changed(before: &[i32], after: &[i32], part: usize, from: usize, channels: usize) -> usize
+    requires { ⌜ (length (now before) ≡ 512) × (length (now after) ≡ 512) × (part < 16) × (channels ≤ 32) × (from ≤ channels) ⌝ }
+    ensures { λ r. ⌜ NextChanged part (now (before .entry)) (now (after .entry)) from channels r ⌝ }
+{
+    let base = Deck::CHANNELS * part;
+    let mut c = from;
+    while c < channels {
+        if before[base + c] != after[base + c] {
+            return c;
+        }
+        c += 1;
+    }
+    channels
+}
+
 // The channels of a part whose values differ, as a set.
 pub fn changed(before: &[i32], after: &[i32], part: usize, channels: usize) -> u64
     requires { ⌜ (length (now before) ≡ 512) × (length (now after) ≡ 512) × (part < 16) × (channels ≤ 32) ⌝ }
     ensures { λ r. ⌜ ChangedIs channels part (now (before .entry)) (now (after .entry)) r ⌝ }
 {
-    let base = Deck::CHANNELS * part;
     let mut mask: u64 = 0;
-    let mut c: usize = 0;
+    let mut c = next_changed(before, after, part, 0, channels);
     while c < channels {
-        if before[base + c] != after[base + c] {
-            mask = mask | (1u64 << c);
-        }
-        c += 1;
+        mask = mask | (1u64 << c);
+        c = next_changed(before, after, part, c + 1, channels);
     }
     mask
 }

@@ -1,19 +1,17 @@
 -- The loop that adds targets to the edges from every event. Assumes nothing.
-use Prim.Native.Nat.{ℕ, _+_, _/_, _^_, _<_, _≤_}
+use Prim.Native.Nat.{ℕ, _+_, _<_, _≤_}
 use mathlib.Core.Path.{_≡_, refl, sym, ap, ap₂, _∙_, subst}
 use mathlib.Core.Logic.{⊎-elim}
 use mathlib.Core.Bool.{true, false, _&&_, _||_, or-false}
 use mathlib.Core.List.{List}
 use native.Mathlib.Nat.{eq-or-lt-of-le}
 use native.Mathlib.Omega.{arith}
-use native.Mathlib.Decide.{decLt}
 use lib.Bits.{bitOr}
 use lib.ListN.{length, getD, set, length-set}
 use lib.Seq.{getD-set-same, getD-set-other}
 use Rattle.lists.specs.Bits.{bit}
 use Rattle.lists.specs.Laws.Bits.{bit-or}
 use Rattle.graph.specs.Masks.{edgeAt, Added}
-use Rattle.graph.proofs.NoHigher.{no-higher}
 
 -- the channels below c are done, and the others as they were
 pub record Adding (events targets : ℕ) (xs ys : List ℕ) (c : ℕ) : Type 0 where
@@ -63,14 +61,3 @@ module _ {e t : ℕ} {xs ys : List ℕ} {c : ℕ} (h : Adding e t xs ys c) where
 
   pub adding-all : 32 ≤ c → Added e t xs ys
   adding-all l = record { long = h .long; each = λ a b m. h .done a b (omega arith) }
-
-  -- no event is left
-  pub adding-last : e / 2 ^ c ≡ 0 → Added e t xs ys
-  unfolding edgeAt
-  adding-last none = record { long = h .long; each = λ a b m. go a b (decLt a c) }
-    where
-      go : (a b : ℕ) → Dec (a < c) → edgeAt ys a b ≡ (edgeAt xs a b || bit e a && bit t b)
-      go a b (yes l) = h .done a b l
-      go a b (no l) =
-          ap (λ x. bit x b) (h .rest a (omega arith))
-          ∙ sym (ap (λ x. edgeAt xs a b || x && bit t b) (no-higher e c a none (omega arith)) ∙ or-false (edgeAt xs a b))

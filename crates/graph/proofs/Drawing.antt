@@ -1,6 +1,6 @@
 -- The loop that draws the edges of every carried rule. Assumes nothing.
 use Prim.Native.Nat.{ℕ, _+_, _*_, _≤_}
-use mathlib.Core.Path.{_≡_, sym, ap, ap₂, _∙_, subst}
+use mathlib.Core.Path.{_≡_, sym, ap, ap₂, _∙_}
 use mathlib.Core.Bool.{Bool, true, false, _&&_, _||_, or-false}
 use mathlib.Core.List.{List}
 use native.Mathlib.Omega.{arith}
@@ -63,9 +63,6 @@ module _ {rules parts xs : List ℕ} {n r : ℕ} (h : Drawn rules parts n r xs) 
             ∙ ap₂ (λ x y. x || y) (h .each a b l) (ap (λ x. bit (getD rules (8 * r) 0) a && x) both)
             ∙ sym (one-more a b ∙ ap (λ x. drawn a b || x && makes a b) e);
       }
-
-  pub drawn-all : {k : ℕ} → r ≡ k → Drawn rules parts n k xs
-  drawn-all e = subst (λ (j : ℕ). Drawn rules parts n j xs) e h
 
 -- what is found in the table is what the definition finds in the shape
 pub drawn-cycle : {rules parts xs : List ℕ} {R′ M′ N′ : ℕ} → R′ ≤ 32 → M′ ≤ 64 → Drawn rules parts N′ M′ xs

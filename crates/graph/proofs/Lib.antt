@@ -1,5 +1,4 @@
 -- What the loops keep, apart from the places of the code.
-pub mod NoHigher
 pub mod Adding
 pub mod Drawing
 pub mod Spreading

@@ -1,10 +1,10 @@
 -- The loop of one round: it adds the edges from the channels of the set, one channel after the other. Assumes nothing.
-use Prim.Native.Nat.{ℕ, _+_, _/_, _^_, _<_, _≤_}
+use Prim.Native.Nat.{ℕ, _+_, _<_, _≤_}
 use mathlib.Core.Path.{_≡_, sym, ap, _∙_}
 use mathlib.Core.Logic.{⊎-elim}
 use mathlib.Core.Bool.{true, false}
 use mathlib.Core.List.{List}
-use native.Mathlib.Nat.{eq-or-lt-of-le, lt-of-not-le}
+use native.Mathlib.Nat.{eq-or-lt-of-le}
 use native.Mathlib.Omega.{arith}
 use lib.Bits.{bitOr}
 use lib.ListN.{getD}
@@ -14,7 +14,6 @@ use Rattle.lists.specs.Laws.Bits.{bit-or}
 use Rattle.graph.specs.Graph.{Reaches, one, more}
 use Rattle.graph.specs.Masks.{edgeAt, inner, Spread}
 use Rattle.graph.specs.Laws.Agreement.{inner-edge}
-use Rattle.graph.proofs.NoHigher.{no-higher}
 
 -- the edges from the channels of s below b are in t
 pub record Spreading (n : ℕ) (xs : List ℕ) (a s t b : ℕ) : Type 0 where
@@ -79,15 +78,6 @@ module _ (n : ℕ) (xs : List ℕ) where
               (or-cases (bit t c) (sym (bit-or t (getD xs b 0) c) ∙ k));
         }
 
-    -- the channels of s below n are below b
-    spreading-end : ((d : ℕ) → d < n → bit s d ≡ true → d < b) → Spread n (edgeAt xs) a s t
-    spreading-end low =
-        record { keeps = h .keeps; base = h .base; grows = λ d c m i g. h .grows d c (low d m i) i g; sound = h .sound }
-
     pub spreading-all : n ≤ b → Spread n (edgeAt xs) a s t
-    spreading-all l = spreading-end (λ d m i. omega arith)
-
-    -- no channel of t is left
-    pub spreading-last : t / 2 ^ b ≡ 0 → Spread n (edgeAt xs) a s t
-    spreading-last none =
-        spreading-end (λ d m i. lt-of-not-le (λ l. contradiction (h .keeps d i) (no-higher t b d none l)))
+    spreading-all l =
+        record { keeps = h .keeps; base = h .base; grows = λ d c m i g. h .grows d c (omega arith) i g; sound = h .sound }

@@ -29,6 +29,10 @@ pub record Added (events targets : ℕ) (xs ys : List ℕ) : Type 0 where
 unfoldable pub carriedAt : List ℕ → ℕ → ℕ → Bool
 carriedAt parts N r = any (λ p. bit (getD parts (4 * p) 0) r) (below N)
 
+-- the rules that one of the N parts carries
+pub record CarriedIs (parts : List ℕ) (N s : ℕ) : Type 0 where
+  pub each : (r : ℕ) → bit s r ≡ carriedAt parts N r
+
 -- rule r makes an edge from a to b
 unfoldable pub drawnBy : List ℕ → List ℕ → ℕ → ℕ → ℕ → ℕ → Bool
 drawnBy rules parts N a b r =

@@ -10,7 +10,7 @@ ghost use Rattle.lists.specs.Lists.{filter, below, firstOr};
 ghost use Rattle.deck.specs.Shape.{shapeOf};
 ghost use Rattle.graph.specs.Graph.{reachesItself};
 ghost use Rattle.graph.specs.FirstCycle.{firstCycle};
-ghost use Rattle.graph.specs.Masks.{Sized, edgeAt, Added, carriedAt, Drawn, Spread};
+ghost use Rattle.graph.specs.Masks.{Sized, edgeAt, Added, CarriedIs, Drawn, Spread};
 use deck::Deck;
 
 // Adds the targets to the edges from every event.
@@ -18,32 +18,25 @@ fn add_edges(edges: &mut [u64], events: u64, targets: u64)
     requires { ⌜ length (now edges) ≡ 32 ⌝ }
     ensures { λ _. ⌜ Added events targets (now (edges .entry)) (now (edges .exit)) ⌝ }
 {
-    let mut c: usize = 0;
+    let mut c = lists::next_in(events, 0);
     while c < Deck::CHANNELS {
-        let rest = events >> c;
-        if rest == 0 {
-            break;
-        }
-        if rest % 2 == 1 {
-            edges[c] = edges[c] | targets;
-        }
-        c += 1;
+        edges[c] = edges[c] | targets;
+        c = lists::next_in(events, c + 1);
     }
 }
 
-// Whether some part carries rule r: its number plays no role.
-pub fn is_carried(parts: &[u64], parts_count: usize, r: usize) -> bool
-    requires { ⌜ (64 ≤ length (now parts)) × («parts_count» ≤ 16) × (r < 64) ⌝ }
-    ensures { λ b. ⌜ b ≡ carriedAt (now (parts .entry)) «parts_count» r ⌝ }
+// The rules that some part carries, as a set: the numbers of the parts play no role.
+pub fn carried_by_some(parts: &[u64], parts_count: usize) -> u64
+    requires { ⌜ (64 ≤ length (now parts)) × («parts_count» ≤ 16) ⌝ }
+    ensures { λ s. ⌜ CarriedIs (now (parts .entry)) «parts_count» s ⌝ }
 {
+    let mut set: u64 = 0;
     let mut p: usize = 0;
     while p < parts_count {
-        if (parts[4 * p] >> r) % 2 == 1 {
-            return true;
-        }
+        set = set | parts[4 * p];
         p += 1;
     }
-    false
+    set
 }
 
 // The edges of every carried rule, by both actions, into a table without edges.
@@ -51,13 +44,12 @@ fn draw(rules: &[u64], parts: &[u64], count: usize, parts_count: usize, edges: &
     requires { ⌜ Sized (now rules) (now parts) count «parts_count» × Drawn (now rules) (now parts) «parts_count» 0 (now edges) ⌝ }
     ensures { λ _. ⌜ Drawn (now (rules .entry)) (now (parts .entry)) «parts_count» count (now (edges .exit)) ⌝ }
 {
-    let mut r: usize = 0;
+    let carried = carried_by_some(parts, parts_count);
+    let mut r = lists::next_in(carried, 0);
     while r < count {
-        if is_carried(parts, parts_count, r) {
-            let targets = rules[8 * r + 1] | rules[8 * r + 2];
-            add_edges(edges, rules[8 * r], targets);
-        }
-        r += 1;
+        let targets = rules[8 * r + 1] | rules[8 * r + 2];
+        add_edges(edges, rules[8 * r], targets);
+        r = lists::next_in(carried, r + 1);
     }
 }
 
@@ -67,16 +59,10 @@ fn spread(edges: &[u64], channels: usize, a: usize, seen: u64) -> u64
     ensures { λ r. ⌜ Spread channels (edgeAt (now (edges .entry))) a seen r ⌝ }
 {
     let mut set = seen | edges[a];
-    let mut b: usize = 0;
+    let mut b = lists::next_in(set, 0);
     while b < channels {
-        let rest = set >> b;
-        if rest == 0 {
-            break;
-        }
-        if rest % 2 == 1 {
-            set = set | edges[b];
-        }
-        b += 1;
+        set = set | edges[b];
+        b = lists::next_in(set, b + 1);
     }
     set
 }

@@ -8,7 +8,7 @@ ghost use lib.IntN.{pos};
 ghost use Rattle.lists.specs.Lists.{all, any, eqZ, eqList};
 ghost use Rattle.pool.specs.Updates.{allDifferent};
 ghost use Rattle.pool.specs.Places.{wellWritten, places, updatesOf};
-ghost use Rattle.index.specs.Hash.{raised, mixed, bucketOf};
+ghost use Rattle.index.specs.Hash.{raised, mixed, mixedPairs, bucketOf};
 ghost use Rattle.index.specs.Index.{headsOf, Indexed, keys, Roomy, noted, lowered, loweredHeads, loweredLinks, forgotten};
 
 // The number at an index, as one from 0 on.
@@ -29,14 +29,24 @@ fn mix(h: u64, x: u64, y: u64) -> u64
     ((h + x) * 748982257 + y * 1640531527) / 65536 % 4294967296
 }
 
+// How often two numbers of a place are mixed into its hash.
+fn mixed_pairs(place: &[i32]) -> usize
+    requires { ⌜ 1 < length (now place) ⌝ }
+    ensures { λ r. ⌜ (r ≡ mixedPairs (now (place .entry))) × (r ≤ 5) ⌝ }
+{
+    let count = place[1];
+    if count == 1 { 2 } else { 5 }
+}
+
 // The bucket of a place.
 pub fn bucket(place: &[i32], heads: usize) -> usize
     requires { ⌜ (length (now place) ≡ 10) × (0 < heads) × (heads ≤ 65536) ⌝ }
     ensures { λ r. ⌜ (r ≡ bucketOf heads (now (place .entry))) × (r < heads) ⌝ }
 {
+    let n = mixed_pairs(place);
     let mut h: u64 = 0;
     let mut i: usize = 0;
-    while i < 5 {
+    while i < n {
         let x = raise(place, 2 * i);
         let y = raise(place, 2 * i + 1);
         h = mix(h, x, y);

@@ -1,6 +1,7 @@
 -- Sets of small numbers as the bits of a number. Assumes nothing.
-use Prim.Native.Nat.{ℕ, _/_, _%_, _^_}
-use mathlib.Core.Bool.{Bool}
+use Prim.Native.Nat.{ℕ, _/_, _%_, _^_, _≤_, _<_}
+use mathlib.Core.Path.{_≡_}
+use mathlib.Core.Bool.{Bool, true, false}
 use mathlib.Core.List.{List, [], _∷_}
 use lib.Bits.{bitOr}
 use lib.Dec.{eqb}
@@ -17,3 +18,10 @@ maskFrom m (c ∷ cs) = maskFrom (bitOr m (2 ^ c)) cs
 -- the set of the numbers of a list
 unfoldable pub maskOf : List ℕ → ℕ
 maskOf cs = maskFrom 0 cs
+
+-- r is the lowest number of the set from one on, or 64 where there is none below
+pub record NextIn (set from r : ℕ) : Type 0 where
+  pub most : r ≤ 64
+  pub on : from ≤ 64 → from ≤ r
+  pub found : r < 64 → bit set r ≡ true
+  pub passed : (i : ℕ) → from ≤ i → i < r → bit set i ≡ false

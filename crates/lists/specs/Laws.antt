@@ -16,3 +16,5 @@ pub mod BitTests
 pub mod Steps
 pub mod Same
 pub mod First
+pub mod Lowest
+pub mod Through

@@ -14,7 +14,7 @@ use Rattle.graph.specs.Laws.Cycles.{KnownTargets}
 use Rattle.graph.specs.FirstCycle.{firstCycle}
 use Rattle.graph.specs.Masks.{Sized}
 use Rattle.charge.specs.Charge.{largestCharge}
-use Rattle.charge.specs.Memo.{AcyclicTables}
+use Rattle.charge.specs.Memo.{Noted, AcyclicTables, Memo}
 use Rattle.charge.specs.Answer.{boundOf}
 use Rattle.charge.specs.declared.Bound.the-variants.{Within, Above}
 use Rattle.passing.specs.Check.{passing}
@@ -31,15 +31,17 @@ pub record RulesKnown (rules parts : List ℕ) (k : Counted.Deck) : Type 0 where
   pub sized : Sized rules parts (k .rules) (k .parts)
   pub few : k .channels < 33
   pub known : KnownTargets (shape rules parts k)
+  pub noted : Noted rules parts (k .rules) (k .parts)
 
--- the lowest cycle, else the lowest charge above the bound, else the largest charge
-abbrev pub JudgesRules : List ℕ → List ℕ → Counted.Deck → Judged → Type 0
-JudgesRules rules parts k (Passing c n) =
+-- the lowest cycle, else the lowest charge above the bound, else the largest charge, with a memo of charges
+abbrev pub JudgesRules : List ℕ → List ℕ → List ℕ → Counted.Deck → Judged → Type 0
+JudgesRules rules parts memo k (Passing c n) =
     (c ≡ k)
     × (firstCycle (shape rules parts k) ≡ k .channels)
     × (boundOf (shape rules parts k) ≡ Within n)
     × AcyclicTables rules parts (k .channels) (k .rules) (k .parts)
-JudgesRules rules parts k (Refused n p) =
+    × Memo (shape rules parts k) memo
+JudgesRules rules parts memo k (Refused n p) =
     ((n ≡ cyclicGraph) × (firstCycle (shape rules parts k) ≡ p) × (p < k .channels))
     ⊎ ((n ≡ overcharged) × (firstCycle (shape rules parts k) ≡ k .channels) × (boundOf (shape rules parts k) ≡ Above p))
 
@@ -49,14 +51,15 @@ pub record WholeKnown (s : List ℕ) (k : Counted.Deck) (rules parts : List ℕ)
   pub read : read s ≡ accepted (layoutOf s)
   pub bytes : Bytes s
 
--- a deck that passes, and what its tables hold
-pub record Passed (s rules parts : List ℕ) (k : Counted.Deck) (charge : ℕ) : Type 0 where
+-- a deck that passes, and what its tables and the memo of charges hold
+pub record Passed (s rules parts memo : List ℕ) (k : Counted.Deck) (charge : ℕ) : Type 0 where
   pub passes : passing s ≡ accepted (layoutOf s)
   pub largest : largestCharge (deckOf s) ≡ charge
   pub tabled : Tabled s k rules parts
   pub acyclic : AcyclicTables rules parts (k .channels) (k .rules) (k .parts)
+  pub charges : Memo (shape rules parts k) memo
   pub bytes : Bytes s
 
-abbrev pub Judges : List ℕ → List ℕ → List ℕ → Judged → Type 0
-Judges s rules parts (Passing k n) = Passed s rules parts k n
-Judges s rules parts (Refused n p) = passing s ≡ refused n p
+abbrev pub Judges : List ℕ → List ℕ → List ℕ → List ℕ → Judged → Type 0
+Judges s rules parts memo (Passing k n) = Passed s rules parts memo k n
+Judges s rules parts memo (Refused n p) = passing s ≡ refused n p

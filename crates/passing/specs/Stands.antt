@@ -1,5 +1,5 @@
 -- What stands at an offset of the deck: expressions, and opening values. Assumes nothing.
-use Prim.Native.Nat.{ℕ, zero, suc, _+_, _≤_, _<_}
+use Prim.Native.Nat.{ℕ, zero, suc, _+_, _-_, _≤_, _<_}
 use mathlib.Core.Path.{_≡_}
 use mathlib.Core.Bool.{Bool}
 use mathlib.Core.List.{List, [], _∷_}
@@ -19,6 +19,10 @@ pub record Stands {A : Type 0} (whole : List ℕ → Read A) (s : List ℕ) (at 
 -- the truth at an offset, with so many own and far channels, and its value
 abbrev pub HasTruth : List ℕ → ℕ → ℕ → ℕ → Type 0
 HasTruth s at owns fars = (t : Truth) × Stands (wholeTruth (scope owns fars)) s at t
+
+-- a stretch of n values as it is lent, from one index to another
+abbrev pub stretch : List ℤ → ℕ → ℕ → List ℤ
+stretch values at n = take (at + n - at) (drop at values)
 
 abbrev pub TruthIs : List ℕ → ℕ → List ℤ → List ℤ → Bool → Type 0
 TruthIs s at own far r = (t : Truth) → Stands (wholeTruth (scope (length own) (length far))) s at t → r ≡ truthIn own far t

@@ -9,21 +9,36 @@ ghost use Rattle.deck.specs.Deck.{N};
 ghost use Rattle.pool.specs.Places.{zeros};
 ghost use Rattle.passing.specs.Check.{openingValues};
 ghost use Rattle.passing.specs.Check as Check;
-ghost use Rattle.passing.specs.Stands.{HasTruth, TruthIs, valuesFrom};
+ghost use Rattle.passing.specs.Stands.{HasTruth, TruthIs, stretch, valuesFrom};
 ghost use Rattle.passing.specs.Tabled.{layoutOf, deckOf, PartsKnown};
 ghost use Rattle.passing.specs.Judged.{RulesKnown, JudgesRules, WholeKnown, Judges};
 ghost use Rattle.passing.specs.declared.Judged.the-variants.{Refused};
 use deck::Deck;
 
-// The value of the truth that stands at an offset of the deck.
-pub fn truth_from(deck: &[u8], at: usize, own: &[i32], far: &[i32]) -> bool
-    requires { ⌜ HasTruth (now deck) at (length (now own)) (length (now far)) ⌝ }
-    ensures { λ r. ⌜ TruthIs (now (deck .entry)) at (now (own .entry)) (now (far .entry)) r ⌝ }
+// The value of the truth that stands at an offset of the deck. Own and far channels are stretches of the values, lent by where they
+// begin and how many they are: a stretch that was just made is slow to hand on.
+pub fn truth_from(
+    deck: &[u8],
+    at: usize,
+    values: &[i32],
+    own_at: usize,
+    owns: usize,
+    far_at: usize,
+    fars: usize,
+) -> bool
+    requires { ⌜ («own_at» + owns ≤ length (now values)) × («far_at» + fars ≤ length (now values)) × HasTruth (now deck) at (length (stretch (now values) «own_at» owns)) (length (stretch (now values) «far_at» fars)) ⌝ }
+    ensures { λ r. ⌜ TruthIs (now (deck .entry)) at (stretch (now (values .entry)) «own_at» owns) (stretch (now (values .entry)) «far_at» fars) r ⌝ }
 {
     let n = deck[at] as usize;
     let from = at + 1;
     let to = from + n;
-    let value = expression::truth_value(&deck[from..to], own, far);
+    let own_to = own_at + owns;
+    let far_to = far_at + fars;
+    let value = expression::truth_value(
+        &deck[from..to],
+        &values[own_at..own_to],
+        &values[far_at..far_to],
+    );
     match value {
         expression::TruthValue::Value(b) => b,
         expression::TruthValue::None => false,
@@ -51,9 +66,7 @@ pub fn within(deck: &[u8], counts: Deck, parts: &[u64], values: &[i32], p: usize
     ensures { λ r. ⌜ r ≡ Check.within (deckOf (now (deck .entry))) p (now (values .entry)) ⌝ }
 {
     let at = parts[4 * p + 2] as usize;
-    let from = Deck::CHANNELS * p;
-    let to = from + counts.channels;
-    truth_from(deck, at, &values[from..to], &values[0..0])
+    truth_from(deck, at, values, Deck::CHANNELS * p, counts.channels, 0, 0)
 }
 
 // The opening values of all parts, written into a table of zeros.
@@ -106,15 +119,22 @@ fn refused(number: u32, place: usize) -> Judged
 }
 
 // 7 and 8, for a deck whose parts open within their limits.
-fn judge_rules(rules: &[u64], parts: &[u64], counts: Deck) -> Judged
-    requires { ⌜ RulesKnown (now rules) (now parts) counts ⌝ }
-    ensures { λ r. ⌜ JudgesRules (now (rules .entry)) (now (parts .entry)) counts r ⌝ }
+fn judge_rules(rules: &[u64], parts: &[u64], memo: &mut [u32], counts: Deck) -> Judged
+    requires { ⌜ RulesKnown (now rules) (now parts) counts × (now memo ≡ replicate 1024 0) ⌝ }
+    ensures { λ r. ⌜ JudgesRules (now (rules .entry)) (now (parts .entry)) (now (memo .exit)) counts r ⌝ }
 {
     let c = graph::first_cycle(rules, parts, counts.channels, counts.rules, counts.parts);
     if c < counts.channels {
         return refused(refusals::CYCLIC_GRAPH, c);
     }
-    let bound = charge::first_above(rules, parts, counts.channels, counts.rules, counts.parts);
+    let bound = charge::first_above(
+        rules,
+        parts,
+        memo,
+        counts.channels,
+        counts.rules,
+        counts.parts,
+    );
     match bound {
         charge::Bound::Above(place) => refused(refusals::OVERCHARGED, place),
         charge::Bound::Within(charge) => Judged::Passing {
@@ -125,9 +145,15 @@ fn judge_rules(rules: &[u64], parts: &[u64], counts: Deck) -> Judged
 }
 
 // 6 to 8, for a deck that was read.
-fn judge_whole(deck: &[u8], counts: Deck, rules: &[u64], parts: &[u64]) -> Judged
-    requires { ⌜ WholeKnown (now deck) counts (now rules) (now parts) ⌝ }
-    ensures { λ r. ⌜ Judges (now (deck .entry)) (now (rules .entry)) (now (parts .entry)) r ⌝ }
+fn judge_whole(
+    deck: &[u8],
+    counts: Deck,
+    rules: &mut [u64],
+    parts: &[u64],
+    memo: &mut [u32],
+) -> Judged
+    requires { ⌜ WholeKnown (now deck) counts (now rules) (now parts) × (now memo ≡ replicate 1024 0) ⌝ }
+    ensures { λ r. ⌜ Judges (now (deck .entry)) (now (rules .exit)) (now (parts .entry)) (now (memo .exit)) r ⌝ }
 {
     let mut values = [0i32; Deck::VALUES];
     open_parts(&mut values, deck, counts, parts);
@@ -135,17 +161,18 @@ fn judge_whole(deck: &[u8], counts: Deck, rules: &[u64], parts: &[u64]) -> Judge
     if p < counts.parts {
         return refused(refusals::OPENS_OUTSIDE, p);
     }
-    judge_rules(rules, parts, counts)
+    charge::note_listeners(rules, parts, counts.rules, counts.parts);
+    judge_rules(rules, parts, memo, counts)
 }
 
-// 1 to 8: the deck's tables are filled, and the tests follow in their order.
-pub fn judge(deck: &[u8], rules: &mut [u64], parts: &mut [u64]) -> Judged
-    requires { ⌜ (now rules ≡ replicate 512 0) × (now parts ≡ replicate 64 0) ⌝ }
-    ensures { λ r. ⌜ Judges (now (deck .entry)) (now (rules .exit)) (now (parts .exit)) r ⌝ }
+// 1 to 8: the deck's tables are filled, and the tests follow in their order. The memo keeps the charges of a deck that passes.
+pub fn judge(deck: &[u8], rules: &mut [u64], parts: &mut [u64], memo: &mut [u32]) -> Judged
+    requires { ⌜ (now rules ≡ replicate 512 0) × (now parts ≡ replicate 64 0) × (now memo ≡ replicate 1024 0) ⌝ }
+    ensures { λ r. ⌜ Judges (now (deck .entry)) (now (rules .exit)) (now (parts .exit)) (now (memo .exit)) r ⌝ }
 {
     let loaded = deck::read(deck, rules, parts);
     match loaded {
         deck::Loaded::Wrong { number, place } => refused(number, place),
-        deck::Loaded::Whole(counts) => judge_whole(deck, counts, rules, parts),
+        deck::Loaded::Whole(counts) => judge_whole(deck, counts, rules, parts, memo),
     }
 }

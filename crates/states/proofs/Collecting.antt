@@ -13,8 +13,8 @@ use Rattle.lists.specs.Bits.{maskFrom, maskOf}
 use Rattle.lists.specs.Laws.Booleans.{and-left, and-right}
 use Rattle.pool.specs.Updates.{channels}
 use Rattle.pool.specs.Places.{pairsOf, updateOf}
-use Rattle.states.specs.Fits.{within, inRange}
-use Rattle.states.specs.Laws.Fits.{within-below, channelsOf}
+use Rattle.states.specs.Fits.{within, channelsOf, inRange}
+use Rattle.states.specs.Laws.Fits.{within-below}
 use Rattle.states.specs.Laws.Held.{Held}
 use Rattle.states.proofs.Turns.{pair-at}
 

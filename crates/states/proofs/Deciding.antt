@@ -1,25 +1,25 @@
--- The tests of a place one by one, and of places one by one. Assumes nothing.
-use Prim.Native.Nat.{ℕ, _+_, _*_, _-_, _<_, _≤_}
+-- The tests of a place one by one. Assumes nothing.
+use Prim.Native.Nat.{ℕ, zero, suc, _+_, _*_, _-_, _<_, _≤_}
 use mathlib.Core.Path.{_≡_, refl, sym, ap, ap₂, _∙_}
 use mathlib.Core.Bool.{Bool, true, false, _&&_}
-use mathlib.Core.List.{List, _∷_, map}
+use mathlib.Core.List.{List, [], _∷_}
 use native.Mathlib.Omega.{arith}
 use lib.Dec.{ltb}
-use lib.ListN.{length, getD, take, drop, length-take, length-drop}
+use lib.ListN.{length, getD, take, drop, length-drop}
 use lib.Seq.{take-length}
 use lib.IntN.{ℤ, pos}
 use borrow.Author.Tests.{ltb-true, lt-ltb}
-use Rattle.lists.specs.Lists.{lists, all}
-use Rattle.lists.specs.Laws.Booleans.{Five, five, from-four, contradiction, not-true→false}
-use Rattle.deck.specs.Deck.{Deck}
-use Rattle.pool.specs.Places.{isZero, updateOf, wellWritten, places}
+use Rattle.lists.specs.Lists.{all}
+use Rattle.lists.specs.Bits.{maskOf}
+use Rattle.lists.specs.Laws.Booleans.{Five, five, from-four, and-left, and-right, contradiction, not-true→false}
+use Rattle.lists.specs.Laws.Bits.{mask-empty}
+use Rattle.deck.specs.Deck.{Deck, R, N}
+use Rattle.pool.specs.Places.{isZero, pairsOf, updateOf, wellWritten}
 use Rattle.pool.specs.States.{known}
-use Rattle.states.specs.Answer.{FitsPlace}
-use Rattle.states.specs.Fits.{within, channelsFit, fits}
+use Rattle.states.specs.Answer.{IfFit, FitsPlace}
+use Rattle.states.specs.Fits.{within, channelsOf, channelsFit, fits}
+use Rattle.states.specs.Laws.Held.{known-low, held}
 use Rattle.states.specs.Laws.Places.{fits-same}
-use Rattle.states.proofs.Adding.{place-at}
-
--- ---- a place
 
 module _ (r n p c : ℕ) (l : List ℤ) (ep : p ≡ within n (getD l 0 (pos 0))) (ec : c ≡ within 5 (getD l 1 (pos 0))) where
   abbrev front : Bool
@@ -59,52 +59,35 @@ pub tail-zeros : (l : List ℤ) (k : ℕ) {b : Bool} → b ≡ all isZero (take 
 tail-zeros l k e =
     e ∙ ap (all isZero) (ap (λ j. take j (drop k l)) (sym (length-drop k l)) ∙ take-length (drop k l))
 
-pub place-answer : (r n : ℕ) (l : List ℤ) {b : Bool} → length l ≡ 10 → b ≡ fits r n l → FitsPlace r n l b
-place-answer r n l long e d eR eN = e ∙ ap₂ (λ x y. fits x y l) (sym eR) (sym eN) ∙ fits-same d l long
+-- ---- the set of the channels
 
--- ---- places
+pub none-fit : {test : Bool} {cs : List ℕ} → test ≡ false → IfFit test cs 0
+none-fit e = record { none = λ _. e; some = λ n. absurd (n refl) }
 
--- all are well written and hold known updates
-abbrev pub allFit : Deck → List (List ℤ) → Bool
-allFit d ls = all wellWritten ls && all (known d) (map updateOf ls)
+-- pairs have channels
+some-channels : (n : ℕ) (t : List ℤ) → 0 < n → 2 * n ≤ length t → channelsOf n t ≡ [] → ⊥
+unfolding pairsOf
+some-channels zero t h l e = omega arith
+some-channels (suc n) [] h l e = omega arith
+some-channels (suc n) (c ∷ []) h l e = omega arith
+some-channels (suc n) (c ∷ v ∷ t) h l e = let k = ap length e in omega arith
 
-one-more : (d : Deck) (l : List ℤ) (ls : List (List ℤ)) → allFit d (l ∷ ls) ≡ (wellWritten l && known d (updateOf l) && allFit d ls)
-unfolding lists
-one-more d l ls = swap (wellWritten l) (all wellWritten ls) (known d (updateOf l)) (all (known d) (map updateOf ls))
-  where
-    swap : (a b c e : Bool) → ((a && b) && (c && e)) ≡ ((a && c) && (b && e))
-    swap true true c e = refl
-    swap true false true e = refl
-    swap true false false e = refl
-    swap false b c e = refl
+pub channels-set : (r n m : ℕ) (t : List ℤ) → 0 < n → 2 * n ≤ length t → channelsFit r 0 n t ≡ true → m ≡ maskOf (channelsOf n t)
+    → IfFit (channelsFit r 0 n t) (channelsOf n t) m
+channels-set r n m t h l f e =
+    record { none = λ z. absurd (some-channels n t h l (mask-empty (channelsOf n t) .0 (sym e ∙ z))); some = λ _. (f, e) }
 
-pub lent-length : (n k : ℕ) (pool : List ℤ) → k < n → 10 * n ≤ length pool → length (take (10 * k + 10 - 10 * k) (drop (10 * k) pool)) ≡ 10
-lent-length n k pool h room = omega (arith, length-take (10 * k + 10 - 10 * k) (drop (10 * k) pool), length-drop (10 * k) pool)
+module _ (r n : ℕ) (l : List ℤ) (long : length l ≡ 10) where
+  answer : (d : Deck) → R d ≡ r → N d ≡ n → (wellWritten l && known d (updateOf l)) ≡ fits r n l
+  answer d eR eN = sym (ap₂ (λ x y. fits x y l) (sym eR) (sym eN) ∙ fits-same d l long)
 
-module _ (d : Deck) (n k : ℕ) (pool : List ℤ) (h : k < n) where
-  -- the place as it is lent, from one index to another
-  abbrev lent : List ℤ
-  lent = take (10 * k + 10 - 10 * k) (drop (10 * k) pool)
+  pub place-none : fits r n l ≡ false → FitsPlace r n l 0
+  place-none e d eR eN = none-fit (answer d eR eN ∙ e)
 
-  abbrev later : Bool
-  later = allFit d (places (n - (k + 1)) (drop (10 * (k + 1)) pool))
-
-  place-turn : allFit d (places (n - k) (drop (10 * k) pool)) ≡ (wellWritten lent && known d (updateOf lent) && later)
-  place-turn =
-      let ten : 10 ≡ 10 * k + 10 - 10 * k = omega arith in
-      ap (allFit d) (place-at n k pool h)
-      ∙ one-more d (take 10 (drop (10 * k) pool)) (places (n - (k + 1)) (drop (10 * (k + 1)) pool))
-      ∙ ap (λ j. wellWritten (take j (drop (10 * k) pool)) && known d (updateOf (take j (drop (10 * k) pool))) && later) ten
-
-  pub place-next : (wellWritten lent && known d (updateOf lent)) ≡ true → allFit d (places (n - k) (drop (10 * k) pool)) ≡ later
-  place-next e = place-turn ∙ ap (λ b. b && later) e
-
-  pub place-stop : (wellWritten lent && known d (updateOf lent)) ≡ false → allFit d (places (n - k) (drop (10 * k) pool)) ≡ false
-  place-stop e = place-turn ∙ ap (λ b. b && later) e
-
-pub place-start : (d : Deck) (n : ℕ) (pool : List ℤ) → allFit d (places (n - 0) pool) ≡ allFit d (places n pool)
-place-start d n pool = let e : n - 0 ≡ n = omega arith in ap (λ j. allFit d (places j pool)) e
-
-pub place-end : (d : Deck) (n k : ℕ) (pool : List ℤ) → n ≤ k → allFit d (places (n - k) pool) ≡ true
-unfolding places lists
-place-end d n k pool h = let e : n - k ≡ 0 = omega arith in ap (λ j. allFit d (places j pool)) e
+  pub place-some : (m : ℕ) → fits r n l ≡ true → r ≤ 32 → (m ≡ 0 → ⊥) → m ≡ maskOf (channelsOf (within 5 (getD l 1 (pos 0))) (drop 2 l))
+      → FitsPlace r n l m
+  place-some m e few some set d eR eN =
+      let f = answer d eR eN ∙ e in
+      let written = and-left (wellWritten l) (known d (updateOf l)) f in
+      let low = known-low d (updateOf l) (and-right (wellWritten l) (known d (updateOf l)) f) (omega (arith, few, eR)) in
+      record { none = λ z. absurd (some z); some = λ _. (f, set ∙ ap maskOf (held l long written low .same)) }

@@ -3,14 +3,12 @@ use mathlib.Core.Path.{_≡_, refl}
 use mathlib.Core.Bool.{true, false}
 use Prim.Native.Nat.{ℕ, _^_, _≤_, _<_}
 use native.Mathlib.Omega.{arith}
-use borrow.Author.Tests.{ltb-true, eq-eqb, ne-eqb}
+use borrow.Author.Tests.{ltb-true}
 use lib.Dec.{T}
 use lib.IntN.{ℤ, pos, negsuc, natAbs}
 use lib.Signed.{mag, ltZ, nonNeg}
-use mir.Syntax.{w32, w64}
-use mir.Val.{Fits, SFits, ofZ}
-use Rattle.lists.specs.Lists.{lists}
-use Rattle.pool.specs.Places.{isZero}
+use mir.Syntax.{w64}
+use mir.Val.{Fits}
 use Rattle.states.specs.Fits.{within}
 
 pub below-zero : (b : ℕ) (x : ℤ) → ltZ x (pos 0) ≡ true → b ≡ within b x
@@ -31,14 +29,3 @@ pub within-large : (b : ℕ) (x : ℤ) → ltZ x (pos 0) ≡ false → b ≤ nat
 unfolding within
 within-large b (pos n) e h = omega arith
 within-large b (negsuc n) e h = refl
-
--- a number is 0 exactly where its bits are
-pub zero-bits : (x : ℤ) → SFits w32 x → ofZ w32 x ≡ 0 → isZero x ≡ true
-unfolding isZero lists
-zero-bits (pos n) f e = eq-eqb n 0 e
-zero-bits (negsuc n) f e = absurd (omega arith)
-
-pub other-bits : (x : ℤ) → (ofZ w32 x ≡ 0 → ⊥) → isZero x ≡ false
-unfolding isZero lists
-other-bits (pos n) e = ne-eqb n 0 e
-other-bits (negsuc n) e = refl

@@ -1,29 +1,37 @@
 -- What the functions of this crate answer. Assumes nothing.
-use Prim.Native.Nat.{ℕ, _*_, _≤_}
+use Prim.Native.Nat.{ℕ, _*_}
 use mathlib.Core.Path.{_≡_}
-use mathlib.Core.Bool.{Bool, true, _&&_, cond}
-use mathlib.Core.List.{List, map}
+use mathlib.Core.Bool.{Bool, true, false, _&&_, cond}
+use mathlib.Core.List.{List}
 use lib.Dec.{leb, eqb}
 use lib.ListN.{length, drop, replicate}
 use lib.IntN.{ℤ}
 use Rattle.lists.specs.Lists.{all}
+use Rattle.lists.specs.Bits.{maskOf}
 use Rattle.deck.specs.Deck.{Deck, R, N}
 use Rattle.deck.specs.Shape.{shapeOf}
 use Rattle.charge.specs.Charge.{updateCharge}
-use Rattle.charge.specs.Memo.{Memo, Answered}
+use Rattle.charge.specs.Memo.{Memo, Answered, capped}
 use Rattle.pool.specs.Updates.{channels, allDifferent, charge}
 use Rattle.pool.specs.Places.{isZero, capacity, updateOf, wellWritten, places, updatesOf}
 use Rattle.pool.specs.States.{Memory, unusedZero, known, good}
 use Rattle.index.specs.Index.{headsOf, Indexed, keys, Roomy}
+use Rattle.states.specs.Fits.{channelsOf, channelsFit}
 use Rattle.states.specs.declared.Goodness.{Goodness}
 use Rattle.states.specs.declared.Goodness.the-variants.{Good, Bad}
 
--- a test of a state sees of a deck only how many channels and parts it has
-abbrev pub FitsPlace : ℕ → ℕ → List ℤ → Bool → Type 0
-FitsPlace R′ N′ l r = (d : Deck) → R d ≡ R′ → N d ≡ N′ → r ≡ (wellWritten l && known d (updateOf l))
+-- the set of the channels cs where a test holds, and none where it does not
+pub record IfFit (test : Bool) (cs : List ℕ) (r : ℕ) : Type 0 where
+  pub none : r ≡ 0 → test ≡ false
+  pub some : (r ≡ 0 → ⊥) → (test ≡ true) × (r ≡ maskOf cs)
 
-abbrev pub FitsPlaces : ℕ → ℕ → List (List ℤ) → Bool → Type 0
-FitsPlaces R′ N′ ls r = (d : Deck) → R d ≡ R′ → N d ≡ N′ → r ≡ (all wellWritten ls && all (known d) (map updateOf ls))
+-- the channels of the first n pairs
+abbrev pub FitsChannels : ℕ → ℕ → List ℤ → ℕ → Type 0
+FitsChannels R′ n t r = IfFit (channelsFit R′ 0 n t) (channelsOf n t) r
+
+-- a test of a state sees of a deck only how many channels and parts it has
+abbrev pub FitsPlace : ℕ → ℕ → List ℤ → ℕ → Type 0
+FitsPlace R′ N′ l r = (d : Deck) → R d ≡ R′ → N d ≡ N′ → IfFit (wellWritten l && known d (updateOf l)) (channels (updateOf l)) r
 
 abbrev pub FitsValues : ℕ → ℕ → List ℤ → Bool → Type 0
 FitsValues R′ N′ values r = (d : Deck) → R d ≡ R′ → N d ≡ N′ → r ≡ unusedZero d 0 values
@@ -34,38 +42,43 @@ pub record Holds (d : Deck) (l : List ℤ) : Type 0 where
   pub written : wellWritten l ≡ true
   pub known : known d (updateOf l) ≡ true
 
--- n such places
-pub record Pending (d : Deck) (n : ℕ) (pool : List ℤ) : Type 0 where
-  pub room : 10 * n ≤ length pool
-  pub written : all wellWritten (places n pool) ≡ true
-  pub known : all (known d) (updatesOf n pool) ≡ true
-
--- s is the charge of the update that a place holds, or of the pending ones, and the memo that is left is right
+-- s is the charge of the update that a place holds, and the memo that is left is right
 abbrev pub PlaceGives : Deck → List ℤ → List ℕ → ℕ → Type 0
 PlaceGives d l m s = Answered d (updateCharge d (updateOf l .part) (channels (updateOf l))) m s
 
-abbrev pub PendingGives : Deck → ℕ → List ℤ → List ℕ → ℕ → Type 0
-PendingGives d n pool m s = Answered d (charge d (updatesOf n pool)) m s
+-- each of n places is well written and holds a known update
+unfoldable pub allFit : Deck → ℕ → List ℤ → Bool
+allFit d n pool = all wellWritten (places n pool) && all (known d) (updatesOf n pool)
+
+-- the charge of the pending updates where all fit
+abbrev pub weightOf : Deck → ℕ → List ℤ → Goodness
+weightOf d n pool = cond (allFit d n pool) (Good (capped (charge d (updatesOf n pool)))) Bad
+
+pub record Weighs (d : Deck) (n : ℕ) (pool : List ℤ) (m : List ℕ) (r : Goodness) : Type 0 where
+  pub answer : r ≡ weightOf d n pool
+  pub memo : Memo d m
 
 -- the state and the pool that were lent
 abbrev pub memoryOf : List ℤ → ℕ → List ℤ → Memory
 memoryOf values pending pool = record { state = record { values = values; pending = pending }; pool = pool }
 
--- all that `good` tests but the charge
-unfoldable pub uncharged : Deck → Memory → Bool
-uncharged d m =
+-- what `good` tests of the values, the count, and the numbers behind the pending places
+unfoldable pub framed : Deck → Memory → Bool
+framed d m =
     let n = m .state .pending in
-    let us = updatesOf n (m .pool) in
     eqb (length (m .state .values)) 512
     && unusedZero d 0 (m .state .values)
     && leb n (capacity (length (m .pool)))
-    && all wellWritten (places n (m .pool))
     && all isZero (drop (10 * n) (m .pool))
-    && all (known d) us
-    && allDifferent us
 
 abbrev pub FitsState : ℕ → ℕ → Memory → Bool → Type 0
-FitsState R′ N′ m r = (d : Deck) → R d ≡ R′ → N d ≡ N′ → r ≡ uncharged d m
+FitsState R′ N′ m r = (d : Deck) → R d ≡ R′ → N d ≡ N′ → r ≡ framed d m
+
+-- all that it tests but the charge
+unfoldable pub uncharged : Deck → Memory → Bool
+uncharged d m =
+    let n = m .state .pending in
+    framed d m && allFit d n (m .pool) && allDifferent (updatesOf n (m .pool))
 
 abbrev pub goodnessOf : Deck → Memory → Goodness
 goodnessOf d m = cond (good d m) (Good (charge d (updatesOf (m .state .pending) (m .pool)))) Bad

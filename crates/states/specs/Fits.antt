@@ -1,19 +1,23 @@
 -- A place as the code tests it, number by number. Assumes nothing.
 use Prim.Native.Nat.{ℕ, zero, suc, _+_, _*_, _^_, min}
 use mathlib.Core.Bool.{Bool, true, false, not, _&&_}
-use mathlib.Core.List.{List, [], _∷_}
+use mathlib.Core.List.{List, [], _∷_, map}
 use lib.Bits.{bitOr}
 use lib.Dec.{ltb}
-use lib.ListN.{getD, drop}
+use lib.ListN.{getD, take, drop}
 use lib.IntN.{ℤ, pos, negsuc}
 use Rattle.lists.specs.Lists.{all}
 use Rattle.lists.specs.Bits.{bit}
-use Rattle.pool.specs.Places.{isZero}
+use Rattle.pool.specs.Places.{isZero, pairsOf}
 
 -- a number from 0 to below b, and b for the others
 unfoldable pub within : ℕ → ℤ → ℕ
 within b (pos n) = min n b
 within b (negsuc n) = b
+
+-- the channels of the first n pairs
+abbrev pub channelsOf : ℕ → List ℤ → List ℕ
+channelsOf n t = map (λ a. a .channel) (take n (pairsOf t))
 
 -- the first n pairs have channels below R
 unfoldable pub inRange : ℕ → ℕ → List ℤ → Bool

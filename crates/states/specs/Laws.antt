@@ -6,3 +6,4 @@ pub mod Charges
 pub mod Judged
 pub mod Shape
 pub mod Indexing
+pub mod Unused

@@ -1,7 +1,7 @@
 // The test for a good state (10) and the charge of its pending updates. The definitions are in `pool`.
 ghost use mathlib.Core.Path.{_≡_};
-ghost use mathlib.Core.Bool.{true, _&&_, _||_};
-ghost use Prim.Native.Nat.{_+_, _*_, _/_, _%_, _<_, _≤_};
+ghost use mathlib.Core.Bool.{true};
+ghost use Prim.Native.Nat.{_+_, _*_, _<_, _≤_};
 ghost use lib.Dec.{ltb};
 ghost use lib.ListN.{length, getD, drop};
 ghost use lib.IntN.{pos};
@@ -10,9 +10,9 @@ ghost use Rattle.lists.specs.Bits.{maskOf};
 ghost use Rattle.deck.specs.Shape.{shapeOf};
 ghost use Rattle.charge.specs.Memo.{Ready, capped};
 ghost use Rattle.pool.specs.Updates.{channels};
-ghost use Rattle.pool.specs.Places.{isZero, updateOf, wellWritten, places};
+ghost use Rattle.pool.specs.Places.{isZero, updateOf, wellWritten};
 ghost use Rattle.pool.specs.States.{goodLength};
-ghost use Rattle.states.specs.Answer.{FitsPlace, FitsPlaces, FitsValues, FitsState, Holds, Pending, PlaceGives, PendingGives, memoryOf, Fresh, IndexedIf, Judges};
+ghost use Rattle.states.specs.Answer.{FitsChannels, FitsPlace, FitsValues, FitsState, Holds, PlaceGives, Weighs, memoryOf, Fresh, Judges};
 ghost use Rattle.states.specs.Fits.{within, channelsFit};
 use deck::Deck;
 
@@ -35,96 +35,96 @@ pub fn number_at(place: &[i32], i: usize, bound: usize) -> usize
     if n < bound { n } else { bound }
 }
 
-// Whether the channels of the pairs are known ones, and no two are equal.
-fn channels_fit(place: &[i32], count: usize, channels: usize) -> bool
-    requires { ⌜ (2 + 2 * count ≤ length (now place)) × (channels ≤ 32) ⌝ }
-    ensures { λ r. ⌜ r ≡ channelsFit channels 0 count (drop 2 (now (place .entry))) ⌝ }
+// The channels of the pairs as a set, if they are known ones and no two are equal; else none.
+fn channels_fit(place: &[i32], count: usize, channels: usize) -> u64
+    requires { ⌜ (2 + 2 * count ≤ length (now place)) × (channels ≤ 32) × (0 < count) ⌝ }
+    ensures { λ r. ⌜ FitsChannels channels count (drop 2 (now (place .entry))) r ⌝ }
 {
     let mut mask: u64 = 0;
     let mut i: usize = 0;
     while i < count {
         let c = number_at(place, 2 + 2 * i, channels);
         if c == channels {
-            return false;
+            return 0;
         }
         if (mask >> c) % 2 == 1 {
-            return false;
+            return 0;
         }
         mask = mask | (1u64 << c);
+        i += 1;
+    }
+    mask
+}
+
+// Whether the numbers of a place from one on are 0. A plain loop: there are at most eight.
+fn zero_from(place: &[i32], from: usize) -> bool
+    requires { ⌜ length (now place) ≡ 10 ⌝ }
+    ensures { λ r. ⌜ r ≡ all isZero (drop from (now (place .entry))) ⌝ }
+{
+    let mut i = from;
+    while i < Deck::PLACE {
+        if place[i] != 0 {
+            return false;
+        }
         i += 1;
     }
     true
 }
 
-// Whether a place is well written and holds a known update.
-pub fn place_fits(place: &[i32], channels: usize, parts: usize) -> bool
+// The channels of the update that a place holds, as a set, if the place is well written and its update is a known one; else
+// none.
+fn place_fits(place: &[i32], channels: usize, parts: usize) -> u64
     requires { ⌜ (length (now place) ≡ 10) × (channels ≤ 32) ⌝ }
     ensures { λ r. ⌜ FitsPlace channels parts (now (place .entry)) r ⌝ }
 {
     let p = number_at(place, 0, parts);
     if p == parts {
-        return false;
+        return 0;
     }
     let count = number_at(place, 1, Deck::ASSIGNMENTS + 1);
     if count == 0 {
-        return false;
+        return 0;
     }
     if Deck::ASSIGNMENTS < count {
-        return false;
+        return 0;
     }
-    if !channels_fit(place, count, channels) {
-        return false;
+    let mask = channels_fit(place, count, channels);
+    if mask == 0 {
+        return 0;
     }
-    let end = 2 + 2 * count;
-    pool::all_zero(&place[end..])
+    if !zero_from(place, 2 + 2 * count) {
+        return 0;
+    }
+    mask
 }
 
-// The same for all pending updates.
-fn places_fit(pool: &[i32], pending: usize, channels: usize, parts: usize) -> bool
-    requires { ⌜ (10 * pending ≤ length (now pool)) × (channels ≤ 32) ⌝ }
-    ensures { λ r. ⌜ FitsPlaces channels parts (places pending (now (pool .entry))) r ⌝ }
+// Whether the numbers behind the channels of each part are 0.
+fn parts_fit(values: &[i32], channels: usize, parts: usize) -> bool
+    requires { ⌜ (length (now values) ≡ 32 * parts) × (channels ≤ 32) × (parts ≤ 16) ⌝ }
+    ensures { λ r. ⌜ FitsValues channels parts (now (values .entry)) r ⌝ }
 {
-    let mut k: usize = 0;
-    while k < pending {
-        let at = 10 * k;
-        let next = at + 10;
-        if !place_fits(&pool[at..next], channels, parts) {
+    let mut p: usize = 0;
+    while p < parts {
+        let from = Deck::CHANNELS * p + channels;
+        let to = Deck::CHANNELS * p + Deck::CHANNELS;
+        if !pool::all_zero(&values[from..to]) {
             return false;
         }
-        k += 1;
+        p += 1;
     }
     true
-}
-
-// Whether an index of the value table belongs to a channel of a part, or the number there is 0.
-fn is_used_or_zero(values: &[i32], i: usize, channels: usize, parts: usize) -> bool
-    requires { ⌜ i < length (now values) ⌝ }
-    ensures { λ r. ⌜ r ≡ (ltb (i / 32) parts && ltb (i % 32) channels || isZero (getD (now (values .entry)) i (pos 0))) ⌝ }
-{
-    let x = values[i];
-    if x == 0 {
-        return true;
-    }
-    if i / Deck::CHANNELS < parts {
-        i % Deck::CHANNELS < channels
-    } else {
-        false
-    }
 }
 
 // Whether the numbers of the table that belong to no channel of a part are 0.
 fn values_fit(values: &[i32], channels: usize, parts: usize) -> bool
+    requires { ⌜ (length (now values) ≡ 512) × (channels ≤ 32) × (parts ≤ 16) ⌝ }
     ensures { λ r. ⌜ FitsValues channels parts (now (values .entry)) r ⌝ }
 {
-    let n = values.len();
-    let mut i: usize = 0;
-    while i < n {
-        if !is_used_or_zero(values, i, channels, parts) {
-            return false;
-        }
-        i += 1;
+    let end = Deck::CHANNELS * parts;
+    if !parts_fit(&values[..end], channels, parts) {
+        return false;
     }
-    true
+    pool::all_zero(&values[end..])
 }
 
 // The channels of the update that a place holds, as a set.
@@ -170,8 +170,8 @@ fn capped_sum(a: u32, b: u32) -> u32
     if s < 65536 { s } else { 65536 }
 }
 
-// The charge of the pending updates, up to 65,536.
-fn pending_charge(
+// The charge of the pending updates, up to 65,536, if each place is well written and holds a known update.
+fn weigh(
     rules: &[u64],
     parts: &[u64],
     memo: &mut [u32],
@@ -180,41 +180,31 @@ fn pending_charge(
     parts_count: usize,
     pool: &[i32],
     pending: usize,
-) -> u32
-    requires { ⌜ Ready (now rules) (now parts) channels count «parts_count» (now memo) × (channels ≤ 32) × Pending (shapeOf (now rules) (now parts) channels count «parts_count») pending (now pool) ⌝ }
-    ensures { λ s. ⌜ PendingGives (shapeOf (now (rules .entry)) (now (parts .entry)) channels count «parts_count») pending (now (pool .entry)) (now (memo .exit)) s ⌝ }
+) -> Goodness
+    requires { ⌜ Ready (now rules) (now parts) channels count «parts_count» (now memo) × (channels ≤ 32) × (10 * pending ≤ length (now pool)) ⌝ }
+    ensures { λ r. ⌜ Weighs (shapeOf (now (rules .entry)) (now (parts .entry)) channels count «parts_count») pending (now (pool .entry)) (now (memo .exit)) r ⌝ }
 {
     let mut total: u32 = 0;
     let mut k: usize = 0;
     while k < pending {
         let at = 10 * k;
         let next = at + 10;
-        let c = place_charge(
-            rules,
-            parts,
-            memo,
-            channels,
-            count,
-            parts_count,
-            &pool[at..next],
-        );
+        let mask = place_fits(&pool[at..next], channels, parts_count);
+        if mask == 0 {
+            return Goodness::Bad;
+        }
+        let p = number_at(&pool[at..next], 0, parts_count);
+        let c = charge::update_charge(rules, parts, memo, channels, count, parts_count, p, mask);
         total = capped_sum(total, c);
         k += 1;
     }
-    total
+    Goodness::Good(total)
 }
 
-// Whether the state is a good one, apart from its charge.
-fn state_fits(
-    index: &mut [u16],
-    values: &[i32],
-    pending: usize,
-    pool: &[i32],
-    channels: usize,
-    parts: usize,
-) -> bool
-    requires { ⌜ (channels ≤ 32) × (goodLength (length (now pool)) ≡ true) × Fresh (length (now pool)) (now index) ⌝ }
-    ensures { λ r. ⌜ FitsState channels parts (memoryOf (now (values .entry)) pending (now (pool .entry))) r × IndexedIf pending (now (pool .entry)) (now (index .entry)) (now (index .exit)) (r ≡ true) ⌝ }
+// Whether the values and the count of pending updates are those of a good state, and zeros stand behind their places.
+fn state_fits(values: &[i32], pending: usize, pool: &[i32], channels: usize, parts: usize) -> bool
+    requires { ⌜ (channels ≤ 32) × (parts ≤ 16) ⌝ }
+    ensures { λ r. ⌜ FitsState channels parts (memoryOf (now (values .entry)) pending (now (pool .entry))) r ⌝ }
 {
     if values.len() != Deck::VALUES {
         return false;
@@ -225,17 +215,12 @@ fn state_fits(
     if pool.len() / Deck::PLACE < pending {
         return false;
     }
-    if !places_fit(pool, pending, channels, parts) {
-        return false;
-    }
     let end = 10 * pending;
-    if !pool::all_zero(&pool[end..]) {
-        return false;
-    }
-    index::all_different(index, pool, pending)
+    pool::all_zero(&pool[end..])
 }
 
-// 10: whether the state is a good one; if so, the index of its pending updates.
+// 10: whether the state is a good one; if so, the index of its pending updates. They are compared only where all are well
+// written, since equal numbers mean equal updates only there.
 pub fn judge(
     rules: &[u64],
     parts: &[u64],
@@ -251,22 +236,21 @@ pub fn judge(
     requires { ⌜ Ready (now rules) (now parts) channels count «parts_count» (now memo) × (channels ≤ 32) × (goodLength (length (now pool)) ≡ true) × Fresh (length (now pool)) (now index) ⌝ }
     ensures { λ r. ⌜ Judges (now (rules .entry)) (now (parts .entry)) channels count «parts_count» (now (values .entry)) pending (now (pool .entry)) (now (memo .exit)) (now (index .entry)) (now (index .exit)) r ⌝ }
 {
-    if !state_fits(index, values, pending, pool, channels, parts_count) {
+    if !state_fits(values, pending, pool, channels, parts_count) {
         return Goodness::Bad;
     }
-    let total = pending_charge(
-        rules,
-        parts,
-        memo,
-        channels,
-        count,
-        parts_count,
-        pool,
-        pending,
-    );
-    let places = pool.len() / Deck::PLACE;
-    if places < total as usize {
-        return Goodness::Bad;
+    let weighed = weigh(rules, parts, memo, channels, count, parts_count, pool, pending);
+    match weighed {
+        Goodness::Bad => Goodness::Bad,
+        Goodness::Good(total) => {
+            if !index::all_different(index, pool, pending) {
+                return Goodness::Bad;
+            }
+            let places = pool.len() / Deck::PLACE;
+            if places < total as usize {
+                return Goodness::Bad;
+            }
+            Goodness::Good(total)
+        }
     }
-    Goodness::Good(total)
 }

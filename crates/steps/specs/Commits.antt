@@ -4,7 +4,8 @@ use Prim.Native.Nat.{ℕ, _+_, _-_, _*_, _≤_, _<_}
 use mathlib.Core.Path.{_≡_}
 use mathlib.Core.Bool.{Bool, true, false}
 use mathlib.Core.List.{List}
-use lib.ListN.{length}
+use lib.ListN.{length, drop}
+use lib.Seq.{paste}
 use lib.IntN.{ℤ}
 use Rattle.deck.specs.Deck.{Deck, R, N}
 use Rattle.deck.specs.declared.Deck as Counted
@@ -44,6 +45,10 @@ pub record Reacts (d e : Deck) (C pending total : ℕ) (before after : List ℤ)
 -- ten numbers that hold a known update of a deck with so many parts
 abbrev pub Appliable : List ℤ → ℕ → Type 0
 Appliable l parts = (d : Deck) × Holds d l × (N d ≡ parts) × (N d ≤ 16) × (R d ≤ 32)
+
+-- a table with the values of part p from another
+abbrev pub partCopied : ℕ → List ℤ → List ℤ → List ℤ
+partCopied p from to = paste to (32 * p) (drop (32 * p) from) 32
 
 -- a pool that holds exactly so many known updates, and one of their places
 pub record Looking (k : Counted.Deck) (rules parts memo : List ℕ) (pool : List ℤ) (pending j : ℕ) : Type 0 where
@@ -92,11 +97,12 @@ pub record Finishing (s : List ℕ) (k : Counted.Deck) (rules parts memo : List 
   pub taken : Without (deckOf s) C place machine vs part after pending total held
 
 -- the rest of a commit: what the numbers stand for afterwards is what the definition says
-pub record Finishes (d e : Deck) (C : ℕ) (vs₀ : List ℤ) (part : ℕ) (after : List ℤ) (pending₀ total₀ : ℕ) (held₀ : Held) (m : List ℕ) (held : Held) (values : List ℤ) (pending total : ℕ) (applied : Bool) : Type 0 where
+pub record Finishes (d e : Deck) (C : ℕ) (vs₀ : List ℤ) (part : ℕ) (after : List ℤ) (pending₀ total₀ : ℕ) (held₀ : Held) (m : List ℕ) (held : Held) (before values : List ℤ) (pending total : ℕ) (applied : Bool) : Type 0 where
   pub result : (j : ℕ) (x : Machine) → Without d C j x vs₀ part after pending₀ total₀ held₀
       → Stored d C (committed d j x .machine) values pending total held × (applied ≡ committed d j x .applied)
   pub memo : Memo e m
   pub size : SameSize held₀ held
+  pub same : before ≡ values
 
 pub record Committing (s : List ℕ) (k : Counted.Deck) (rules parts memo : List ℕ) (held : Held) (C : ℕ) (values : List ℤ) (pending total : ℕ) : Type 0 where
   pub tabled : Tabled s k rules parts

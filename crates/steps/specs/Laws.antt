@@ -8,4 +8,5 @@ pub mod Halves
 pub mod Applying
 pub mod Looking
 pub mod Reacting
+pub mod Parts
 pub mod Committing

@@ -1,15 +1,15 @@
 -- New updates offered one by one: what the pool and the counts hold meanwhile. Assumes nothing.
 use Prim.Native.Nat.{ℕ, _+_, _*_, _≤_, _<_}
 use mathlib.Core.Path.{_≡_}
-use mathlib.Core.Bool.{Bool, true, false}
+use mathlib.Core.Bool.{Bool, true, false, _&&_}
 use mathlib.Core.List.{List, [], _∷_, _++_, map}
 use lib.Dec.{ltb}
 use lib.ListN.{length}
 use lib.IntN.{ℤ}
-use Rattle.lists.specs.Lists.{all, distinct, flatMap, member}
-use Rattle.lists.specs.Bits.{maskOf}
+use Rattle.lists.specs.Lists.{all, any, distinct, flatMap, member}
+use Rattle.lists.specs.Bits.{bit, maskOf}
 use Rattle.expression.specs.Answers.{scope}
-use Rattle.deck.specs.Deck.{Deck, Action, Rule, ruleAt, targets, active}
+use Rattle.deck.specs.Deck.{Deck, Action, Rule, M, ruleAt, carries, targets, active}
 use Rattle.deck.specs.Layout.{action}
 use Rattle.deck.specs.declared.Deck as Counted
 use Rattle.deck.specs.Laws.Points.{ReadsAt}
@@ -86,13 +86,20 @@ abbrev pub Offers : List ℕ → ℕ → List ℤ → List ℤ → ℕ → Deck 
 Offers s at own far part d C held₀ q₀ m held q =
     (a : Action) → ReadsAt s (action (scope (length own) (length far))) at a → Offered d C (sentBy own far part a) held₀ q₀ m held q
 
--- what f gives for each rule that part p carries and that hears the changed channels, in rule order. `mask` is their set
-abbrev pub FiresAll : Deck → (Rule → List Update) → ℕ → ℕ → Deck → ℕ → Held → Queue → List ℕ → Held → Queue → Type 0
-FiresAll d f p mask e C held₀ q₀ m held q =
-    (cs : List ℕ) → ((c : ℕ) → member c cs ≡ true → c < 32) → mask ≡ maskOf cs
-    → Offered e C (flatMap f (map (ruleAt d) (active d p cs))) held₀ q₀ m held q
+-- part p carries rule r, which has a channel of cs among its events
+unfoldable pub heard : Deck → ℕ → List ℕ → ℕ → Bool
+heard d p cs r = carries d p r && any (λ c. member c (ruleAt d r .events)) cs
 
--- the whole firing
+-- the set has the rules that are active at p when the channels cs change
+abbrev pub ActiveSet : Deck → ℕ → List ℕ → ℕ → Type 0
+ActiveSet d p cs set = (r : ℕ) → r < M d → bit set r ≡ heard d p cs r
+
+-- what f gives for each rule of such a set, in rule order
+abbrev pub FiresAll : Deck → (Rule → List Update) → ℕ → ℕ → Deck → ℕ → Held → Queue → List ℕ → Held → Queue → Type 0
+FiresAll d f p set e C held₀ q₀ m held q =
+    (cs : List ℕ) → ActiveSet d p cs set → Offered e C (flatMap f (map (ruleAt d) (active d p cs))) held₀ q₀ m held q
+
+-- the whole firing; `mask` is the set of the changed channels
 abbrev pub Fires : Deck → List ℤ → ℕ → ℕ → Deck → ℕ → Held → Queue → List ℕ → Held → Queue → Type 0
 Fires d values p mask e C held₀ q₀ m held q =
     (cs : List ℕ) → ((c : ℕ) → member c cs ≡ true → c < 32) → mask ≡ maskOf cs

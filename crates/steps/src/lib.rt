@@ -16,9 +16,8 @@ ghost use Rattle.firing.specs.Firing.{firedHere, firedThere, fired};
 ghost use Rattle.firing.specs.Evaluated.{HasAction};
 ghost use Rattle.steps.specs.Queue.{heldOf, Offering, Offered, Offers, Sound, FiresAll, Fires};
 ghost use Rattle.pool.specs.Updates.{assign};
-ghost use Rattle.steps.specs.Commits.{Reacting, Reacts, Appliable, Looking, Looks, Finishing, Finishes, Committing, Commits, CommitsFront};
+ghost use Rattle.steps.specs.Commits.{Reacting, Reacts, Appliable, partCopied, Looking, Looks, Finishing, Finishes, Committing, Commits, CommitsFront};
 use deck::Deck;
-use pool::State;
 
 // The pending number and the charge of the pending updates; full where a new one would have passed the capacity.
 pub struct Queue {
@@ -130,7 +129,7 @@ fn fire_here(
     if rules[8 * r + 3] == 1 {
         return first;
     }
-    if passing::truth_from(deck, rules[8 * r + 5] as usize, own, far) {
+    if passing::truth_from(deck, rules[8 * r + 5] as usize, values, from, counts.channels, 0, 0) {
         let action = rules[8 * r + 6] as usize;
         offer(deck, counts, rules, parts, memo, index, pool, gone, capacity, first, action, p, own, far)
     } else {
@@ -167,7 +166,7 @@ fn fire_there(
     let start = Deck::CHANNELS * q;
     let end = start + counts.channels;
     let far = &values[start..end];
-    if passing::truth_from(deck, rules[8 * r + 5] as usize, own, far) {
+    if passing::truth_from(deck, rules[8 * r + 5] as usize, values, from, counts.channels, start, counts.channels) {
         let action = rules[8 * r + 6] as usize;
         offer(deck, counts, rules, parts, memo, index, pool, gone, capacity, queue, action, q, own, far)
     } else {
@@ -206,7 +205,7 @@ fn fire_others(
     out
 }
 
-// The first half of the firing: each active rule in rule order adds to p itself.
+// The first half of the firing: each rule of the set, in rule order, adds to p itself.
 fn fire_all_here(
     deck: &[u8],
     counts: Deck,
@@ -220,24 +219,22 @@ fn fire_all_here(
     queue: Queue,
     values: &[i32],
     p: usize,
-    changed: u64,
+    set: u64,
 ) -> Queue
     requires { ⌜ Tabled (now deck) counts (now rules) (now parts) × Offering (now rules) (now parts) counts capacity (now memo) (heldOf gone (now index) (now pool)) queue × (length (now values) ≡ 512) × (p < counts .parts) ⌝ }
-    ensures { λ s. ⌜ FiresAll (deckOf (now (deck .entry))) (λ r. firedHere (now (values .entry)) p r) p changed (shape (now (rules .entry)) (now (parts .entry)) counts) capacity (heldOf gone (now (index .entry)) (now (pool .entry))) queue (now (memo .exit)) (heldOf gone (now (index .exit)) (now (pool .exit))) s × Offering (now (rules .entry)) (now (parts .entry)) counts capacity (now (memo .exit)) (heldOf gone (now (index .exit)) (now (pool .exit))) s ⌝ }
+    ensures { λ s. ⌜ FiresAll (deckOf (now (deck .entry))) (λ r. firedHere (now (values .entry)) p r) p set (shape (now (rules .entry)) (now (parts .entry)) counts) capacity (heldOf gone (now (index .entry)) (now (pool .entry))) queue (now (memo .exit)) (heldOf gone (now (index .exit)) (now (pool .exit))) s × Offering (now (rules .entry)) (now (parts .entry)) counts capacity (now (memo .exit)) (heldOf gone (now (index .exit)) (now (pool .exit))) s ⌝ }
 {
     let n = counts.rules;
     let mut out = queue;
-    let mut r: usize = 0;
+    let mut r = lists::next_in(set, 0);
     while r < n {
-        if charge::hears(rules, parts, p, r, changed) {
-            out = fire_here(deck, counts, rules, parts, memo, index, pool, gone, capacity, out, values, p, r);
-        }
-        r += 1;
+        out = fire_here(deck, counts, rules, parts, memo, index, pool, gone, capacity, out, values, p, r);
+        r = lists::next_in(set, r + 1);
     }
     out
 }
 
-// The second half: each active rule of kind 1 in rule order goes to every other part.
+// The second half: each rule of the set that is of kind 1, in rule order, goes to every other part.
 fn fire_all_others(
     deck: &[u8],
     counts: Deck,
@@ -251,19 +248,17 @@ fn fire_all_others(
     queue: Queue,
     values: &[i32],
     p: usize,
-    changed: u64,
+    set: u64,
 ) -> Queue
     requires { ⌜ Tabled (now deck) counts (now rules) (now parts) × Offering (now rules) (now parts) counts capacity (now memo) (heldOf gone (now index) (now pool)) queue × (length (now values) ≡ 512) × (p < counts .parts) ⌝ }
-    ensures { λ s. ⌜ FiresAll (deckOf (now (deck .entry))) (λ r. flatMap (firedThere (now (values .entry)) p r) (others (deckOf (now (deck .entry))) p)) p changed (shape (now (rules .entry)) (now (parts .entry)) counts) capacity (heldOf gone (now (index .entry)) (now (pool .entry))) queue (now (memo .exit)) (heldOf gone (now (index .exit)) (now (pool .exit))) s ⌝ }
+    ensures { λ s. ⌜ FiresAll (deckOf (now (deck .entry))) (λ r. flatMap (firedThere (now (values .entry)) p r) (others (deckOf (now (deck .entry))) p)) p set (shape (now (rules .entry)) (now (parts .entry)) counts) capacity (heldOf gone (now (index .entry)) (now (pool .entry))) queue (now (memo .exit)) (heldOf gone (now (index .exit)) (now (pool .exit))) s ⌝ }
 {
     let n = counts.rules;
     let mut out = queue;
-    let mut r: usize = 0;
+    let mut r = lists::next_in(set, 0);
     while r < n {
-        if charge::hears(rules, parts, p, r, changed) {
-            out = fire_others(deck, counts, rules, parts, memo, index, pool, gone, capacity, out, values, p, r);
-        }
-        r += 1;
+        out = fire_others(deck, counts, rules, parts, memo, index, pool, gone, capacity, out, values, p, r);
+        r = lists::next_in(set, r + 1);
     }
     out
 }
@@ -287,8 +282,12 @@ pub fn fire(
     requires { ⌜ Tabled (now deck) counts (now rules) (now parts) × Offering (now rules) (now parts) counts capacity (now memo) (heldOf gone (now index) (now pool)) queue × (length (now values) ≡ 512) × (p < counts .parts) ⌝ }
     ensures { λ s. ⌜ Fires (deckOf (now (deck .entry))) (now (values .entry)) p changed (shape (now (rules .entry)) (now (parts .entry)) counts) capacity (heldOf gone (now (index .entry)) (now (pool .entry))) queue (now (memo .exit)) (heldOf gone (now (index .exit)) (now (pool .exit))) s ⌝ }
 {
-    let first = fire_all_here(deck, counts, rules, parts, memo, index, pool, gone, capacity, queue, values, p, changed);
-    fire_all_others(deck, counts, rules, parts, memo, index, pool, gone, capacity, first, values, p, changed)
+    let set = charge::active(rules, parts, counts.channels, counts.rules, counts.parts, p, changed);
+    if set == 0 {
+        return queue;
+    }
+    let first = fire_all_here(deck, counts, rules, parts, memo, index, pool, gone, capacity, queue, values, p, set);
+    fire_all_others(deck, counts, rules, parts, memo, index, pool, gone, capacity, first, values, p, set)
 }
 
 // The firing that follows when part p's values became `after`, with the pending updates that the pool holds.
@@ -320,77 +319,67 @@ pub fn react(
     fire(deck, counts, rules, parts, memo, index, pool, gone, capacity, queue, after, p, mask)
 }
 
-// A value table with an update applied, and the part of the update.
-pub struct Applied {
-    pub part: usize,
-    pub values: [i32; Deck::VALUES],
+// The values of one part, copied from one table into another.
+fn copy_part(to: &mut [i32], from: &[i32], part: usize)
+    requires { ⌜ (length (now to) ≡ 512) × (length (now from) ≡ 512) × (part < 16) ⌝ }
+    ensures { λ _. ⌜ now (to .exit) ≡ partCopied part (now (from .entry)) (now (to .entry)) ⌝ }
+{
+    let base = Deck::CHANNELS * part;
+    let end = base + Deck::CHANNELS;
+    pool::write_update(&mut to[base..], &from[base..end]);
 }
 
-// The update that a place holds, applied.
-fn apply(values: [i32; Deck::VALUES], place: &[i32], parts: usize) -> Applied
-    requires { ⌜ Appliable (now place) parts ⌝ }
-    ensures { λ r. ⌜ (r .part ≡ updateOf (now (place .entry)) .part) × (r .values ≡ assign (updateOf (now (place .entry)) .part) (updateOf (now (place .entry)) .pairs) values) ⌝ }
+// The update that a place holds, applied. The answer is its part.
+fn apply(values: &mut [i32], place: &[i32], parts: usize) -> usize
+    requires { ⌜ Appliable (now place) parts × (length (now values) ≡ 512) ⌝ }
+    ensures { λ r. ⌜ (r ≡ updateOf (now (place .entry)) .part) × (now (values .exit) ≡ assign (updateOf (now (place .entry)) .part) (updateOf (now (place .entry)) .pairs) (now (values .entry))) ⌝ }
 {
     let part = states::number_at(place, 0, parts);
     let count = states::number_at(place, 1, 5);
     let to = 2 + 2 * count;
-    let mut after = values;
-    firing::assign_pairs(&mut after, part, &place[2..to]);
-    Applied {
-        part: part,
-        values: after,
-    }
+    firing::assign_pairs(values, part, &place[2..to]);
+    part
 }
 
-// The update at a place: its part, the values with it applied, and its charge, up to 65,536.
+// The part of an update, and its charge, up to 65,536.
 pub struct Looked {
     pub part: usize,
-    pub values: [i32; Deck::VALUES],
     pub charge: u32,
 }
 
-// What stands at place k.
+// The update at place k, applied.
 fn look(
     counts: Deck,
     rules: &[u64],
     parts: &[u64],
     memo: &mut [u32],
     pool: &[i32],
-    values: [i32; Deck::VALUES],
+    values: &mut [i32],
     pending: usize,
     k: usize,
 ) -> Looked
-    requires { ⌜ Looking counts (now rules) (now parts) (now memo) (now pool) pending k ⌝ }
-    ensures { λ r. ⌜ Looks (shape (now (rules .entry)) (now (parts .entry)) counts) k values (now (pool .entry)) (now (memo .exit)) (r .part) (r .values) (r .charge) ⌝ }
+    requires { ⌜ Looking counts (now rules) (now parts) (now memo) (now pool) pending k × (length (now values) ≡ 512) ⌝ }
+    ensures { λ r. ⌜ Looks (shape (now (rules .entry)) (now (parts .entry)) counts) k (now (values .entry)) (now (pool .entry)) (now (memo .exit)) (r .part) (now (values .exit)) (r .charge) ⌝ }
 {
     let at = 10 * k;
     let end = at + 10;
-    let c = states::place_charge(
-        rules,
-        parts,
-        memo,
-        counts.channels,
-        counts.rules,
-        counts.parts,
-        &pool[at..end],
-    );
-    let done = apply(values, &pool[at..end], counts.parts);
-    let after = done.values;
+    let c = states::place_charge(rules, parts, memo, counts.channels, counts.rules, counts.parts, &pool[at..end]);
+    let part = apply(values, &pool[at..end], counts.parts);
     Looked {
-        part: done.part,
-        values: after,
+        part: part,
         charge: c,
     }
 }
 
-// A state after a commit, the charge then pending, and whether the update was applied.
+// The pending number and the charge after a commit, and whether the update was applied.
 pub struct Step {
-    pub state: State,
+    pub pending: usize,
     pub charge: u32,
     pub applied: bool,
 }
 
-// The rest of a commit, when the update is out of the pool: the limit of its part decides.
+// The rest of a commit, when the update is out of the pool and applied: the limit of its part decides. `before` has the values as
+// they were; both tables are equal afterwards.
 fn finish(
     deck: &[u8],
     counts: Deck,
@@ -401,31 +390,25 @@ fn finish(
     pool: &mut [i32],
     gone: usize,
     capacity: u32,
-    before: [i32; Deck::VALUES],
+    before: &mut [i32],
+    values: &mut [i32],
     part: usize,
-    after: [i32; Deck::VALUES],
     pending: usize,
     charge: u32,
 ) -> Step
-    requires { ⌜ Finishing (now deck) counts (now rules) (now parts) (now memo) (heldOf gone (now index) (now pool)) capacity before part after pending charge ⌝ }
-    ensures { λ r. ⌜ Finishes (deckOf (now (deck .entry))) (shape (now (rules .entry)) (now (parts .entry)) counts) capacity before part after pending charge (heldOf gone (now (index .entry)) (now (pool .entry))) (now (memo .exit)) (heldOf gone (now (index .exit)) (now (pool .exit))) (r .state .values) (r .state .pending) (r .charge) (r .applied) ⌝ }
+    requires { ⌜ Finishing (now deck) counts (now rules) (now parts) (now memo) (heldOf gone (now index) (now pool)) capacity (now before) part (now values) pending charge ⌝ }
+    ensures { λ r. ⌜ Finishes (deckOf (now (deck .entry))) (shape (now (rules .entry)) (now (parts .entry)) counts) capacity (now (before .entry)) part (now (values .entry)) pending charge (heldOf gone (now (index .entry)) (now (pool .entry))) (now (memo .exit)) (heldOf gone (now (index .exit)) (now (pool .exit))) (now (before .exit)) (now (values .exit)) (r .pending) (r .charge) (r .applied) ⌝ }
 {
-    if passing::within(deck, counts, parts, &after, part) {
-        let queue = react(deck, counts, rules, parts, memo, index, pool, gone, capacity, pending, charge, &before, &after, part);
-        let state = State {
-            values: after,
-            pending: queue.pending as u32,
-        };
-        return Step { state: state, charge: queue.charge, applied: true };
+    if passing::within(deck, counts, parts, values, part) {
+        let queue = react(deck, counts, rules, parts, memo, index, pool, gone, capacity, pending, charge, before, values, part);
+        copy_part(before, values, part);
+        return Step { pending: queue.pending, charge: queue.charge, applied: true };
     }
-    let state = State {
-        values: before,
-        pending: pending as u32,
-    };
-    Step { state: state, charge: charge, applied: false }
+    copy_part(values, before, part);
+    Step { pending: pending, charge: charge, applied: false }
 }
 
-// The commit of place k: it is taken out, and later places move down.
+// The commit of place k: it is taken out, and later places move down. Both tables hold the values.
 pub fn commit(
     deck: &[u8],
     counts: Deck,
@@ -435,21 +418,20 @@ pub fn commit(
     index: &mut [u16],
     pool: &mut [i32],
     capacity: u32,
-    state: State,
+    before: &mut [i32],
+    values: &mut [i32],
+    pending: usize,
     charge: u32,
     k: usize,
 ) -> Step
-    requires { ⌜ Committing (now deck) counts (now rules) (now parts) (now memo) (heldOf 0 (now index) (now pool)) capacity (state .values) (state .pending) charge × (k < state .pending) ⌝ }
-    ensures { λ r. ⌜ Commits (deckOf (now (deck .entry))) (shape (now (rules .entry)) (now (parts .entry)) counts) capacity k (heldOf 0 (now (index .entry)) (now (pool .entry))) (state .values) (state .pending) charge (now (memo .exit)) (heldOf 0 (now (index .exit)) (now (pool .exit))) (r .state .values) (r .state .pending) (r .charge) (r .applied) ⌝ }
+    requires { ⌜ Committing (now deck) counts (now rules) (now parts) (now memo) (heldOf 0 (now index) (now pool)) capacity (now values) pending charge × (now before ≡ now values) × (k < pending) ⌝ }
+    ensures { λ r. ⌜ Commits (deckOf (now (deck .entry))) (shape (now (rules .entry)) (now (parts .entry)) counts) capacity k (heldOf 0 (now (index .entry)) (now (pool .entry))) (now (values .entry)) pending charge (now (memo .exit)) (heldOf 0 (now (index .exit)) (now (pool .exit))) (now (values .exit)) (r .pending) (r .charge) (r .applied) ⌝ }
 {
-    let n = state.pending as usize;
-    let before = state.values;
-    let found = look(counts, rules, parts, memo, pool, before, n, k);
-    pool::take_out(pool, n, k);
-    index::forget(index, n, k);
-    let after = found.values;
+    let found = look(counts, rules, parts, memo, pool, values, pending, k);
+    pool::take_out(pool, pending, k);
+    index::forget(index, pending, k);
     let left = charge - found.charge;
-    finish(deck, counts, rules, parts, memo, index, pool, 0, capacity, before, found.part, after, n - 1, left)
+    finish(deck, counts, rules, parts, memo, index, pool, 0, capacity, before, values, found.part, pending - 1, left)
 }
 
 // The commit of place 0, where the others stay: the pool from the next place on is lent.
@@ -463,16 +445,15 @@ pub fn commit_front(
     pool: &mut [i32],
     gone: usize,
     capacity: u32,
-    state: State,
+    before: &mut [i32],
+    values: &mut [i32],
+    pending: usize,
     charge: u32,
 ) -> Step
-    requires { ⌜ Committing (now deck) counts (now rules) (now parts) (now memo) (heldOf gone (now index) (now pool)) capacity (state .values) (state .pending) charge × (0 < state .pending) ⌝ }
-    ensures { λ r. ⌜ CommitsFront (deckOf (now (deck .entry))) (shape (now (rules .entry)) (now (parts .entry)) counts) capacity (heldOf gone (now (index .entry)) (now (pool .entry))) (state .values) (state .pending) charge (now (memo .exit)) (heldOf (gone + 1) (now (index .exit)) (drop 10 (now (pool .exit)))) (r .state .values) (r .state .pending) (r .charge) (r .applied) ⌝ }
+    requires { ⌜ Committing (now deck) counts (now rules) (now parts) (now memo) (heldOf gone (now index) (now pool)) capacity (now values) pending charge × (now before ≡ now values) × (0 < pending) ⌝ }
+    ensures { λ r. ⌜ CommitsFront (deckOf (now (deck .entry))) (shape (now (rules .entry)) (now (parts .entry)) counts) capacity (heldOf gone (now (index .entry)) (now (pool .entry))) (now (values .entry)) pending charge (now (memo .exit)) (heldOf (gone + 1) (now (index .exit)) (drop 10 (now (pool .exit)))) (now (values .exit)) (r .pending) (r .charge) (r .applied) × (now (before .exit) ≡ now (values .exit)) ⌝ }
 {
-    let n = state.pending as usize;
-    let before = state.values;
-    let found = look(counts, rules, parts, memo, pool, before, n, 0);
-    let after = found.values;
+    let found = look(counts, rules, parts, memo, pool, values, pending, 0);
     let left = charge - found.charge;
-    finish(deck, counts, rules, parts, memo, index, &mut pool[Deck::PLACE..], gone + 1, capacity - 1, before, found.part, after, n - 1, left)
+    finish(deck, counts, rules, parts, memo, index, &mut pool[Deck::PLACE..], gone + 1, capacity - 1, before, values, found.part, pending - 1, left)
 }

@@ -2,15 +2,16 @@
 -- measure. The loop's invariant: the charges of the rules passed are added at every part, up to the cap, and the memo is
 -- right. Assumes nothing.
 use Prim.Native.Nat.{ℕ, _<_, _≤_, _-_}
-use mathlib.Core.Path.{sym, _∙_}
-use mathlib.Core.Logic.{⊎-elim}
+use mathlib.Core.Path.{refl, sym, _∙_}
 use native.Mathlib.Omega.{arith}
 use borrow.Fn.Kinds.{In}
 use borrow.Fn.PlainCycle.{Measures, is, falls, and}
+use Rattle.lists.specs.Laws.Through.{Through, through-next, through-here, through-all}
+use Rattle.lists.proofs.next_in.Reads as next-in-reads
 use Rattle.deck.specs.Shape.{bitsOf, shapeOf}
 use Rattle.charge.specs.Memo.{Memo, Keeps}
 use Rattle.charge.proofs.Heights.{updateRank, ruleRank}
-use Rattle.charge.proofs.Tabled.{own-is, given-is, first-falls, second-falls, listening-falls, listening-carried}
+use Rattle.charge.proofs.Tabled.{own-is, given-is, first-falls, second-falls, is-listener, listening-falls, listening-carried}
 use Rattle.charge.proofs.Memos.{keeps-same, keeps-trans}
 use Rattle.charge.proofs.RowCharges.{Hearing, row-same, hearing-none, hearing-skip, hearing-more, row-written, row-of, gives-none, gives-heard, gives-known, gives-written}
 use Rattle.charge.proofs.rule_charges.Reads as rule
@@ -20,7 +21,7 @@ use Rattle.charge.proofs.update_charges.Reads as update
 use Rattle.charge.proofs.update_charges.Kinds as update-kinds
 use Rattle.charge.proofs.+rule_charges+update_charges.Lts-update_charges as U
 use Rattle.charge.proofs.add_row.Reads as add-row-reads
-use Rattle.charge.proofs.listens.Reads as listens-reads
+use Rattle.charge.proofs.listeners.Reads as listeners-reads
 use Rattle.charge.proofs.put_row.Reads as put-row-reads
 use Rattle.charge.proofs.+rule_charges+update_charges.{statement}
 use Rattle.charge.proofs.+rule_charges+update_charges.Tie.{close}
@@ -51,8 +52,10 @@ R-claims t = (
 
 abbrev U-claims : ℕ → U.Claims
 U-claims t = (
-  listens-reads.Asked,
-  listens-reads.Learnt,
+  listeners-reads.Asked,
+  listeners-reads.Learnt,
+  next-in-reads.Asked,
+  next-in-reads.Learnt,
   and 3 rule-kinds.ps (falls 3 rule-kinds.ps _<_ μ-rule t) rule.Pre,
   rule.Post,
   add-row-reads.Asked,
@@ -60,12 +63,12 @@ U-claims t = (
 )
 
 abbrev U-Inv : U.InvT-loop
-U-Inv rules parts memo₀ channels count parts-count mask sums₀ r₀ memo sums r =
+U-Inv rules parts memo₀ channels count parts-count mask set sums₀ r₀ memo sums r =
     let d = shapeOf rules parts channels count parts-count in
-    (r ≤ count) × Memo d memo × Keeps memo₀ memo × Hearing d parts-count mask r sums
+    (r ≤ 64) × Memo d memo × Keeps memo₀ memo × Through set count (λ k. Hearing d parts-count mask k sums) r
 
 abbrev U-μ : U.MeasureT-loop
-U-μ rules parts memo₀ channels count parts-count mask sums₀ r₀ memo sums r = count - r
+U-μ rules parts memo₀ channels count parts-count mask set sums₀ r₀ memo sums r = 64 - r
 
 module _ (t : ℕ) where
   R-mul-if1 : R.Need-mul-if1 (R-claims t) (R-at t) rule.Post
@@ -166,79 +169,89 @@ module _ (t : ℕ) where
       let s = c .before .before .before .before in
       gives-none (s .pre .1 .tables) (c .if1 .taken) (s .pre .1 .memo)
 
+  U-listeners-requires : U.Need-listeners-requires (U-claims t) (U-at t) update.Post U-Inv U-μ
+  U-listeners-requires c κs = omega arith
+
+  U-next-in-requires : U.Need-next-in-requires (U-claims t) (U-at t) update.Post U-Inv U-μ
+  U-next-in-requires c κs = omega arith
+
   U-loop-holds : U.Need-loop-holds (U-claims t) (U-at t) update.Post U-Inv U-μ
   U-loop-holds c =
-      let s = c .before .before .before .before in
-      (omega arith, s .pre .1 .memo, keeps-same, hearing-none (s .pre .1 .tables) (s .args .mask))
-
-  U-listens-requires : U.Need-listens-requires (U-claims t) (U-at t) update.Post U-Inv U-μ
-  U-listens-requires c κs = omega arith
+      let s = c .before .before .before .before .before .before in
+      let h = s .pre .1 .tables in
+      let set = c .before .listeners .ensures in
+      let n = c .next-in .ensures in (
+        n .most,
+        s .pre .1 .memo,
+        keeps-same,
+        through-next n (omega arith) (h .few-rules)
+            (λ i a b f w. hearing-skip h w b (sym (is-listener h i b (s .args .mask) set) ∙ f))
+            (hearing-none h (s .args .mask)),
+      )
 
   U-rule-charges-requires : U.Need-rule-charges-requires (U-claims t) (U-at t) update.Post U-Inv U-μ
   U-rule-charges-requires c κs =
       let s = c .before .before .before .before .before .before .before .before .before in
       let h = s .pre .1 .tables in
-      let i = c .before .before .before .before .loop in
-      let k = c .before .before .before .loop-test .taken in
-      let y = sym (c .before .before .listens .ensures) ∙ c .before .if2 .taken in
+      let i = c .before .before .loop in
+      let k = c .before .loop-test .taken in
+      let y = sym (is-listener h (i .r) k (s .args .mask) (c .before .before .before .before .listeners .ensures)) ∙ i .inv .3 .found (omega arith) in
       let f = listening-falls h (i .r) k (s .args .mask) y in
-      (omega arith, (record { tables = h; memo = i .inv .1 }, omega arith, listening-carried h (i .r) k (s .args .mask) y))
+      (omega arith, (record { tables = h; memo = i .inv .1 }, k, listening-carried h (i .r) k (s .args .mask) y))
 
   U-slice-aggregate-add-row : U.Need-slice-aggregate-add-row (U-claims t) (U-at t) update.Post U-Inv U-μ
-  U-slice-aggregate-add-row c = sym (c .before .before .before .before .before .before .before .before .loop .inv .3 .row .small .long)
+  U-slice-aggregate-add-row c = sym (c .before .before .before .before .before .before .loop .inv .3 .done .row .small .long)
 
   U-add-row-requires : U.Need-add-row-requires (U-claims t) (U-at t) update.Post U-Inv U-μ
   U-add-row-requires c κs =
       let s = c .before .before .before .before .before .before .before .before .before .before .before .before .before .before in
-      let g = c .before .before .before .before .rule-charges .ensures in (
+      let g = c .before .before .before .before .rule-charges .ensures in
+      let k = c .before .before .before .before .before .before .loop-test .taken in (
         s .pre .1 .tables .parts-long,
         g .memo .long,
         s .pre .1 .tables .few-parts,
         omega arith,
-        c .before .before .before .before .before .before .before .before .before .loop .inv .3 .row .small,
+        through-here (c .before .before .before .before .before .before .before .loop .inv .3) k .row .small,
         g .known,
       )
 
-  U-add-r : U.Need-add-r (U-claims t) (U-at t) update.Post U-Inv U-μ
-  U-add-r c = omega arith
+  U-add-next-in : U.Need-add-next-in (U-claims t) (U-at t) update.Post U-Inv U-μ
+  U-add-next-in c = omega arith
+
+  U-next-in-requires-2 : U.Need-next-in-requires-2 (U-claims t) (U-at t) update.Post U-Inv U-μ
+  U-next-in-requires-2 c κs = omega arith
 
   U-loop-less : U.Need-loop-less (U-claims t) (U-at t) update.Post U-Inv U-μ
-  U-loop-less c = omega arith
+  U-loop-less c = omega (arith, c .next-in2 .ensures .on (omega arith), c .next-in2 .ensures .most)
 
   U-loop-again : U.Need-loop-again (U-claims t) (U-at t) update.Post U-Inv U-μ
   U-loop-again c =
-      let s = c .before .before .before .before .before .before .before .before in
+      let s = c .before .before .before .before .before .before .before .before .before .before .before .before .before .before .before .before .before in
       let h = s .pre .1 .tables in
-      let i = c .before .before .before .loop .inv in
-      let k = c .before .before .loop-test .taken in
-      ⊎-elim
-      (λ w.
-      let g = w .2 .ensures in (
-        omega arith,
-        rw (w .9) (g .memo),
-        rw (w .9) (keeps-trans (i .2) (g .keeps)),
-        rw (w .10)
-            (hearing-more h (i .3) k (sym (c .before .listens .ensures) ∙ w .0 .taken) (g .memo) (g .known)
-            (w .7 .ensures)),
-      ))
-      (λ w. (
-        omega arith,
-        rw (w .1) (i .1),
-        rw (w .1) (i .2),
-        rw (w .2) (hearing-skip h (i .3) k (sym (c .before .listens .ensures) ∙ w .0 .left)),
-      ))
-      (c .if2 .came)
+      let i = c .before .before .before .before .before .before .before .before .before .before .loop in
+      let k = c .before .before .before .before .before .before .before .before .before .loop-test .taken in
+      let set = c .before .before .before .before .before .before .before .before .before .before .before .before .listeners .ensures in
+      let g = c .before .before .before .before .before .before .before .rule-charges .ensures in
+      let n = c .next-in2 .ensures in
+      let y = sym (is-listener h (i .r) k (s .args .mask) set) ∙ i .inv .3 .found (omega arith) in (
+        n .most,
+        g .memo,
+        keeps-trans (i .inv .2) (g .keeps),
+        through-next n (omega arith) (h .few-rules)
+            (λ i a b f w. hearing-skip h w b (sym (is-listener h i b (s .args .mask) set) ∙ f))
+            (hearing-more h (through-here (i .inv .3) k) k y (g .memo) (g .known) (c .before .before .add-row .ensures)),
+      )
 
   U-same-length : U.Need-same-length (U-claims t) (U-at t) update.Post U-Inv U-μ
   U-same-length c =
-      let s = c .before .before .before .before .before .before in
+      let s = c .before .before .before .before .before .before .before .before in
       c .before .loop .inv .1 .long ∙ sym (s .pre .1 .memo .long)
 
   U-returns-2 : U.Need-returns-2 (U-claims t) (U-at t) update.Post U-Inv U-μ
   U-returns-2 c =
-      let s = c .before .before .before .before .before .before in
+      let s = c .before .before .before .before .before .before .before .before in
       let i = c .before .loop .inv in
-      gives-heard (s .pre .1 .tables) (c .before .before .if1 .left) (i .1) (i .2) (i .3) (omega arith)
+      gives-heard (s .pre .1 .tables) (c .before .before .before .before .if1 .left) (i .1) (i .2) (through-all (i .3) (c .loop-test .left)) refl
 
 pub +rule-charges+update-charges-spec : {M : Type 1} → statement M
 +rule-charges+update-charges-spec =
@@ -251,6 +264,6 @@ pub +rule-charges+update-charges-spec : {M : Type 1} → statement M
     (R-slice-aggregate-put-row t) (R-slice-aggregate-put-row-2 t) (R-put-row-requires t) (R-same-length t)
     (R-returns-2 t))
     (λ t. U.spec
-    (U-claims t) (U-at t) update.Post U-Inv U-μ (U-returns t) (U-loop-holds t) (U-listens-requires t)
-    (U-rule-charges-requires t) (U-slice-aggregate-add-row t) (U-add-row-requires t) (U-add-r t) (U-loop-less t)
-    (U-loop-again t) (U-same-length t) (U-returns-2 t))
+    (U-claims t) (U-at t) update.Post U-Inv U-μ (U-returns t) (U-listeners-requires t) (U-next-in-requires t)
+    (U-loop-holds t) (U-rule-charges-requires t) (U-slice-aggregate-add-row t) (U-add-row-requires t)
+    (U-add-next-in t) (U-next-in-requires-2 t) (U-loop-less t) (U-loop-again t) (U-same-length t) (U-returns-2 t))

@@ -5,14 +5,15 @@ use mathlib.Core.Bool.{cond}
 use native.Mathlib.Omega.{arith}
 use lib.Dec.{eqb}
 use lib.ListN.{getD}
+use borrow.Author.Tests.{eq-eqb}
 use Rattle.lists.specs.Lists.{sum, below}
-use Rattle.charge.proofs.Rows.{Putting, filled-none, putting-more, putting-all, share-most, sum-parted, row-most}
+use Rattle.charge.proofs.Rows.{Putting, filled-none, putting-more, putting-all, share-most, share-only, sum-parted, row-most}
 use Rattle.charge.proofs.put_row.Statement.{statement}
 use Rattle.charge.proofs.put_row.Tie as tie
 use Rattle.charge.proofs.put_row.Reads as reads
 use Rattle.charge.proofs.put_row.Lts as lts
 use Rattle.charge.proofs.capped_sum.Reads as capped-sum-reads
-use Rattle.charge.proofs.row_sum.Reads as row-sum-reads
+use Rattle.charge.proofs.total_for.Reads as total-for-reads
 use Rattle.charge.proofs.share.Reads as share-reads
 
 abbrev Inv-loop : tie.InvT-loop
@@ -24,8 +25,8 @@ abbrev μ-loop : tie.MeasureT-loop
 
 abbrev claims : lts.Claims
 claims = (
-  row-sum-reads.Asked,
-  row-sum-reads.Learnt,
+  total-for-reads.Asked,
+  total-for-reads.Learnt,
   share-reads.Asked,
   share-reads.Learnt,
   capped-sum-reads.Asked,
@@ -51,10 +52,13 @@ rest : (c : lts.After-share claims reads.Pre reads.Post Inv-loop μ-loop)
     c .share .result ≡ shareOf s (c .before .before .before .loop .p) (total s)
 rest c =
     let s = c .before .before .before .before .before .before .before .before in
-    c .share .ensures ∙ ap (shareOf s (c .before .before .before .loop .p)) (c .before .before .before .before .row-sum .ensures)
+    let p = c .before .before .before .loop .p in
+    c .share .ensures
+    ∙ ap (shareOf s p) (c .before .before .before .before .total-for .ensures)
+    ∙ share-only (eqb (s .args .kind) 1) (total s) (getD (s .args .second .now) p 0)
 
-row-sum-requires : tie.Need-row-sum-requires Inv-loop μ-loop
-row-sum-requires c κs = let s = c .before .before .before in (s .pre .4, s .pre .1)
+total-for-requires : tie.Need-total-for-requires Inv-loop μ-loop
+total-for-requires c κs = let s = c .before .before .before in (s .pre .4, s .pre .1)
 
 loop-holds : tie.Need-loop-holds Inv-loop μ-loop
 loop-holds c = (omega arith, record { filled = filled-none })
@@ -66,9 +70,10 @@ shared-slice-read-share : tie.Need-shared-slice-read-share Inv-loop μ-loop
 shared-slice-read-share c = omega arith
 
 share-requires : tie.Need-share-requires Inv-loop μ-loop
-share-requires c κs =
+share-requires c κs e =
     let s = c .before .before .before .before .before .before .before in
-    omega (arith, c .before .before .before .row-sum .ensures, has s (c .before .before .loop .p) (c .before .loop-test .taken))
+    let t = c .before .before .before .total-for .ensures ∙ ap (λ b. cond b (total s) 0) (eq-eqb (s .args .kind) 1 e) in
+    omega (arith, t, has s (c .before .before .loop .p) (c .before .loop-test .taken))
 
 mul-capped-sum : tie.Need-mul-capped-sum Inv-loop μ-loop
 mul-capped-sum c = omega arith
@@ -123,7 +128,7 @@ put-row-spec =
     (tie.spec
     Inv-loop
     μ-loop
-    row-sum-requires
+    total-for-requires
     loop-holds
     mul-share
     shared-slice-read-share

@@ -11,7 +11,7 @@ abbrev choice : ℕ → ℕ → Bool → ℕ
 choice total own b = cond b (total - own) own
 
 sub-result : tie.Need-sub-result
-sub-result c = omega arith
+sub-result c = omega (arith, c .before .pre (c .if1 .taken))
 
 returns : tie.Need-returns
 returns c =

@@ -13,22 +13,23 @@ check-spec =
     (tie.spec
     (λ c. refl)
     (λ c. refl)
-    (λ c κs. (refl, refl))
+    (λ c. refl)
+    (λ c κs. (refl, refl, refl))
     (λ c. search needs)
     (λ c.
     let j = c .before .before in
-    let w = rw (j .verdict .given .1) at (j .before .before .before .before .judge .ensures) in
+    let w = rw (j .verdict .given .1) at (j .before .before .before .before .before .judge .ensures) in
     omega (arith, w .tabled .counts .channels, w .tabled .counts .formed .channels))
     (λ c.
     let j = c .before .before .before in
-    let w = rw (j .verdict .given .1) at (j .before .before .before .before .judge .ensures) in
+    let w = rw (j .verdict .given .1) at (j .before .before .before .before .before .judge .ensures) in
     omega (arith, w .tabled .counts .rules, w .tabled .counts .formed .rules))
     (λ c.
     let j = c .before .before .before .before in
-    let w = rw (j .verdict .given .1) at (j .before .before .before .before .judge .ensures) in
+    let w = rw (j .verdict .given .1) at (j .before .before .before .before .before .judge .ensures) in
     omega (arith, w .tabled .counts .parts, w .tabled .counts .formed .parts))
     (λ c. search needs)
     (λ c.
     let j = c .before .before .before .before in
-    sym (check-whole _ _ _ _ _ (rw (j .verdict .given .1) at (j .before .before .before .before .judge .ensures))))
-    (λ c. sym (check-refused _ _ _ (rw (c .before .verdict2 .given .1) at (c .before .before .before .before .before .judge .ensures)))))
+    sym (check-whole _ _ _ _ _ _ (rw (j .verdict .given .1) at (j .before .before .before .before .before .judge .ensures))))
+    (λ c. sym (check-refused _ _ _ (rw (c .before .verdict2 .given .1) at (c .before .before .before .before .before .before .judge .ensures)))))

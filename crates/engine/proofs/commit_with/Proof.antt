@@ -2,52 +2,44 @@
 use mathlib.Core.Path.{refl, sym}
 use native.Mathlib.Omega.{arith}
 use borrow.Author.Needs.{needs}
-use Rattle.pool.specs.Places.{capacity}
 use Rattle.engine.specs.Laws.CommitAnswers.{commit-declined, commit-no-place, commit-made}
 use Rattle.engine.proofs.commit_with.Statement.{statement}
 use Rattle.engine.proofs.commit_with.Tie as tie
 
 -- the needs in the order of the code: the tables, the tests, and for each of their answers what the call answers
 pub commit-with-spec : {M : Type 1} → statement M
-unfolding capacity
 commit-with-spec =
     tie.close
     (tie.spec
     (λ c. refl)
     (λ c. refl)
     (λ c. refl)
-    (λ c. search needs)
-    (λ c κs. (refl, refl, refl, c .before .before .before .before .before .before .before .before .before .pre))
+    (λ c κs. (refl, refl, refl, c .before .before .before .before .before .before .before .before .before .before .pre))
     (λ c. search needs)
     (λ c. search needs)
     (λ c. search needs)
     (λ c. search needs)
     (λ c.
-    let f = c .before .before .before in
+    let f = c .before .before in
     let w = rw (f .found2 .given .1) at (f .before .before .before .before .before .before .before .test-lent .ensures) in
     sym (commit-no-place _ _ _ _ (w .accepted) (c .if1 .taken)))
     (λ c.
     let f = c .before .before .before in
     let w = rw (f .found2 .given .1) at (f .before .before .before .before .before .before .before .test-lent .ensures) in
-    omega (arith, w .entering .room .bounded))
+    sym (w .entering .tabled .ruleTable .long))
     (λ c.
     let f = c .before .before .before .before in
     let w = rw (f .found2 .given .1) at (f .before .before .before .before .before .before .before .test-lent .ensures) in
-    sym (w .entering .tabled .ruleTable .long))
-    (λ c.
-    let f = c .before .before .before .before .before in
-    let w = rw (f .found2 .given .1) at (f .before .before .before .before .before .before .before .test-lent .ensures) in
     sym (w .entering .tabled .partTable .long))
     (λ c.
-    let f = c .before .before .before .before .before .before in
+    let f = c .before .before .before .before .before in
     let w = rw (f .found2 .given .1) at (f .before .before .before .before .before .before .before .test-lent .ensures) in
     sym (w .entering .ready .memo .long))
     (λ c κs.
     let i = c .before .before .before .before .before in
-    let f = i .before .before .before in
+    let f = i .before .before in
     let w = rw (f .found2 .given .1) at (f .before .before .before .before .before .before .before .test-lent .ensures) in
     (w .entering, omega (arith, i .if1 .left)))
-    (λ c κs. search needs)
     (λ c. search needs)
     (λ c. search needs)
     (λ c.
@@ -56,9 +48,8 @@ commit-with-spec =
     (λ c. search needs)
     (λ c. search needs)
     (λ c.
-    let a = c .before in
-    let s = a .before .before .before .before .before in
-    let i = s .before .before .before .before .before .before in
-    let f = i .before .before .before in
+    let t = c .before .before .before .before in
+    let i = t .before .before .before .before .before .before in
+    let f = i .before .before in
     let w = rw (f .found2 .given .1) at (f .before .before .before .before .before .before .before .test-lent .ensures) in
-    commit-made _ _ _ (w .accepted) (w .loaded) (s .commit .ensures) (omega (arith, i .if1 .left)) (a .commit-answer .ensures)))
+    commit-made _ _ _ (w .accepted) (w .loaded) (t .commit-tested .ensures) (t .commit-tested .kept .1 .1 .1 .1 .1 .1 .0) (omega (arith, i .if1 .left))))

@@ -10,27 +10,27 @@ use Rattle.engine.proofs.section.Tie as tie
 returns : tie.Need-returns
 returns c =
     let j = c .before .before .before in
-    let w = rw (j .judged2 .given .1) at (j .before .before .before .before .judge .ensures) in
-    sym (section-unknown _ _ _ _ _ w _ (c .before .if1 .taken))
+    let w = rw (j .judged2 .given .1) at (j .before .before .before .before .before .judge .ensures) in
+    sym (section-unknown _ _ _ _ _ _ w _ (c .before .if1 .taken))
 
 stretch-requires : tie.Need-stretch-requires
 stretch-requires c κs =
     let j = c .before .before in
-    let w = rw (j .judged2 .given .1) at (j .before .before .before .before .judge .ensures) in
-    let o = section-order _ _ _ _ _ w in
+    let w = rw (j .judged2 .given .1) at (j .before .before .before .before .before .judge .ensures) in
+    let o = section-order _ _ _ _ _ _ w in
     (o .0, o .1, omega (arith, c .if1 .left))
 
 returns-2 : tie.Need-returns-2
 returns-2 c =
     let j = c .before .before in
-    let w = rw (j .judged .given .1) at (j .before .before .before .before .judge .ensures) in
+    let w = rw (j .judged .given .1) at (j .before .before .before .before .before .judge .ensures) in
     sym (section-refused _ _ _ _ w)
 
 returns-3 : tie.Need-returns-3
 returns-3 c =
     let j = c .before .before .before in
-    let w = rw (j .judged2 .given .1) at (j .before .before .before .before .judge .ensures) in
-    ap (λ l. sectionOf l 0 0) (c .stretch .ensures) ∙ sym (section-known _ _ _ _ _ w _ (omega (arith, c .before .if1 .left)))
+    let w = rw (j .judged2 .given .1) at (j .before .before .before .before .before .judge .ensures) in
+    ap (λ l. sectionOf l 0 0) (c .stretch .ensures) ∙ sym (section-known _ _ _ _ _ _ w _ (omega (arith, c .before .if1 .left)))
 
 pub section-spec : {M : Type 1} → statement M
 section-spec =
@@ -38,7 +38,8 @@ section-spec =
     (tie.spec
     (λ c. refl)
     (λ c. refl)
-    (λ c κs. (refl, refl))
+    (λ c. refl)
+    (λ c κs. (refl, refl, refl))
     (λ c. search needs)
     (λ c. search needs)
     (λ c. search needs)

@@ -16,7 +16,8 @@ start-spec =
     (tie.spec
     (λ c. refl)
     (λ c. refl)
-    (λ c κs. (refl, refl))
+    (λ c. refl)
+    (λ c κs. (refl, refl, refl))
     (λ c. search needs)
     (λ c κs. search needs)
     (λ c. search needs)
@@ -25,23 +26,23 @@ start-spec =
     (λ c.
     let g = c .before .before in
     let f = g .before .before in
-    let w = rw (f .found2 .given .1) at (f .before .before .before .before .judge .ensures) in
+    let w = rw (f .found2 .given .1) at (f .before .before .before .before .before .judge .ensures) in
     let r = c .start-refused2 .ensures in
     reply-is (r .0) (r .1) (r .2) refl
     ∙ sym (start-pool _ _ (w .passes) (sym (g .good-length .ensures) ∙ not-true _ (c .before .if1 .taken))))
     (λ c. refl)
     (λ c.
     let f = c .before .before .before .before .before in
-    let w = rw (f .found2 .given .1) at (f .before .before .before .before .judge .ensures) in
+    let w = rw (f .found2 .given .1) at (f .before .before .before .before .before .judge .ensures) in
     sym (w .tabled .partTable .long))
     (λ c κs.
     let f = c .before .before .before .before .before in
-    let w = rw (f .found2 .given .1) at (f .before .before .before .before .judge .ensures) in
+    let w = rw (f .found2 .given .1) at (f .before .before .before .before .before .judge .ensures) in
     (parts-known _ _ _ _ (w .tabled), refl))
     (λ c κs. search needs)
     (λ c.
     let f = c .before .before in
-    let w = rw (f .found .given .1) at (f .before .before .before .before .judge .ensures) in
+    let w = rw (f .found .given .1) at (f .before .before .before .before .before .judge .ensures) in
     let r = c .start-refused .ensures in
     reply-is (r .0) (r .1) (r .2) refl ∙ sym (start-declined _ _ _ _ w))
     (λ c. search needs)
@@ -49,7 +50,7 @@ start-spec =
     let o = c .before .before .before .before in
     let i = o .before .before .before in
     let f = i .before .before .before in
-    let w = rw (f .found2 .given .1) at (f .before .before .before .before .judge .ensures) in
+    let w = rw (f .found2 .given .1) at (f .before .before .before .before .before .judge .ensures) in
     let b = c .before .begin .ensures in
     reply-is (b .0) (ap (λ k. k .values) (b .1) ∙ o .open-parts .ensures) (ap (λ k. k .pending) (b .1)) (b .2)
     ∙ sym (start-done _ _ (w .passes) (sym (i .before .good-length .ensures) ∙ not-false _ (i .if1 .left)))))

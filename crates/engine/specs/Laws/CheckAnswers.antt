@@ -22,8 +22,8 @@ unfolding check outcomes
 check-passed bytes l n e h = rw (e, h)
 
 -- the same from what the code found
-pub check-whole : (s rules parts : List ℕ) (k : Counted.Deck) (n : ℕ) → Passed s rules parts k n
+pub check-whole : (s rules parts memo : List ℕ) (k : Counted.Deck) (n : ℕ) → Passed s rules parts memo k n
     → check s ≡ accepted (passed (k .channels) (k .rules) (k .parts) n)
-check-whole s rules parts k n w =
+check-whole s rules parts memo k n w =
     let c = w .tabled .counts in
     rw (c .channels, c .rules, c .parts) (check-passed s (layoutOf s) n (w .passes) (w .largest))

@@ -4,6 +4,7 @@ use mathlib.Core.Path.{_≡_, refl, sym, ap, ap₂, _∙_}
 use mathlib.Core.Bool.{Bool, cond}
 use mathlib.Core.List.{List}
 use lib.Dec.{ltb}
+use native.Mathlib.Omega.{arith}
 use lib.ListN.{length}
 use lib.IntN.{ℤ}
 use borrow.Author.Tests.{lt-ltb, le-ltb}
@@ -15,16 +16,14 @@ use Rattle.pool.specs.Places.{capacity}
 use Rattle.pool.specs.States.{Machine, Memory, load, store}
 use Rattle.passing.specs.Tabled.{deckOf}
 use Rattle.firing.specs.Firing.{committed}
+use Rattle.deck.specs.declared.Deck as Counted
+use Rattle.pool.specs.Laws.Good.{count-bounded}
 use Rattle.steps.specs.Queue.{heldOf}
 use Rattle.steps.specs.Commits.{Stored, Commits}
 use Rattle.engine.specs.Calls.{Answer, applied, discarded, Reply, reply, tested, commit}
 use Rattle.engine.specs.Answers.{memoryOf, replyOf}
-use Rattle.engine.specs.Tested.{Passed}
+use Rattle.engine.specs.Tested.{Entering, committedAs, CommitsAs}
 use Rattle.engine.specs.Laws.StoredMemory.{left-memory, stored-left}
-
--- the answer of a commit
-abbrev pub committedAs : Bool → ℕ → Answer
-committedAs b now = cond b (applied now) (discarded now)
 
 module _ (s : List ℕ) (m : Memory) (k : ℕ) where
   pub commit-declined : (n p : ℕ) → tested s m ≡ refused n p → commit s m k ≡ record { answer = refused n p; memory = m }
@@ -45,19 +44,41 @@ module _ (s : List ℕ) (m : Memory) (k : ℕ) where
   unfolding commit reply outcomes
   commit-done d e h = rw (e, lt-ltb k (m .state .pending) h)
 
-  pub commit-made : {a : Outcome Answer} {m₂ index index₂ : List ℕ} {e : Deck} {total now : ℕ} {vs pool : List ℤ} {pending : ℕ} {b : Bool}
+  pub commit-made : {a : Outcome Answer} {index : List ℕ} {total : ℕ} {vs pool : List ℤ} {pending : ℕ}
       → tested s m ≡ accepted (deckOf s)
       → Stored (deckOf s) (capacity (length (m .pool))) (load m) (m .state .values) (m .state .pending) total (heldOf 0 index (m .pool))
-      → Commits (deckOf s) e (capacity (length (m .pool))) k (heldOf 0 index (m .pool)) (m .state .values) (m .state .pending) total m₂
-      (heldOf 0 index₂ pool) vs pending now b
-      → k < m .state .pending
-      → a ≡ accepted (committedAs b now)
+      → CommitsAs s (m .state .values) (m .state .pending) total index (m .pool) k a vs pending pool
+      → length pool ≡ length (m .pool) → k < m .state .pending
       → replyOf a (record { values = vs; pending = pending }) pool ≡ commit s m k
-  commit-made {now} {vs} {pool} {pending} {b} t st c h f =
+  commit-made {vs} {pool} {pending} t st c l h =
       let d = deckOf s in
-      let r = c .result (load m) st in
-      let y = committed d k (load m) in
-      ap₂ (λ x z. record { answer = x; memory = z })
-      (f ∙ ap accepted (ap₂ committedAs (r .1) (r .0 .charged)))
-      (left-memory (y .machine) vs pending pool (length (m .pool)) (stored-left (r .0)) (c .size .pool))
+      let r = c (load m) st in
+      ap₂ (λ x z. record { answer = x; memory = z }) (r .0)
+      (left-memory (committed d k (load m) .machine) vs pending pool (length (m .pool)) (r .1) l)
       ∙ sym (commit-done d t h)
+
+-- from the commit on what was tested
+pub commit-as : (s : List ℕ) {vs₀ : List ℤ} {pending₀ total₀ : ℕ} {index₀ : List ℕ} {pool₀ : List ℤ} {k : ℕ} {e : Deck} {m index : List ℕ}
+    {vs pool : List ℤ} {pending total : ℕ} {b : Bool} {a : Outcome Answer}
+    → Commits (deckOf s) e (capacity (length pool₀)) k (heldOf 0 index₀ pool₀) vs₀ pending₀ total₀ m (heldOf 0 index pool) vs pending total b
+    → a ≡ accepted (committedAs b total)
+    → CommitsAs s vs₀ pending₀ total₀ index₀ pool₀ k a vs pending pool
+commit-as s c f x st =
+    let r = c .result x st in
+    (f ∙ ap accepted (ap₂ committedAs (r .1) (r .0 .charged)), stored-left (r .0))
+
+-- so many are pending that their number fits
+pub commit-few : {s : List ℕ} {c : Counted.Deck} {rules parts memo : List ℕ} {index₀ : List ℕ} {pool₀ vs₀ : List ℤ} {pending₀ total₀ k : ℕ}
+    {e : Deck} {m index : List ℕ} {vs pool : List ℤ} {pending total : ℕ} {b : Bool}
+    → Entering s c rules parts memo index₀ pool₀ vs₀ pending₀ total₀
+    → Commits (deckOf s) e (capacity (length pool₀)) k (heldOf 0 index₀ pool₀) vs₀ pending₀ total₀ m (heldOf 0 index pool) vs pending total b
+    → pending ≤ 65535
+commit-few {s} {k = k} w c =
+    let st = c .result (w .machine) (w .stored) .0 in
+    omega (
+      arith,
+      st .count,
+      count-bounded (deckOf s) (committed (deckOf s) k (w .machine) .machine .pending),
+      st .fine .bounded,
+      w .room .bounded,
+    )

@@ -20,7 +20,7 @@ use Rattle.deck.specs.Deck.{Deck, R}
 use Rattle.pool.specs.Places.{pairsOf}
 use Rattle.states.specs.Fits.{within, channelsFit}
 use Rattle.states.specs.Laws.Fits.{numbers, known-fit, fit-known}
-use Rattle.states.specs.Laws.Fits as Fits
+use Rattle.states.specs.Fits as Fits
 use Rattle.firing.specs.Evaluated.{Assignable}
 use Rattle.engine.specs.Calls.{channelsOf, goodInput}
 use Rattle.engine.specs.Laws.Inputs.{inside, inside-known}

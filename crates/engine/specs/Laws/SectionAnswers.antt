@@ -26,7 +26,7 @@ pub section-refused : (s : List ℕ) (k n p : ℕ) → passing s ≡ refused n p
 unfolding section sectionReply outcomes
 section-refused s k n p e = rw e
 
-module _ (s rules parts : List ℕ) (c : Counted.Deck) (n : ℕ) (w : Passed s rules parts c n) where
+module _ (s rules parts memo : List ℕ) (c : Counted.Deck) (n : ℕ) (w : Passed s rules parts memo c n) where
   pub section-unknown : (k : ℕ) → 2 < k → section s k ≡ sectionOf [] unknownSection 0
   unfolding section sectionReply outcomes
   section-unknown k h = rw (w .passes, lt-leb k 2 h)

@@ -278,3 +278,17 @@ module _ {s : List ℕ} {k : Counted.Deck} {rules parts : List ℕ} {C : ℕ} wh
         ap (λ n. length (shifted pool (10 * made) (10 * n))) (st .count)
         ∙ shifted-length pool (10 * made) (t .committing .machine .pending) (st .kept .laid) gone-room
         ∙ t .long
+
+    pub values-long : length vs ≡ 512
+    values-long = ap length (t .committing .stored .values) ∙ t .committing .stored .fine .long
+
+    pub few-left : pending ≤ 65535
+    few-left =
+        let st = t .committing .stored in
+        omega (
+          arith,
+          st .count,
+          count-bounded (deckOf s) (t .committing .machine .pending),
+          st .fine .bounded,
+          t .committing .room .bounded,
+        )

@@ -94,17 +94,6 @@ pub usable : (n : ℕ) → Usable n (replicate 98304 0)
 usable n g =
     zeros-fresh n 98304 (zeros-roomy (capacity n) 98304 (omega arith) (omega arith) (omega (arith, length-bounded n g)))
 
--- ---- a memo of zeros is right
-
-pub memo-none : (d : Deck) → Memo d (replicate 1024 0)
-memo-none d =
-    let none : ℕ = 0 in
-    record {
-      long = length-replicate 1024 none;
-      right = λ i h. absurd (h (zeros-table 1024 i));
-      whole = λ r q l h z. h (zeros-table 1024 (16 * r));
-    }
-
 -- ---- the definition's tests, one by one
 
 module _ (s : List ℕ) (m : Memory) where
@@ -151,7 +140,7 @@ held-loaded d m index total g t x =
       charged = t;
     }
 
-module _ (s rules parts : List ℕ) (k : Counted.Deck) (n : ℕ) (w : Judging.Passed s rules parts k n) where
+module _ (s rules parts charges : List ℕ) (k : Counted.Deck) (n : ℕ) (w : Judging.Passed s rules parts charges k n) where
   pub passed-acyclic : Acyclic (deckOf s)
   passed-acyclic =
       no-cycle (known-targets (deckOf s) (w .tabled .counts .formed)) .0 (passing-clean s (layoutOf s) (w .passes) .2)
@@ -161,10 +150,9 @@ module _ (s rules parts : List ℕ) (k : Counted.Deck) (n : ℕ) (w : Judging.Pa
       rw (w .tabled .counts .channels, w .tabled .counts .rules, w .tabled .counts .parts)
       (shape-goodness (w .tabled .sets) (w .tabled .ranged) m)
 
-  pub state-ready : {memo : List ℕ} → memo ≡ replicate 1024 0
-      → Ready rules parts (k .channels) (k .rules) (k .parts) memo × (k .channels ≤ 32)
-  state-ready e = (
-    record { tables = w .acyclic; memo = subst (Memo (shape rules parts k)) (sym e) (memo-none (shape rules parts k)) },
+  pub state-ready : Ready rules parts (k .channels) (k .rules) (k .parts) charges × (k .channels ≤ 32)
+  state-ready = (
+    record { tables = w .acyclic; memo = w .charges },
     omega (arith, w .tabled .counts .channels, w .tabled .counts .formed .channels),
   )
 

@@ -11,7 +11,7 @@ use Rattle.expression.proofs.Checking.{Here, an-end, no-truth, as-const
 use Rattle.expression.proofs.truth_end.Reads as truth-end
 use Rattle.expression.proofs.truth_end.Kinds as truth-end-kinds
 use Rattle.expression.proofs.+truth_end.Lts-truth_end as truth-end-lts
-use Rattle.expression.proofs.num_end.Reads as num-end-reads
+use Rattle.expression.proofs.operand_end.Reads as num-end-reads
 use Rattle.expression.proofs.truth_op.Reads as truth-op-reads
 use Rattle.expression.proofs.+truth_end.{statement}
 use Rattle.expression.proofs.+truth_end.Tie.{close}

@@ -9,7 +9,7 @@ use Rattle.expression.proofs.is_num.Tie as tie
 returns : tie.Need-returns
 returns c =
     let a = c .before .before .before .args in
-    c .ends .ensures ∙ ends-num (scope (a .own) (a .far)) (a .s .now) (c .before .num-end .ensures)
+    c .ends .ensures ∙ ends-num (scope (a .own) (a .far)) (a .s .now) (c .before .first-num-end .ensures)
 
 pub is-num-spec : {M : Type 1} → statement M
 is-num-spec = tie.close (tie.spec (λ c κs. search needs) (λ c κs. search needs) returns)

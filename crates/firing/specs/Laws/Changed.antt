@@ -1,5 +1,5 @@
 -- The changed channels as a set, one channel at a time, as a loop collects them. Assumes nothing.
-use Prim.Native.Nat.{ℕ, zero, suc, _+_, _^_}
+use Prim.Native.Nat.{ℕ, zero, suc, _+_, _-_, _^_, _≤_, _<_}
 use mathlib.Core.Path.{_≡_, refl, sym, ap, _∙_}
 use mathlib.Core.Bool.{Bool, true, false, not}
 use mathlib.Core.List.{List, [], _∷_, _++_, append-nil}
@@ -16,6 +16,7 @@ use Rattle.lists.specs.Laws.Bits.{mask-add, mask-empty}
 use Rattle.deck.specs.Deck.{Deck, R}
 use Rattle.pool.specs.Updates.{valueAt}
 use Rattle.firing.specs.Firing.{changed}
+use Rattle.firing.specs.Evaluated.{differs, NextChanged}
 
 module _ (f : ℕ → Bool) where
   filter-from : (a n : ℕ) → filter f (from a (suc n)) ≡ filter f (from a n) ++ keep (f (a + n)) (a + n) []
@@ -50,10 +51,6 @@ module _ (f : ℕ → Bool) where
   mask-fail n e =
       ap maskOf (filter-next n ∙ ap (λ b. filter f (below n) ++ keep b n []) e ∙ append-nil (filter f (below n)))
 
--- the test of one channel
-unfoldable pub differs : ℕ → List ℤ → List ℤ → ℕ → Bool
-differs p before after c = not (eqZ (valueAt before p c) (valueAt after p c))
-
 module _ (p : ℕ) (before after : List ℤ) (c : ℕ) where
   pub differs-not : valueAt before p c ≡ valueAt after p c → differs p before after c ≡ false
   unfolding differs
@@ -63,6 +60,22 @@ module _ (p : ℕ) (before after : List ℤ) (c : ℕ) where
   unfolding differs
   differs-so h =
       ap not (not-true→false (eqZ (valueAt before p c) (valueAt after p c)) (λ t. h (eqZ-true (valueAt before p c) (valueAt after p c) t)))
+
+-- as many channels more that do not differ
+mask-skip : (f : ℕ → Bool) (j n : ℕ) → ((i : ℕ) → n ≤ i → i < n + j → f i ≡ false) → maskOf (filter f (below (n + j))) ≡ maskOf (filter f (below n))
+mask-skip f zero n none = ap (λ k. maskOf (filter f (below k))) (let e : n + 0 ≡ n = omega arith in e)
+mask-skip f (suc j) n none =
+    ap (λ k. maskOf (filter f (below k))) (let e : n + suc j ≡ n + j + 1 = omega arith in e)
+    ∙ mask-fail f (n + j) (none (n + j) (omega arith) (omega arith))
+    ∙ mask-skip f j n (λ i a b. none i a (omega arith))
+
+-- up to the next channel that differs
+pub mask-next : {p n r : ℕ} {before after : List ℤ} (k : ℕ) → NextChanged p before after k n r
+    → maskOf (filter (differs p before after) (below r)) ≡ maskOf (filter (differs p before after) (below k))
+mask-next {p} {n} {r} {before} {after} k a =
+    let e : r ≡ k + (r - k) = omega (arith, a .on) in
+    ap (λ j. maskOf (filter (differs p before after) (below j))) e
+    ∙ mask-skip (differs p before after) (r - k) k (λ i l m. a .passed i l (omega arith))
 
 pub changed-all : (d : Deck) (n p : ℕ) (before after : List ℤ) → R d ≡ n
     → changed d p before after ≡ filter (differs p before after) (below n)

@@ -1,26 +1,35 @@
--- `graph::add_edges` meets its contract: the channels below `c` are done. Assumes nothing.
+-- `graph::add_edges` meets its contract: the events below `c` are done. Assumes nothing.
 use mathlib.Core.Path.{sym, _∙_}
-use mathlib.Core.Logic.{⊎-elim}
 use Prim.Native.Nat.{_≤_, _-_}
 use native.Mathlib.Omega.{arith}
-use Rattle.lists.specs.Laws.BitTests.{bit-yes, bit-no}
-use Rattle.graph.proofs.Adding.{Adding, adding-none, adding-yes, adding-no, adding-all, adding-last}
+use Rattle.lists.specs.Laws.Through.{Through, through-next, through-here, through-all}
+use Rattle.graph.proofs.Adding.{Adding, adding-none, adding-yes, adding-no, adding-all}
 use Rattle.graph.proofs.add_edges.Statement.{statement}
 use Rattle.graph.proofs.add_edges.Tie as tie
 
 abbrev Inv-loop : tie.InvT-loop
-Inv-loop edges₀ events targets c₀ edges c = (c ≤ 32) × Adding events targets edges₀ edges c
+Inv-loop edges₀ events targets c₀ edges c = (c ≤ 64) × Through events 32 (Adding events targets edges₀ edges) c
 
 abbrev μ-loop : tie.MeasureT-loop
-μ-loop edges₀ events targets c₀ edges c = 32 - c
+μ-loop edges₀ events targets c₀ edges c = 64 - c
+
+loop-holds : tie.Need-loop-holds Inv-loop μ-loop
+loop-holds c =
+    let n = c .next-in .ensures in
+    (n .most, through-next n (omega arith) (omega arith) (λ i a b f h. adding-no h f) (adding-none _ _ _ (c .before .before .pre)))
+
+loop-less : tie.Need-loop-less Inv-loop μ-loop
+loop-less c = omega (arith, c .next-in2 .ensures .on (omega arith), c .next-in2 .ensures .most)
 
 loop-again : tie.Need-loop-again Inv-loop μ-loop
 loop-again c =
-    let h = c .before .before .before .loop .inv .1 in
-    ⊎-elim
-    (λ w. (omega arith, rw (w .2) (adding-yes h (c .before .before .loop-test .taken) (bit-yes _ _ (w .0 .taken)))))
-    (λ w. (omega arith, rw (w .1) (adding-no h (bit-no _ _ (w .0 .left)))))
-    (c .if2 .came)
+    let i = c .before .before .before .loop .inv .1 in
+    let l = c .before .before .loop-test .taken in
+    let n = c .next-in2 .ensures in (
+      n .most,
+      through-next n (omega arith) (omega arith) (λ i a b f h. adding-no h f)
+          (adding-yes (through-here i l) l (i .found (omega arith))),
+    )
 
 pub add-edges-spec : {M : Type 1} → statement M
 add-edges-spec =
@@ -28,16 +37,15 @@ add-edges-spec =
     (tie.spec
     Inv-loop
     μ-loop
-    (λ c. (omega arith, adding-none _ _ _ (c .pre)))
+    (λ c κs. omega arith)
+    loop-holds
     (λ c. omega arith)
     (λ c. omega arith)
     (λ c. omega arith)
     (λ c. omega arith)
     (λ c. omega arith)
-    (λ c. omega arith)
-    (λ c. omega arith)
+    (λ c κs. omega arith)
+    loop-less
     loop-again
-    (λ c. c .before .loop .inv .1 .long ∙ sym (c .before .before .pre))
-    (λ c. adding-all (c .before .loop .inv .1) (c .loop-test .left))
-    (λ c. c .before .before .loop .inv .1 .long ∙ sym (c .before .before .before .pre))
-    (λ c. adding-last (c .before .before .loop .inv .1) (c .if1 .taken)))
+    (λ c. c .before .loop .inv .1 .done .long ∙ sym (c .before .before .before .before .pre))
+    (λ c. adding-all (through-all (c .before .loop .inv .1) (c .loop-test .left)) (omega arith)))

@@ -1,33 +1,47 @@
--- `graph::draw` meets its contract: the edges of the rules below `r` are drawn. Assumes nothing.
+-- `graph::draw` meets its contract: the edges of the carried rules below `r` are drawn. Assumes nothing.
 use mathlib.Core.Path.{sym, _∙_}
-use mathlib.Core.Logic.{⊎-elim}
 use Prim.Native.Nat.{_≤_, _-_}
 use native.Mathlib.Omega.{arith}
+use Rattle.lists.specs.Laws.Through.{Through, through-next, through-here, through-all}
 use Rattle.graph.specs.Masks.{Drawn}
-use Rattle.graph.proofs.Drawing.{drawn-skip, drawn-more, drawn-all}
+use Rattle.graph.proofs.Drawing.{drawn-skip, drawn-more}
 use Rattle.graph.proofs.draw.Statement.{statement}
 use Rattle.graph.proofs.draw.Tie as tie
 
 abbrev Inv-loop : tie.InvT-loop
-Inv-loop rules parts count parts-count edges₀ r₀ edges r = (r ≤ count) × Drawn rules parts parts-count r edges
+Inv-loop rules parts count parts-count edges₀ carried r₀ edges r =
+    (r ≤ 64) × Through carried count (λ k. Drawn rules parts parts-count k edges) r
 
 abbrev μ-loop : tie.MeasureT-loop
-μ-loop rules parts count parts-count edges₀ r₀ edges r = count - r
+μ-loop rules parts count parts-count edges₀ carried r₀ edges r = 64 - r
+
+loop-holds : tie.Need-loop-holds Inv-loop μ-loop
+loop-holds c =
+    let n = c .next-in .ensures in
+    let all = c .before .carried-by-some .ensures in (
+      n .most,
+      through-next n (omega arith) (omega arith) (λ i a b f h. drawn-skip h (sym (all .each i) ∙ f))
+          (c .before .before .before .before .before .pre .1),
+    )
+
+loop-less : tie.Need-loop-less Inv-loop μ-loop
+loop-less c = omega (arith, c .next-in2 .ensures .on (omega arith), c .next-in2 .ensures .most)
 
 loop-again : tie.Need-loop-again Inv-loop μ-loop
 loop-again c =
-    let h = c .before .before .before .loop .inv .1 in
-    let e = sym (c .before .is-carried .ensures) in
-    ⊎-elim
-    (λ w. (omega arith, rw (w .8) (drawn-more h (e ∙ w .0 .taken) (w .5 .ensures))))
-    (λ w. (omega arith, rw (w .1) (drawn-skip h (e ∙ w .0 .left))))
-    (c .if1 .came)
+    let w = c .before .before .before .add-edges .ensures in
+    let t = c .before .before .before .before .before .before .before .before in
+    let i = t .before .loop in
+    let all = t .before .before .before .carried-by-some .ensures in
+    let n = c .next-in2 .ensures in (
+      n .most,
+      through-next n (omega arith) (omega arith) (λ i a b f h. drawn-skip h (sym (all .each i) ∙ f))
+          (drawn-more (through-here (i .inv .1) (t .loop-test .taken)) (sym (all .each (i .r)) ∙ i .inv .1 .found (omega arith)) w),
+    )
 
 same-length : tie.Need-same-length Inv-loop μ-loop
-same-length c = c .before .loop .inv .1 .long ∙ sym (c .before .before .before .before .before .pre .1 .long)
-
-returns : tie.Need-returns Inv-loop μ-loop
-returns c = drawn-all (c .before .loop .inv .1) (omega arith)
+same-length c =
+    c .before .loop .inv .1 .done .long ∙ sym (c .before .before .before .before .before .before .before .pre .1 .long)
 
 pub draw-spec : {M : Type 1} → statement M
 draw-spec =
@@ -35,22 +49,24 @@ draw-spec =
     (tie.spec
     Inv-loop
     μ-loop
-    (λ c. (omega arith, c .before .before .before .pre .1))
+    (λ c κs. omega arith)
+    (λ c κs. omega arith)
+    loop-holds
+    (λ c. omega arith)
+    (λ c. omega arith)
+    (λ c. omega arith)
+    (λ c. omega arith)
+    (λ c. omega arith)
+    (λ c. omega arith)
+    (λ c. omega arith)
+    (λ c. omega arith)
+    (λ c. omega arith)
+    (λ c. omega arith)
+    (λ c. omega arith)
     (λ c κs. omega arith)
     (λ c. omega arith)
-    (λ c. omega arith)
-    (λ c. omega arith)
-    (λ c. omega arith)
-    (λ c. omega arith)
-    (λ c. omega arith)
-    (λ c. omega arith)
-    (λ c. omega arith)
-    (λ c. omega arith)
-    (λ c. omega arith)
-    (λ c. omega arith)
     (λ c κs. omega arith)
-    (λ c. omega arith)
-    (λ c. omega arith)
+    loop-less
     loop-again
     same-length
-    returns)
+    (λ c. through-all (c .before .loop .inv .1) (c .loop-test .left)))

@@ -62,11 +62,11 @@ pub bit-zero : (c : ℕ) → bit 0 c ≡ false
 unfolding bit
 bit-zero c = ap (λ x. eqb (x % 2) 1) (zero-div (2 ^ c))
 
-bit-up : (m c : ℕ) → bit m (suc c) ≡ bit (m / 2) c
+pub bit-up : (m c : ℕ) → bit m (suc c) ≡ bit (m / 2) c
 unfolding bit
 bit-up m c = ap (λ x. eqb (x % 2) 1) (ap (λ x. m / x) (pow-suc 2 c ∙ mul-comm (2 ^ c) 2) ∙ sym (div-div-eq-div-mul m 2 (2 ^ c)))
 
-bit-low : (m : ℕ) → bit m 0 ≡ eqb (m % 2) 1
+pub bit-low : (m : ℕ) → bit m 0 ≡ eqb (m % 2) 1
 unfolding bit
 bit-low m = ap (λ x. eqb (x % 2) 1) (div-one m)
 

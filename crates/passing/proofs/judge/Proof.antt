@@ -12,7 +12,7 @@ use Rattle.passing.proofs.judge.Tie as tie
 
 read-requires : tie.Need-read-requires
 read-requires c κs =
-    let s = c .before .before .before .before .before in
+    let s = c .before .before .before .before .before .before in
     let none : ℕ = 0 in
     let rules = ap length (s .pre .0) ∙ length-replicate 512 none in
     let parts = ap length (s .pre .1) ∙ length-replicate 64 none in
@@ -21,23 +21,23 @@ read-requires c κs =
 refused-requires : tie.Need-refused-requires
 refused-requires c κs =
     let r = c .before .before .before .before .before .before .before in
-    let s = r .before .before .before .before .before .before in
+    let s = r .before .before .before .before .before .before .before in
     let w = rw (s .pre .0, s .pre .1, c .before .loaded .given .1) at (r .read .ensures) in
     wrong-place (s .args .deck .now) _ _ (loaded-wrong (s .args .deck .now) _ _ w)
 
 returns : tie.Need-returns
 returns c =
     let r = c .before .before .before .before .before .before .before .before in
-    let s = r .before .before .before .before .before .before in
+    let s = r .before .before .before .before .before .before .before in
     let w = rw (s .pre .0, s .pre .1, c .before .before .loaded .given .1) at (r .read .ensures) in
     rw (c .refused .ensures) (passing-reads (s .args .deck .now) _ _ (loaded-wrong (s .args .deck .now) _ _ w))
 
 judge-whole-requires : tie.Need-judge-whole-requires
 judge-whole-requires c κs =
-    let r = c .before .before .before .before .before .before .before .before .before in
-    let s = r .before .before .before .before .before .before in
-    let w = rw (s .pre .0, s .pre .1, c .before .before .before .loaded2 .given .1) at (r .read .ensures) in
-    loaded-tabled (s .args .deck .now) _ _ _ w (bytes-known (s .args .deck .now) (r .before .before .before .before .before .shared-slice-known .given))
+    let r = c .before .before .before .before .before .before .before .before .before .before in
+    let s = r .before .before .before .before .before .before .before in
+    let w = rw (s .pre .0, s .pre .1, c .before .before .before .before .loaded2 .given .1) at (r .read .ensures) in
+    (loaded-tabled (s .args .deck .now) _ _ _ w (bytes-known (s .args .deck .now) (r .before .before .before .before .before .before .shared-slice-known .given)), s .pre .2)
 
 pub judge-spec : {M : Type 1} → statement M
 judge-spec =
@@ -53,4 +53,5 @@ judge-spec =
     returns
     (λ c. search needs)
     (λ c. search needs)
-    (λ c. c .judge-whole .ensures))
+    (λ c. search needs)
+    (λ c. c .before .before .before .before .judge-whole .ensures))

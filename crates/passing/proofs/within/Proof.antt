@@ -13,17 +13,23 @@ use Rattle.passing.proofs.within.Tie as tie
 
 truth-from-requires : tie.Need-truth-from-requires
 truth-from-requires c κs =
-    let s = c .before .before .before .before .before .before in
+    let s = c .before .before .before in
     let a = s .args in
     let k = s .pre .0 .counts in
     let d = deckOf (a .deck .now) in
     let fits : 32 * a .p + R d ≤ length (a .values .now) = omega (arith, k .channels, k .parts, k .formed .channels, k .formed .parts, s .pre .2, s .pre .1) in
-    let lp : a .p < N d = omega (arith, k .parts, s .pre .2) in
-    (partAt d (a .p) .limit, rw (add-sub-cancel-left, k .channels) (limit-stands d (a .p) (a .values .now) (k .scoped) fits (a .deck .now) (a .parts .now) (s .pre .0 .table) lp))
+    let lp : a .p < N d = omega (arith, k .parts, s .pre .2) in (
+      omega (arith, fits, k .channels),
+      omega arith,
+      (
+        partAt d (a .p) .limit,
+        rw (add-sub-cancel-left, k .channels) (limit-stands d (a .p) (a .values .now) (k .scoped) fits (a .deck .now) (a .parts .now) (s .pre .0 .table) lp),
+      ),
+    )
 
 returns : tie.Need-returns
 returns c =
-    let s = c .before .before .before .before .before .before .before in
+    let s = c .before .before .before .before in
     let a = s .args in
     let k = s .pre .0 .counts in
     let d = deckOf (a .deck .now) in
@@ -37,14 +43,6 @@ pub within-spec : {M : Type 1} → statement M
 within-spec =
     tie.close
     (tie.spec
-    (λ c. search needs)
-    (λ c. search needs)
-    (λ c. search needs)
-    (λ c. search needs)
-    (λ c. search needs)
-    (λ c. search needs)
-    (λ c. search needs)
-    (λ c. search needs)
     (λ c. search needs)
     (λ c. search needs)
     (λ c. search needs)

@@ -35,7 +35,7 @@ use Rattle.graph.specs.Laws.Targets.{known-targets}
 use Rattle.graph.specs.Laws.Same.{same-first, same-known}
 use Rattle.graph.specs.Laws.FirstCycle.{first-acyclic}
 use Rattle.charge.specs.Charge.{carriedCharges, aboveBound, largestCharge}
-use Rattle.charge.specs.Memo.{AcyclicTables}
+use Rattle.charge.specs.Memo.{Noted, AcyclicTables, Memo}
 use Rattle.charge.specs.Answer.{boundOf}
 use Rattle.charge.specs.declared.Bound.the-variants.{Within, Above}
 use Rattle.charge.specs.Laws.Bound.{first-above}
@@ -131,7 +131,12 @@ module _ (rules parts : List ℕ) (k : Counted.Deck) (w : RulesKnown rules parts
         few-parts = w .sized .fewParts;
         acyclic = first-acyclic (w .known) .0 (e ∙ sym (shape-R rules parts (k .channels) (k .rules) (k .parts)));
         known = w .known;
+        noted = w .noted;
       }
+
+-- a memo keeps its length
+pub memo-length : {d : Deck} {m m₀ : List ℕ} → Memo d m → m₀ ≡ replicate 1024 0 → length m ≡ length m₀
+memo-length w e = let none : ℕ = 0 in w .long ∙ sym (ap length e ∙ length-replicate 1024 none)
 
 -- ---- the deck and the shape of its tables
 
@@ -148,17 +153,22 @@ module _ (s rules parts : List ℕ) (k : Counted.Deck) (t : Tabled s k rules par
   pub parts-known : PartsKnown s k parts
   parts-known = record { counts = t .counts; table = t .partTable }
 
-  pub rules-known : RulesKnown rules parts k
-  rules-known =
+  pub rules-sized : Sized rules parts (k .rules) (k .parts)
+  rules-sized =
       record {
-        sized = record {
-          longRules = omega (arith, t .ruleTable .long);
-          longParts = omega (arith, t .partTable .long);
-          fewRules = omega (arith, t .counts .rules, t .counts .formed .rules);
-          fewParts = omega (arith, t .counts .parts, t .counts .formed .parts);
-        };
+        longRules = omega (arith, t .ruleTable .long);
+        longParts = omega (arith, t .partTable .long);
+        fewRules = omega (arith, t .counts .rules, t .counts .formed .rules);
+        fewParts = omega (arith, t .counts .parts, t .counts .formed .parts);
+      }
+
+  pub rules-known : Noted rules parts (k .rules) (k .parts) → RulesKnown rules parts k
+  rules-known noted =
+      record {
+        sized = rules-sized;
         few = omega (arith, t .counts .channels, t .counts .formed .channels);
         known = same-known same (known-targets whole (t .counts .formed));
+        noted = noted;
       }
 
   first-same : firstCycle (shape rules parts k) ≡ firstCycle whole
@@ -176,24 +186,24 @@ module _ (s rules parts : List ℕ) (k : Counted.Deck) (t : Tabled s k rules par
     pub outside-refused : (p : ℕ) → p ≡ firstOutside whole → p < k .parts → passing s ≡ refused opensOutside p
     outside-refused p e h = passing-6 s (layoutOf s) r p (sym e) (omega (arith, t .counts .parts))
 
-    module _ (six : firstOutside whole ≡ N whole) where
+    module _ (six : firstOutside whole ≡ N whole) (memo : List ℕ) where
       seven : firstCycle (shape rules parts k) ≡ k .channels → firstCycle whole ≡ R whole
       seven e = sym first-same ∙ e ∙ t .counts .channels
 
-      pub rules-refused : (n p : ℕ) → JudgesRules rules parts k (Refused n p) → passing s ≡ refused n p
+      pub rules-refused : (n p : ℕ) → JudgesRules rules parts memo k (Refused n p) → passing s ≡ refused n p
       rules-refused n p (inl x) =
           passing-7 s (layoutOf s) r six p (sym first-same ∙ x .1) (omega (arith, x .2, t .counts .channels))
           ∙ ap (λ m. refused m p) (sym (x .0))
       rules-refused n p (inr x) =
           passing-8 s (layoutOf s) r six (seven (x .1)) p (sym bound-same ∙ x .2) ∙ ap (λ m. refused m p) (sym (x .0))
 
-      pub rules-passed : Bytes s → (c : Counted.Deck) (n : ℕ) → JudgesRules rules parts k (Passing c n) → Passed s rules parts c n
+      pub rules-passed : Bytes s → (c : Counted.Deck) (n : ℕ) → JudgesRules rules parts memo k (Passing c n) → Passed s rules parts memo c n
       rules-passed b c n x =
           let w = passing-whole s (layoutOf s) r six (seven (x .1)) n (sym bound-same ∙ x .2) in
-          subst (λ c. Passed s rules parts c n) (sym (x .0))
-          (record { passes = w .0; largest = w .1; tabled = t; acyclic = x .3; bytes = b })
+          subst (λ c. Passed s rules parts memo c n) (sym (x .0))
+          (record { passes = w .0; largest = w .1; tabled = t; acyclic = x .3; charges = x .4; bytes = b })
 
-      pub rules-judged : Bytes s → (r : Judged) → JudgesRules rules parts k r → Judges s rules parts r
+      pub rules-judged : Bytes s → (r : Judged) → JudgesRules rules parts memo k r → Judges s rules parts memo r
       rules-judged b (Passing c n) x = rules-passed b c n x
       rules-judged b (Refused n p) x = rules-refused n p x
 

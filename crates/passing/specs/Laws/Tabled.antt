@@ -26,6 +26,7 @@ use Rattle.deck.specs.Laws.TablesRead.{Zeros, zeros-drop, column, noRule, noPar
 use Rattle.deck.specs.Laws.Reading.{reads-exactly}
 use Rattle.deck.specs.Laws.Formed.{formed}
 use Rattle.deck.specs.Laws.Scoped.{scoped}
+use Rattle.charge.specs.Memo.{OthersKept}
 use Rattle.passing.specs.Tabled.{layoutIn, layoutOf, Counts, PartTable, RuleTable, TablesIn, Tabled}
 
 -- what was read is what the bytes hold
@@ -219,3 +220,42 @@ module _ (s : List ℕ) (m : Marked) (e : markedSections s 0 ≡ accepted (recor
           sets = tables-read m rules₀ parts₀ zr zp;
           ranged = ranged-marked s (record { value = m; rest = []; at = length s }) e;
         })
+
+-- ---- a column that the pass leaves free
+
+-- the tables are the deck's whatever stands in column 7 of the rules
+pub tabled-kept : {s rules₀ rules parts : List ℕ} {l : Layout} {k : Counted.Deck} → OthersKept rules₀ rules → TablesIn s l k rules₀ parts
+    → TablesIn s l k rules parts
+tabled-kept {s} {rules₀} {rules} {parts} {l} o t =
+    record {
+      counts = t .counts;
+      ruleTable = record {
+        long = o .long ∙ t .ruleTable .long;
+        default = λ r h.
+            subst (λ at. ReadsAt s (action (ownOnly (R (l .deck)))) at (ruleAt (l .deck) r .default)) (kept 4 r (omega arith)) (t .ruleTable .default r h);
+        condition = λ r h.
+            subst
+            (λ at. ReadsAt s (expression (wholeTruth (taskScope (R (l .deck)) (ruleAt (l .deck) r .everywhere)))) at (ruleAt (l .deck) r .condition))
+            (kept 5 r (omega arith))
+            (t .ruleTable .condition r h);
+        action = λ r h.
+            subst (λ at. ReadsAt s (action (taskScope (R (l .deck)) (ruleAt (l .deck) r .everywhere))) at (ruleAt (l .deck) r .action))
+            (kept 6 r (omega arith))
+            (t .ruleTable .action r h);
+      };
+      partTable = t .partTable;
+      sets = record {
+        events = λ r. first rules r ∙ o .each r 0 (omega arith) ∙ sym (first rules₀ r) ∙ t .sets .events r;
+        default = λ r. o .each r 1 (omega arith) ∙ t .sets .default r;
+        action = λ r. o .each r 2 (omega arith) ∙ t .sets .action r;
+        kind = λ r. o .each r 3 (omega arith) ∙ t .sets .kind r;
+        carried = t .sets .carried;
+      };
+      ranged = t .ranged;
+    }
+  where
+    kept : (j r : ℕ) → j < 7 → getD rules₀ (8 * r + j) 0 ≡ getD rules (8 * r + j) 0
+    kept j r h = sym (o .each r j h)
+
+    first : (table : List ℕ) (r : ℕ) → getD table (8 * r) 0 ≡ getD table (8 * r + 0) 0
+    first table r = ap (λ i. getD table i 0) (let e : 8 * r ≡ 8 * r + 0 = omega arith in e)

@@ -1,60 +1,50 @@
--- `states::values_fit` meets its contract. The loop's invariant: the answer for the numbers from index i on is the answer for
--- all. Assumes nothing.
-use Prim.Native.Nat.{_-_, _≤_}
-use mathlib.Core.Path.{_≡_, refl, sym, _∙_}
+-- `states::values_fit` meets its contract: the parts, and what is behind the last of them. Assumes nothing.
+use Prim.Native.Nat.{_*_}
+use mathlib.Core.Path.{_≡_, sym, _∙_}
 use native.Mathlib.Omega.{arith}
-use lib.ListN.{length, drop}
-use Rattle.deck.specs.Deck.{Deck, R, N}
-use Rattle.pool.specs.States.{unusedZero}
-use Rattle.states.proofs.Turns.{value-next, value-stop, value-end}
+use lib.ListN.{length, take, length-take}
+use borrow.Author.Needs.{needs}
+use borrow.Author.Tests.{not-true, not-false}
+use Rattle.states.proofs.Deciding.{tail-zeros}
+use Rattle.states.proofs.Turns.{values-stop, values-last}
 use Rattle.states.proofs.values_fit.Statement.{statement}
 use Rattle.states.proofs.values_fit.Tie as tie
 
-abbrev Inv-loop : tie.InvT-loop
-Inv-loop values channels parts n i₀ i =
-    (i ≤ length values) × ((d : Deck) → R d ≡ channels → N d ≡ parts → unusedZero d i (drop i values) ≡ unusedZero d 0 values)
+-- the parts as they are lent
+lent-length : (s : tie.Start) → length (take (32 * s .args .parts) (s .args .values .now)) ≡ 32 * s .args .parts
+lent-length s = omega (arith, length-take (32 * s .args .parts) (s .args .values .now), s .pre)
 
-abbrev μ-loop : tie.MeasureT-loop
-μ-loop values channels parts n i₀ i = length values - i
+slice-aggregate-parts-fit : tie.Need-slice-aggregate-parts-fit
+slice-aggregate-parts-fit c = sym (lent-length (c .before))
 
-loop-holds : tie.Need-loop-holds Inv-loop μ-loop
-loop-holds c = (omega arith, λ d eR eN. refl)
+parts-fit-requires : tie.Need-parts-fit-requires
+parts-fit-requires c κs = (lent-length (c .before), omega arith, omega arith)
 
-is-used-or-zero-requires : tie.Need-is-used-or-zero-requires Inv-loop μ-loop
-is-used-or-zero-requires c κs = omega arith
-
-returns : tie.Need-returns Inv-loop μ-loop
+returns : tie.Need-returns
 returns c d eR eN =
-    let s = c .before .before .before .before .args in
-    let i = c .before .before .before .loop in
-    let stop = value-stop d (s .channels) (s .parts) eR eN (s .values .now) (i .i) (omega arith) (c .before .is-used-or-zero .ensures) (c .if1 .taken) in
-    sym stop ∙ i .inv .1 d eR eN
+    let s = c .before .before .before in
+    sym (values-stop d (s .args .parts) (s .args .values .now) eN (omega arith)
+    (sym (c .before .parts-fit .ensures d eR eN) ∙ not-true _ (c .if1 .taken)))
 
-loop-again : tie.Need-loop-again Inv-loop μ-loop
-loop-again c = (
-  omega arith,
-  λ d eR eN.
-      let s = c .before .before .before .before .args in
-      let i = c .before .before .before .loop in
-      let next = value-next d (s .channels) (s .parts) eR eN (s .values .now) (i .i) (omega arith) (c .before .is-used-or-zero .ensures) (c .if1 .left) in
-      sym next ∙ i .inv .1 d eR eN,
-)
-
-returns-2 : tie.Need-returns-2 Inv-loop μ-loop
+returns-2 : tie.Need-returns-2
 returns-2 c d eR eN =
-    let i = c .before .loop in
-    sym (sym (i .inv .1 d eR eN) ∙ value-end d (c .before .before .args .values .now) (i .i) (omega arith))
+    let f = c .before .before in
+    let s = f .before .before .before in
+    tail-zeros (s .args .values .now) _ (c .all-zero .ensures)
+    ∙ sym (values-last d (s .args .parts) (s .args .values .now) eN (omega arith)
+    (sym (f .before .parts-fit .ensures d eR eN) ∙ not-false _ (f .if1 .left)))
 
 pub values-fit-spec : {M : Type 1} → statement M
 values-fit-spec =
     tie.close
     (tie.spec
-    Inv-loop
-    μ-loop
-    loop-holds
-    is-used-or-zero-requires
+    (λ c. omega arith)
+    slice-aggregate-parts-fit
+    parts-fit-requires
     returns
+    (λ c. search needs)
     (λ c. omega arith)
     (λ c. omega arith)
-    loop-again
+    (λ c. omega arith)
+    (λ c κs. search needs)
     returns-2)

@@ -17,7 +17,7 @@ use Rattle.lists.specs.Laws.Members.{all-member}
 use Rattle.lists.specs.Laws.Bits.{bit-or, bit-power}
 use Rattle.pool.specs.Updates.{Pair}
 use Rattle.pool.specs.Places.{pairsOf}
-use Rattle.states.specs.Fits.{within, channelsFit}
+use Rattle.states.specs.Fits.{within, channelsOf, channelsFit}
 
 pub within-below : (b : ℕ) (z : ℤ) → within b z < b → z ≡ pos (within b z)
 unfolding within
@@ -58,10 +58,6 @@ module _ (m c : ℕ) where
 
 abbrev pub numbers : Pair → List ℤ
 numbers a = pos (a .channel) ∷ a .value ∷ []
-
--- the channels of the first n pairs
-abbrev pub channelsOf : ℕ → List ℤ → List ℕ
-channelsOf n t = map (λ a. a .channel) (take n (pairsOf t))
 
 module _ (R : ℕ) where
   -- they are different, below R, and outside the set m

@@ -15,8 +15,8 @@ use Rattle.deck.specs.Deck.{Deck, R, N}
 use Rattle.pool.specs.Updates.{Update, channels}
 use Rattle.pool.specs.Places.{zeros, pairsOf, updateOf, wellWritten}
 use Rattle.pool.specs.States.{known}
-use Rattle.states.specs.Fits.{within, inRange}
-use Rattle.states.specs.Laws.Fits.{within-pos, numbers, channelsOf}
+use Rattle.states.specs.Fits.{within, channelsOf, inRange}
+use Rattle.states.specs.Laws.Fits.{within-pos, numbers}
 use Rattle.states.specs.Laws.Places.{written}
 
 module _ (d : Deck) (u : Update) (h : known d u ≡ true) where

@@ -1,7 +1,7 @@
 -- The index that the test for a good state leaves. Assumes nothing.
-use Prim.Native.Nat.{ℕ, _*_, _/_, _%_, _≤_}
-use mathlib.Core.Path.{_≡_, refl, sym, ap}
-use mathlib.Core.Bool.{Bool, true, false, false≢true, _&&_}
+use Prim.Native.Nat.{ℕ, _/_, _%_, _≤_}
+use mathlib.Core.Path.{_≡_}
+use mathlib.Core.Bool.{true, _&&_}
 use mathlib.Core.List.{List}
 use native.Mathlib.Omega.{arith}
 use lib.Dec.{leb, eqb}
@@ -28,10 +28,6 @@ fresh-roomy f pending h =
     let r = f .roomy in
     record { some = r .some; few = r .few; links = omega (arith, r .links, h) }
 
--- the test is not passed
-pub no-index : {pending : ℕ} {pool : List ℤ} {index : List ℕ} → IndexedIf pending pool index index (false ≡ true)
-no-index = record { indexed = λ e. absurd (false≢true e); long = refl }
-
 pub index-made : {pending : ℕ} {pool : List ℤ} {index₀ index : List ℕ} {passed : Type 0}
     → (passed → Indexed 0 (keys (headsOf index₀) pending pool) index) → length index ≡ length index₀
     → IndexedIf pending pool index₀ index passed
@@ -41,11 +37,6 @@ index-made {pending} {pool} {index₀} {index} f e =
       indexed = λ p. rw e (f p);
       long = e;
     }
-
--- a further test
-pub index-if : {pending : ℕ} {pool : List ℤ} {index₀ index : List ℕ} {passed later : Type 0}
-    → (later → passed) → IndexedIf pending pool index₀ index passed → IndexedIf pending pool index₀ index later
-index-if f x = record { indexed = λ p. x .indexed (f p); long = x .long }
 
 -- room is a matter of length
 pub roomy-same : {n : ℕ} {a b : List ℕ} → length b ≡ length a → Roomy n a → Roomy n b

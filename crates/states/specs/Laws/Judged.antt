@@ -1,21 +1,32 @@
--- A good state by the code's tests in their order: all but the charge, then the charge. Assumes nothing.
+-- A good state by the code's tests in their order: the frame, the places, equal ones, the charge. Assumes nothing.
 use Prim.Native.Nat.{ℕ, _*_, _/_, _%_, _<_, _≤_}
 use mathlib.Core.Path.{_≡_, refl, sym, ap, _∙_}
-use mathlib.Core.Bool.{Bool, true, false, _&&_, cond}
-use mathlib.Core.List.{List, map}
+use mathlib.Core.Bool.{Bool, true, false, _&&_, cond, and-false}
+use mathlib.Core.List.{List}
 use native.Mathlib.Omega.{arith}
 use lib.Dec.{leb, eqb}
 use lib.ListN.{length, drop}
 use borrow.Author.Tests.{leb-true, le-leb, lt-leb, eqb-true, eq-eqb}
 use Rattle.lists.specs.Lists.{all}
-use Rattle.lists.specs.Laws.Booleans.{and-both, and-left, and-right, five, from-five, not-true→false}
+use Rattle.lists.specs.Laws.Booleans.{and-both, and-left, and-right, four, not-true→false}
 use Rattle.deck.specs.Deck.{Deck}
 use Rattle.charge.specs.Memo.{capped}
 use Rattle.pool.specs.Updates.{Update, allDifferent, charge}
-use Rattle.pool.specs.Places.{isZero, capacity, updateOf, wellWritten, places, updatesOf}
+use Rattle.pool.specs.Places.{isZero, capacity, wellWritten, places, updatesOf}
 use Rattle.pool.specs.States.{Memory, goodLength, unusedZero, known, good}
+use Rattle.states.specs.declared.Goodness.{Goodness}
 use Rattle.states.specs.declared.Goodness.the-variants.{Good, Bad}
-use Rattle.states.specs.Answer.{Pending, uncharged, goodnessOf}
+use Rattle.states.specs.Answer.{allFit, weightOf, framed, uncharged, goodnessOf}
+
+-- ---- an answer by a test
+
+said-good : (b : Bool) (x : ℕ) {s : ℕ} → Good s ≡ cond b (Good x) Bad → (b ≡ true) × (s ≡ x)
+said-good true x e = (refl, cc)
+said-good false x e = let q : _≡_ {A = ℕ} 0 1 = cc in absurd (omega arith)
+
+said-bad : (b : Bool) (x : ℕ) → Bad ≡ cond b (Good x) Bad → b ≡ false
+said-bad true x e = let q : _≡_ {A = ℕ} 0 1 = cc in absurd (omega arith)
+said-bad false x e = refl
 
 module _ (d : Deck) (m : Memory) where
   abbrev n : ℕ
@@ -24,69 +35,74 @@ module _ (d : Deck) (m : Memory) where
   abbrev us : List Update
   us = updatesOf n (m .pool)
 
-  abbrev ofPool : Bool
-  ofPool =
-      eqb (length (m .state .values)) 512
-      && unusedZero d 0 (m .state .values)
-      && leb n (capacity (length (m .pool)))
-      && all wellWritten (places n (m .pool))
-      && all isZero (drop (10 * n) (m .pool))
+  -- ---- the frame
 
-  -- the tests but the last
-  pub record Passed : Type 0 where
+  abbrev counted : Bool
+  counted = eqb (length (m .state .values)) 512 && unusedZero d 0 (m .state .values) && leb n (capacity (length (m .pool)))
+
+  abbrev behind : Bool
+  behind = all isZero (drop (10 * n) (m .pool))
+
+  pub record Framed : Type 0 where
     pub long : length (m .state .values) ≡ 512
     pub unused : unusedZero d 0 (m .state .values) ≡ true
     pub few : n ≤ length (m .pool) / 10
-    pub fit : (all wellWritten (places n (m .pool)) && all (known d) (map updateOf (places n (m .pool)))) ≡ true
-    pub behind : all isZero (drop (10 * n) (m .pool)) ≡ true
 
-  pub passed : uncharged d m ≡ true → Passed
-  unfolding uncharged capacity updatesOf
-  passed h =
-      let front = and-left (ofPool && all (known d) us) (allDifferent us) h in
-      let t = five (eqb (length (m .state .values)) 512) (unusedZero d 0 (m .state .values)) (leb n (length (m .pool) / 10))
-      (all wellWritten (places n (m .pool))) (all isZero (drop (10 * n) (m .pool))) (and-left ofPool (all (known d) us) front) in
+  pub framed-tests : framed d m ≡ true → Framed
+  unfolding framed capacity
+  framed-tests h =
+      let t = four (eqb (length (m .state .values)) 512) (unusedZero d 0 (m .state .values)) (leb n (length (m .pool) / 10)) behind h in
       record {
         long = eqb-true (length (m .state .values)) 512 (t .0);
         unused = t .1;
         few = leb-true n (length (m .pool) / 10) (t .2);
-        fit = and-both (t .3) (and-right ofPool (all (known d) us) front);
-        behind = t .4;
       }
 
-  pub passed-last : Passed → uncharged d m ≡ allDifferent us
-  unfolding uncharged capacity updatesOf
-  passed-last p =
-      let w = all wellWritten (places n (m .pool)) in
-      let k = all (known d) us in
-      ap (λ x. x && allDifferent us)
-      (and-both
-      (from-five (eqb (length (m .state .values)) 512) (unusedZero d 0 (m .state .values)) (leb n (length (m .pool) / 10)) w
-      (all isZero (drop (10 * n) (m .pool)))
-      (eq-eqb (length (m .state .values)) 512 (p .long), p .unused, le-leb n (length (m .pool) / 10) (p .few), and-left w k (p .fit), p .behind))
-      (and-right w k (p .fit)))
+  pub framed-last : Framed → framed d m ≡ behind
+  unfolding framed capacity
+  framed-last p =
+      ap (λ x. x && behind)
+      (and-both (and-both (eq-eqb (length (m .state .values)) 512 (p .long)) (p .unused)) (le-leb n (length (m .pool) / 10) (p .few)))
 
   -- one test fails
-  pub not-passed : (Passed → ⊥) → uncharged d m ≡ false
-  not-passed h = not-true→false (uncharged d m) (λ t. h (passed t))
+  pub not-framed : (Framed → ⊥) → framed d m ≡ false
+  not-framed h = not-true→false (framed d m) (λ t. h (framed-tests t))
 
-  pub passed-written : Passed → all wellWritten (places n (m .pool)) ≡ true
-  passed-written p = and-left (all wellWritten (places n (m .pool))) (all (known d) (map updateOf (places n (m .pool)))) (p .fit)
+  -- ---- all tests but the charge
 
-  pub passed-pending : Passed → Pending d n (m .pool)
-  unfolding updatesOf
-  passed-pending p =
-      record {
-        room = omega (arith, p .few);
-        written = passed-written p;
-        known = and-right (all wellWritten (places n (m .pool))) (all (known d) us) (p .fit);
-      }
+  pub fit-written : allFit d n (m .pool) ≡ true → all wellWritten (places n (m .pool)) ≡ true
+  unfolding allFit
+  fit-written h = and-left (all wellWritten (places n (m .pool))) (all (known d) us) h
+
+  pub no-frame : framed d m ≡ false → uncharged d m ≡ false
+  unfolding uncharged
+  no-frame h = ap (λ x. x && allFit d n (m .pool) && allDifferent us) h
+
+  pub no-fit : allFit d n (m .pool) ≡ false → uncharged d m ≡ false
+  unfolding uncharged
+  no-fit h = rw (h, and-false) refl
+
+  pub not-different : allDifferent us ≡ false → uncharged d m ≡ false
+  unfolding uncharged
+  not-different h = rw (h, and-false) refl
+
+  pub all-but-charge : framed d m ≡ true → allFit d n (m .pool) ≡ true → allDifferent us ≡ true → uncharged d m ≡ true
+  unfolding uncharged
+  all-but-charge f w u = and-both (and-both f w) u
 
   -- ---- with the charge
 
   pub charged : good d m ≡ (uncharged d m && leb (charge d us) (capacity (length (m .pool))))
-  unfolding good uncharged
-  charged = refl
+  unfolding good uncharged framed allFit
+  charged =
+      ap (λ x. x && allDifferent us && leb (charge d us) (capacity (length (m .pool))))
+      (moved counted (all wellWritten (places n (m .pool))) behind (all (known d) us))
+    where
+      moved : (a w z k : Bool) → (a && w && z && k) ≡ (a && z && (w && k))
+      moved true true z k = refl
+      moved true false true k = refl
+      moved true false false k = refl
+      moved false w z k = refl
 
   answer : (b : Bool) → good d m ≡ b → cond b (Good (charge d us)) Bad ≡ goodnessOf d m
   answer b e = ap (λ b. cond b (Good (charge d us)) Bad) (sym e)
@@ -112,16 +128,15 @@ module _ (d : Deck) (m : Memory) where
 
   -- ---- what an answer says
 
+  pub weight-good : {r : Goodness} {s : ℕ} → r ≡ Good s → r ≡ weightOf d n (m .pool)
+      → (allFit d n (m .pool) ≡ true) × (s ≡ capped (charge d us))
+  weight-good q e = said-good (allFit d n (m .pool)) (capped (charge d us)) (sym q ∙ e)
+
+  pub weight-bad : {r : Goodness} → r ≡ Bad → r ≡ weightOf d n (m .pool) → allFit d n (m .pool) ≡ false
+  weight-bad q e = said-bad (allFit d n (m .pool)) (capped (charge d us)) (sym q ∙ e)
+
   pub good-answer : {s : ℕ} → Good s ≡ goodnessOf d m → (good d m ≡ true) × (s ≡ charge d us)
-  good-answer {s} = go (good d m)
-    where
-      go : (b : Bool) → Good s ≡ cond b (Good (charge d us)) Bad → (b ≡ true) × (s ≡ charge d us)
-      go true e = (refl, cc)
-      go false e = let q : _≡_ {A = ℕ} 0 1 = cc in absurd (omega arith)
+  good-answer e = said-good (good d m) (charge d us) e
 
   pub bad-answer : Bad ≡ goodnessOf d m → good d m ≡ false
-  bad-answer = go (good d m)
-    where
-      go : (b : Bool) → Bad ≡ cond b (Good (charge d us)) Bad → b ≡ false
-      go true e = let q : _≡_ {A = ℕ} 0 1 = cc in absurd (omega arith)
-      go false e = refl
+  bad-answer e = said-bad (good d m) (charge d us) e

@@ -20,8 +20,8 @@ use Rattle.deck.specs.Deck.{Deck, R, N}
 use Rattle.pool.specs.Updates.{Pair, channels}
 use Rattle.pool.specs.Places.{zeros, isZero, place, pairsOf, updateOf, wellWritten}
 use Rattle.pool.specs.States.{known}
-use Rattle.states.specs.Fits.{within, channelsFit, fits}
-use Rattle.states.specs.Laws.Fits.{within-below, within-pos, numbers, channelsOf, Known, known-fit, fit-known}
+use Rattle.states.specs.Fits.{within, channelsOf, channelsFit, fits}
+use Rattle.states.specs.Laws.Fits.{within-below, within-pos, numbers, Known, known-fit, fit-known}
 
 pairs-length : (n : ℕ) (t : List ℤ) → 2 * n ≤ length t → length (take n (pairsOf t)) ≡ n
 unfolding pairsOf

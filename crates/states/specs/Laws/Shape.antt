@@ -18,7 +18,7 @@ use Rattle.pool.specs.Updates.{Update, channels, allDifferent, charge}
 use Rattle.pool.specs.Places.{isZero, capacity, updateOf, wellWritten, places, updatesOf}
 use Rattle.pool.specs.States.{Memory, unusedZero, known, good}
 use Rattle.states.specs.declared.Goodness.the-variants.{Good, Bad}
-use Rattle.states.specs.Answer.{Holds, uncharged, goodnessOf}
+use Rattle.states.specs.Answer.{Holds, allFit, framed, uncharged, goodnessOf}
 use Rattle.states.specs.Laws.Judged.{charged}
 
 -- a place that fits holds a known update
@@ -47,7 +47,7 @@ module _ (d e : Deck) (eR : R d ≡ R e) (eN : N d ≡ N e) where
       ap₂ (λ a b. a && b) (ap₂ (λ r n. ltb (i / 32) n && ltb (i % 32) r || isZero v) eR eN) (same-unused (suc i) vs)
 
   pub same-uncharged : (m : Memory) → uncharged d m ≡ uncharged e m
-  unfolding uncharged
+  unfolding uncharged framed allFit
   same-uncharged m =
       let n = m .state .pending in
       let us = updatesOf n (m .pool) in
@@ -56,9 +56,8 @@ module _ (d e : Deck) (eR : R d ≡ R e) (eN : N d ≡ N e) where
       eqb (length (m .state .values)) 512
       && a
       && leb n (capacity (length (m .pool)))
-      && all wellWritten (places n (m .pool))
       && all isZero (drop (10 * n) (m .pool))
-      && b
+      && (all wellWritten (places n (m .pool)) && b)
       && allDifferent us)
       (same-unused 0 (m .state .values))
       (ap (λ f. all f us) (fun-ext same-known))

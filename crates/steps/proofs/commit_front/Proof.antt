@@ -5,51 +5,55 @@ use native.Mathlib.Omega.{arith}
 use borrow.Author.Needs.{needs}
 use lib.ListN.{length}
 use Rattle.steps.specs.Laws.Looking.{tail-lent, tail-back}
-use Rattle.steps.specs.Laws.Committing.{commit-looking, commit-left, front-some, front-finishing, front-done}
+use Rattle.steps.specs.Laws.Committing.{commit-looking, commit-long, commit-left, front-some, front-finishing, front-done}
 use Rattle.steps.proofs.commit_front.Statement.{statement}
 use Rattle.steps.proofs.commit_front.Tie as tie
 
 -- the first place lies in the pool
 some : (s : tie.Start) → (1 ≤ s .args .capacity) × (10 ≤ length (s .args .pool .now)) × (s .args .gone ≤ 65534)
-some s = front-some (s .pre .0) (s .pre .1)
+some s = front-some (s .pre .0) (s .pre .2)
 
 look-requires : tie.Need-look-requires
-look-requires c κs = let s = c .before .before .before .before .before .before .before .before .before in commit-looking (s .pre .0) 0 (s .pre .1)
+look-requires c κs = let s = c .before .before .before .before .before .before .before .before in (commit-looking (s .pre .0) 0 (s .pre .2), commit-long (s .pre .0))
 
 sub-left : tie.Need-sub-left
 sub-left c =
     let l = c .before .before .before .before in
-    let s = l .before .before .before .before .before .before .before .before .before .before in
-    commit-left (s .pre .0) 0 (s .pre .1) (l .look .ensures)
+    let s = l .before .before .before .before .before .before .before .before .before in
+    commit-left (s .pre .0) 0 (s .pre .2) (l .look .ensures)
 
 finish-requires : tie.Need-finish-requires
 finish-requires c κs =
-    let l = c .before .before .before .before .before .before .before in
-    let s = l .before .before .before .before .before .before .before .before .before .before in
-    rw (tail-lent (s .args .pool .now) 10) (front-finishing (s .pre .0) (s .pre .1) (l .look .ensures))
+    let l = c .before .before .before .before .before .before .before .before .before in
+    let s = l .before .before .before .before .before .before .before .before .before in
+    rw (tail-lent (s .args .pool .now) 10, s .pre .1) (front-finishing (s .pre .0) (s .pre .2) (l .look .ensures))
 
 returns : tie.Need-returns
 returns c =
-    let e = c .before .before .before .before .before in
-    let l = e .before .before .before .before .before .before .before .before in
-    let s = l .before .before .before .before .before .before .before .before .before .before in
-    rw (tail-back (s .args .pool .now) (e .finish .last .1 .1 .1 .1 .1 .1 .0) 10 (some s .1))
-    (front-done (s .pre .0) (s .pre .1) (l .look .ensures) (rw (tail-lent (s .args .pool .now) 10) at (e .finish .ensures)))
+    let e = c .before .before .before .before .before .before .before in
+    let l = e .before .before .before .before .before .before .before .before .before .before in
+    let s = l .before .before .before .before .before .before .before .before .before in
+    let f = rw (tail-lent (s .args .pool .now) 10, s .pre .1) at (e .finish .ensures) in (
+      rw (tail-back (s .args .pool .now) (e .finish .last .1 .1 .1 .1 .1 .1 .0) 10 (some s .1))
+          (front-done (s .pre .0) (s .pre .2) (l .look .ensures) f),
+      f .same,
+    )
 
 pub commit-front-spec : {M : Type 1} → statement M
 commit-front-spec =
     tie.close
     (tie.spec
-    (λ c. search needs)
     look-requires
     sub-left
-    (λ c. omega (arith, some (c .before .before .before .before .before .before .before .before .before .before .before .before .before .before .before .before) .1))
-    (λ c. omega (arith, some (c .before .before .before .before .before .before .before .before .before .before .before .before .before .before .before .before) .1))
-    (λ c. omega (arith, some (c .before .before .before .before .before .before .before .before .before .before .before .before .before .before .before .before) .1))
-    (λ c. omega (arith, some (c .before .before .before .before .before .before .before .before .before .before .before .before .before .before .before .before .before) .2))
-    (λ c. omega (arith, some (c .before .before .before .before .before .before .before .before .before .before .before .before .before .before .before .before .before) .0))
+    (λ c. omega (arith, some (c .before .before .before .before .before .before .before .before .before .before .before .before .before .before .before) .1))
+    (λ c. omega (arith, some (c .before .before .before .before .before .before .before .before .before .before .before .before .before .before .before) .1))
+    (λ c. omega (arith, some (c .before .before .before .before .before .before .before .before .before .before .before .before .before .before .before) .1))
+    (λ c. omega (arith, some (c .before .before .before .before .before .before .before .before .before .before .before .before .before .before .before .before) .2))
+    (λ c. omega (arith, some (c .before .before .before .before .before .before .before .before .before .before .before .before .before .before .before .before) .0))
     (λ c. search needs)
     finish-requires
+    (λ c. search needs)
+    (λ c. search needs)
     (λ c. search needs)
     (λ c. search needs)
     (λ c. search needs)

@@ -1,63 +1,81 @@
--- `steps::fire_all_here` meets its contract. The loop's invariant: the rules below r had their turn at p itself. Assumes nothing.
-use Prim.Native.Nat.{_-_, _≤_}
-use mathlib.Core.Path.{sym, ap₂, _∙_}
-use mathlib.Core.Logic.{⊎-elim}
+-- `steps::fire_all_here` meets its contract. The loop's invariant: the rules of the set below r had their turn at p itself. Assumes nothing.
+use Prim.Native.Nat.{_+_, _-_, _<_, min}
+use mathlib.Core.Path.{_≡_, sym, _∙_}
+use mathlib.Core.Bool.{true}
 use native.Mathlib.Omega.{arith}
-use Rattle.passing.specs.Tabled.{deckOf}
+use borrow.Author.Needs.{needs}
+use Rattle.lists.specs.Bits.{bit}
+use Rattle.deck.specs.Deck.{M}
 use Rattle.firing.specs.Firing.{firedHere}
+use Rattle.passing.specs.Tabled.{deckOf}
 use Rattle.steps.specs.Queue.{heldOf}
-use Rattle.steps.specs.Laws.Halves.{Half, half-none, half-came, half-pass, half-fail, half-all}
+use Rattle.steps.specs.Laws.Halves.{Half, half-none, half-at, half-pass, half-next, half-all}
 use Rattle.steps.proofs.fire_all_here.Statement.{statement}
 use Rattle.steps.proofs.fire_all_here.Tie as tie
 
 abbrev Inv-loop : tie.InvT-loop
-Inv-loop deck counts rules parts memo₀ index₀ pool₀ gone capacity values p changed n out₀ r₀ memo index pool out r =
-    (r ≤ n) × Half rules parts counts capacity (deckOf deck) (λ r. firedHere values p r) p changed r (heldOf gone index₀ pool₀) out₀ memo (heldOf gone index pool) out
+Inv-loop deck counts rules parts memo₀ index₀ pool₀ gone capacity values p set n out₀ r₀ memo index pool out r =
+    (r < 64 → bit set r ≡ true)
+    × Half rules parts counts capacity (deckOf deck) (λ r. firedHere values p r) p set (min r (M (deckOf deck)))
+    (heldOf gone index₀ pool₀) out₀ memo (heldOf gone index pool) out
 
 abbrev μ-loop : tie.MeasureT-loop
-μ-loop deck counts rules parts memo₀ index₀ pool₀ gone capacity values p changed n out₀ r₀ memo index pool out r = n - r
+μ-loop deck counts rules parts memo₀ index₀ pool₀ gone capacity values p set n out₀ r₀ memo index pool out r = n - r
 
-hears-requires : tie.Need-hears-requires Inv-loop μ-loop
-hears-requires c κs =
-    let s = c .before .before .before .before .before .before .before in
-    let t = s .pre .1 .ready .tables in
-    (t .rules-long, t .parts-long, omega (arith, t .few-parts, s .pre .3), omega (arith, t .few-rules, c .loop-test .taken))
+loop-holds : tie.Need-loop-holds Inv-loop μ-loop
+loop-holds c =
+    let s = c .before .before .before .before .before .before in
+    let a = c .next-in .ensures in
+    (a .found, half-next 0 _ (half-none (s .pre .1)) (omega arith) (omega (arith, s .pre .0 .counts .formed .rules)) a)
 
 fire-here-requires : tie.Need-fire-here-requires Inv-loop μ-loop
 fire-here-requires c κs =
-    let l = c .before .before .before .before .before .before in
-    let s = l .before .before .before .before .before .before in
-    (s .pre .0, l .loop .inv .1 .offering, s .pre .2, s .pre .3, c .before .before .before .before .before .loop-test .taken)
+    let l = c .before .before .before .before in
+    let s = l .before .before .before .before .before .before .before in
+    (s .pre .0, l .loop .inv .1 .offering, s .pre .2, s .pre .3, c .before .before .before .loop-test .taken)
+
+add-next-in : tie.Need-add-next-in Inv-loop μ-loop
+add-next-in c =
+    let t = c .before .before .before .before .before .before .before .before .before in
+    let s = t .before .before .before .before .before .before .before .before in
+    omega (arith, t .loop-test .taken, s .pre .0 .counts .rules, s .pre .0 .counts .formed .rules)
+
+loop-less : tie.Need-loop-less Inv-loop μ-loop
+loop-less c =
+    let t = c .before .before .before .before .before .before .before .before .before .before in
+    let s = t .before .before .before .before .before .before .before .before in
+    let few = s .pre .0 .counts .formed .rules in
+    let many = s .pre .0 .counts .rules in
+    omega (arith, t .loop-test .taken, c .next-in2 .ensures .on (omega (arith, t .loop-test .taken, many, few)))
 
 loop-again : tie.Need-loop-again Inv-loop μ-loop
 loop-again c =
-    let l = c .before .before .before in
-    let s = l .before .before .before .before .before .before in
-    let k = s .pre .0 in
-    let h = c .before .hears in (
-      omega arith,
-      ⊎-elim
-          (λ w.
-          half-came (w .10) (ap₂ (heldOf (s .args .gone)) (w .11) (w .12)) (w .13)
-          (half-pass (k .sets) (k .ranged) (l .loop .r) (l .loop .inv .1) _ (h .ensures) (w .0 .taken) (w .4 .ensures)))
-          (λ w.
-          half-came (w .1) (ap₂ (heldOf (s .args .gone)) (w .2) (w .3)) (w .4) (half-fail (k .sets) (k .ranged) (l .loop .r) (l .loop .inv .1) _ (h .ensures) (w .0 .left)))
-          (c .if1 .came),
-    )
+    let f = c .before .before .before .before .before .before in
+    let t = f .before .before .before .before in
+    let l = t .before in
+    let s = l .before .before .before .before .before .before .before in
+    let few = s .pre .0 .counts .formed .rules in
+    let below : l .loop .r < M (deckOf (s .args .deck .now)) = omega (arith, t .loop-test .taken, s .pre .0 .counts .rules) in
+    let x = half-at (l .loop .inv .1) below in
+    let a = c .next-in2 .ensures in
+    let y = half-pass (l .loop .r) x below (l .loop .inv .0 (omega (arith, below, few))) (f .fire-here .ensures) in
+    (a .found, half-next (l .loop .r + 1) _ y (omega arith) (omega (arith, few)) a)
 
 same-length : tie.Need-same-length Inv-loop μ-loop
 same-length c =
-    let s = c .before .before .before .before .before .before .before in
+    let s = c .before .before .before .before .before .before .before .before in
     c .before .loop .inv .1 .offering .ready .memo .long ∙ sym (s .pre .1 .ready .memo .long)
 
-same-length-2 : tie.Need-same-length-2 Inv-loop μ-loop
-same-length-2 c = c .before .loop .inv .1 .size .index
+last : (c : tie.After-loop Inv-loop μ-loop) → min (c .before .loop .r) (M (deckOf (c .before .before .before .before .before .before .before .before .args .deck .now)))
+    ≡ M (deckOf (c .before .before .before .before .before .before .before .before .args .deck .now))
+last c =
+    let s = c .before .before .before .before .before .before .before .before in
+    omega (arith, s .pre .0 .counts .rules, c .loop-test .left)
 
 returns : tie.Need-returns Inv-loop μ-loop
 returns c =
-    let s = c .before .before .before .before .before .before .before in
     let x = c .before .loop .inv .1 in
-    (half-all (omega (arith, s .pre .0 .counts .rules, c .loop-test .left)) x, x .offering)
+    (half-all (last c) x, x .offering)
 
 pub fire-all-here-spec : {M : Type 1} → statement M
 fire-all-here-spec =
@@ -65,13 +83,14 @@ fire-all-here-spec =
     (tie.spec
     Inv-loop
     μ-loop
-    (λ c. (omega arith, half-none (c .before .before .before .before .before .pre .1)))
-    hears-requires
+    (λ c κs. search needs)
+    loop-holds
     fire-here-requires
-    (λ c. omega arith)
-    (λ c. omega arith)
+    add-next-in
+    (λ c κs. search needs)
+    loop-less
     loop-again
     same-length
-    same-length-2
+    (λ c. c .before .loop .inv .1 .size .index)
     (λ c. c .before .loop .inv .1 .size .pool)
     returns)

@@ -13,7 +13,7 @@ use Rattle.passing.specs.Tabled.{deckOf}
 use Rattle.firing.specs.Firing.{holds}
 use Rattle.steps.specs.Laws.Queue.{offered-then, offering-next}
 use Rattle.steps.specs.Laws.Sent.{sliceOf, Lent, here-wide, here-false, here-true, Firing, default-sound, default-offered}
-use Rattle.steps.specs.Laws.Sent.{is-wide, is-here, task-here, condition-known, condition-value, task-sound, task-offered}
+use Rattle.steps.specs.Laws.Sent.{is-wide, is-here, task-here, condition-known, condition-value, task-sound, task-offered, stretch-inside}
 use Rattle.steps.proofs.fire_here.Statement.{statement}
 use Rattle.steps.proofs.fire_here.Tie as tie
 
@@ -65,7 +65,10 @@ returns c =
     (default-offered (firing s) (o .offer .ensures))
 
 truth-from-requires : tie.Need-truth-from-requires
-truth-from-requires c κs = let k = c .before in condition-known (firing (start-of (default-of k))) (lent k)
+truth-from-requires c κs =
+    let k = c .before in
+    let s = start-of (default-of k) in
+    (stretch-inside (firing s) (s .args .p) (s .pre .3), omega arith, condition-known (firing s) (lent k))
 
 -- the row of a known rule lies inside the table
 row-inside : (s : tie.Start) → 8 * s .args .r + 8 ≤ length (s .args .rules .now)

@@ -11,7 +11,7 @@ use Rattle.passing.specs.Tabled.{deckOf}
 use Rattle.firing.specs.Firing.{holds}
 use Rattle.steps.specs.Laws.Queue.{offered-none}
 use Rattle.steps.specs.Laws.Sent.{sliceOf, Lent, there-here, there-false, there-true, Firing}
-use Rattle.steps.specs.Laws.Sent.{is-wide, is-here, task-there, condition-known, condition-value, task-sound, task-offered}
+use Rattle.steps.specs.Laws.Sent.{is-wide, is-here, task-there, condition-known, condition-value, task-sound, task-offered, stretch-inside}
 use Rattle.steps.proofs.fire_there.Statement.{statement}
 use Rattle.steps.proofs.fire_there.Tie as tie
 
@@ -58,7 +58,10 @@ returns c =
     (offered-none _ (s .pre .1 .ready .memo))
 
 truth-from-requires : tie.Need-truth-from-requires
-truth-from-requires c κs = let k = c .before .before .before .before .before in condition-known (firing (start-of k)) (lent k)
+truth-from-requires c κs =
+    let k = c .before .before .before .before .before in
+    let s = start-of k in
+    (stretch-inside (firing s) (s .args .p) (s .pre .3), stretch-inside (firing s) (s .args .q) (s .pre .5), condition-known (firing s) (lent k))
 
 offer-requires : tie.Need-offer-requires
 offer-requires c κs =

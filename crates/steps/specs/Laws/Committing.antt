@@ -2,12 +2,13 @@
 use Prim.Native.Nat.{ℕ, suc, _+_, _*_, _-_, _<_, _≤_}
 use mathlib.Core.Path.{_≡_, refl, sym, ap, ap₂, _∙_, subst}
 use mathlib.Core.Bool.{Bool, true, false, cond}
-use mathlib.Core.List.{List, [], _∷_, _++_}
+use mathlib.Core.List.{List, [], _∷_, _++_, map}
 use native.Mathlib.Omega.{arith}
+use lib.Dec.{ltb}
 use lib.ListN.{length, take, drop, length-append, length-take, length-drop}
 use lib.IntN.{ℤ}
 use Rattle.lists.specs.Lists.{all}
-use Rattle.lists.specs.Laws.Alls.{all-weaken}
+use Rattle.lists.specs.Laws.Alls.{all-weaken, all-at}
 use Rattle.deck.specs.Deck.{Deck, R, M, N}
 use Rattle.deck.specs.Shape.{shapeOf}
 use Rattle.deck.specs.declared.Deck as Counted
@@ -21,6 +22,7 @@ use Rattle.pool.specs.States.{Machine, known}
 use Rattle.pool.specs.Moves.{removed}
 use Rattle.pool.specs.Laws.Values.{assign-length}
 use Rattle.pool.specs.Laws.Good.{Fine, count-bounded}
+use Rattle.states.specs.Laws.Held.{known-low}
 use Rattle.states.specs.Laws.Shape.{same-known, shape-charge}
 use Rattle.passing.specs.Check.{within}
 use Rattle.passing.specs.Tabled.{deckOf, Tabled, PartsKnown}
@@ -29,8 +31,9 @@ use Rattle.firing.specs.Firing.{Commit, fired, changed, enqueue, setAndFire, pi
 use Rattle.firing.specs.Laws.Commits.{Known, pick-known, commit-falls, commit-fine, without-charge}
 use Rattle.index.specs.Index.{headsOf, Roomy, forgotten}
 use Rattle.steps.specs.Queue.{Held, heldOf, Kept, Room, SameSize, Grown}
-use Rattle.steps.specs.Commits.{Reacting, Reacts, Looking, Looks, Stored, Without, Finishing, Finishes, Committing, Commits, CommitsFront}
+use Rattle.steps.specs.Commits.{Reacting, Reacts, partCopied, Looking, Looks, Stored, Without, Finishing, Finishes, Committing, Commits, CommitsFront}
 use Rattle.steps.specs.Laws.Queue.{same-size, size-then, room-same}
+use Rattle.steps.specs.Laws.Parts.{copied-on, copied-back}
 use Rattle.steps.specs.Laws.Looking.{taken-charge, without-kept, without-size, front-kept}
 use Rattle.steps.specs.declared.Queue.{Queue}
 
@@ -136,6 +139,9 @@ module _ {s : List ℕ} {k : Counted.Deck} {rules parts memo : List ℕ} {held :
       let t = w .taken in
       omega (arith, t .part-is, known-update (w .place) (w .machine) t .part, w .tabled .counts .parts)
 
+  pub part-low : part < 16
+  part-low = omega (arith, part-known, w .tabled .counts .parts, w .tabled .counts .formed .parts)
+
   pub after-long : length now ≡ 512
   after-long =
       let x = w .machine in
@@ -171,16 +177,39 @@ module _ {s : List ℕ} {k : Counted.Deck} {rules parts memo : List ℕ} {held :
         within = left-low;
       }
 
+  -- the values differ in the part of the update alone
+  low-channels : all (λ c. ltb c 32) (map (λ a. a .channel) (pick (w .place) (w .machine .pending) .pairs)) ≡ true
+  unfolding channels pick
+  low-channels =
+      let t = w .taken in
+      let x = w .machine in
+      known-low d (pick (w .place) (x .pending)) (all-at (known d) (x .pending) (w .place) _ (t .fine .known) (t .inside))
+      (w .tabled .counts .formed .channels)
+
+  part-back : partCopied part vs now ≡ vs
+  part-back =
+      let t = w .taken in
+      ap₂ (λ p v. partCopied p vs v) (t .part-is) (t .after-is)
+      ∙ copied-back (pick (w .place) (w .machine .pending) .part) (pick (w .place) (w .machine .pending) .pairs) vs low-channels
+
+  part-on : partCopied part now vs ≡ now
+  part-on =
+      let t = w .taken in
+      ap₂ (λ p v. partCopied p v vs) (t .part-is) (t .after-is)
+      ∙ copied-on (pick (w .place) (w .machine .pending) .part) (pick (w .place) (w .machine .pending) .pairs) vs low-channels
+      ∙ sym (t .after-is)
+
   -- the update is discarded
-  pub finish-discarded : within d part now ≡ false → Finishes d e C vs part now pending total held memo held vs pending total false
-  finish-discarded f = record { result = discarded; memo = w .ready .memo; size = same-size }
+  pub finish-discarded : {back : List ℤ} → within d part now ≡ false → back ≡ partCopied part vs now
+      → Finishes d e C vs part now pending total held memo held vs back pending total false
+  finish-discarded {back} f b = record { result = discarded; memo = w .ready .memo; size = same-size; same = sym (b ∙ part-back) }
     where
       discarded : (j : ℕ) (x : Machine) → Without d C j x vs part now pending total held
-          → Stored d C (committed d j x .machine) vs pending total held × (false ≡ committed d j x .applied)
+          → Stored d C (committed d j x .machine) back pending total held × (false ≡ committed d j x .applied)
       discarded j x t =
           let c = discarded-machine d j x (sym (ap₂ (within d) (t .part-is) (same-after j x t)) ∙ f) in (
-            subst (λ y. Fine d C (y .machine) → Stored d C (y .machine) vs pending total held) (sym c)
-                (λ f. record { fine = f; values = t .values; count = t .count; kept = t .kept; charged = t .charged })
+            subst (λ y. Fine d C (y .machine) → Stored d C (y .machine) back pending total held) (sym c)
+                (λ f. record { fine = f; values = b ∙ part-back ∙ t .values; count = t .count; kept = t .kept; charged = t .charged })
                 (fine-after j x t),
             ap (λ y. y .applied) (sym c),
           )
@@ -220,8 +249,9 @@ module _ {s : List ℕ} {k : Counted.Deck} {rules parts memo : List ℕ} {held :
         let room = g .room (not-full j x (w .taken)) in
         omega (arith, g .pending, count-bounded e (rest d j x ++ g .extra), room .1, room .2, w .room .bounded)
 
-    pub finish-applied : Finishes d e C vs part now pending total held m held₂ now (q .pending) (q .charge) true
-    finish-applied = record { result = done; memo = r .memo; size = r .size }
+    pub finish-applied : {on : List ℤ} → on ≡ partCopied part now vs
+        → Finishes d e C vs part now pending total held m held₂ on now (q .pending) (q .charge) true
+    finish-applied o = record { result = done; memo = r .memo; size = r .size; same = o ∙ part-on }
       where
         done : (j : ℕ) (x : Machine) → Without d C j x vs part now pending total held
             → Stored d C (committed d j x .machine) now (q .pending) (q .charge) held₂ × (true ≡ committed d j x .applied)
@@ -246,6 +276,9 @@ module _ {s : List ℕ} {k : Counted.Deck} {rules parts memo : List ℕ} {held :
 
 module _ {s : List ℕ} {k : Counted.Deck} {rules parts memo : List ℕ} {held : Held} {C : ℕ} {vs : List ℤ} {pending total : ℕ}
     (w : Committing s k rules parts memo held C vs pending total) where
+  pub commit-long : length vs ≡ 512
+  commit-long = ap length (w .stored .values) ∙ w .stored .fine .long
+
   -- the pending places lie in the pool, and their links in the index
   pub commit-room : (10 * pending ≤ length (held .pool)) × (pending ≤ 65535) × (headsOf (held .index) + pending ≤ length (held .index))
   commit-room =
@@ -339,8 +372,8 @@ module _ {s : List ℕ} {k : Counted.Deck} {rules parts memo index : List ℕ} {
     pub commit-finishing : Finishing s k rules parts m out C vs part now (pending - 1) (total - c)
     commit-finishing = finishing-of w j h l C (omega arith) (room-same out-size (w .room)) out-kept
 
-    pub commit-done : {m₂ : List ℕ} {held₂ : Held} {values : List ℤ} {n t : ℕ} {b : Bool}
-        → Finishes (deckOf s) (shape rules parts k) C vs part now (pending - 1) (total - c) out m₂ held₂ values n t b
+    pub commit-done : {m₂ : List ℕ} {held₂ : Held} {before values : List ℤ} {n t : ℕ} {b : Bool}
+        → Finishes (deckOf s) (shape rules parts k) C vs part now (pending - 1) (total - c) out m₂ held₂ before values n t b
         → Commits (deckOf s) (shape rules parts k) C j (heldOf 0 index pool) vs pending total m₂ held₂ values n t b
     commit-done f =
         record {
@@ -381,9 +414,9 @@ module _ {s : List ℕ} {k : Counted.Deck} {rules parts memo : List ℕ} {gone :
     pub front-finishing : Finishing s k rules parts m (heldOf (gone + 1) index (drop 10 pool)) (C - 1) vs part now (pending - 1) (total - c)
     front-finishing = finishing-of w 0 h l (C - 1) (omega (arith, some-room)) front-room front-of
 
-    pub front-done : {m₂ : List ℕ} {index₂ : List ℕ} {pool₂ : List ℤ} {values : List ℤ} {n t : ℕ} {b : Bool}
+    pub front-done : {m₂ : List ℕ} {index₂ : List ℕ} {pool₂ : List ℤ} {before values : List ℤ} {n t : ℕ} {b : Bool}
         → Finishes (deckOf s) (shape rules parts k) (C - 1) vs part now (pending - 1) (total - c) (heldOf (gone + 1) index (drop 10 pool)) m₂
-        (heldOf (gone + 1) index₂ pool₂) values n t b
+        (heldOf (gone + 1) index₂ pool₂) before values n t b
         → CommitsFront (deckOf s) (shape rules parts k) C (heldOf gone index pool) vs pending total m₂ (heldOf (gone + 1) index₂ pool₂) values n t b
     front-done f =
         record {

@@ -184,6 +184,12 @@ module _ {s : List ℕ} {k : Counted.Deck} {rules parts : List ℕ} {values : Li
   abbrev d : Deck
   d = deckOf s
 
+  -- the channels of a part lie inside the table
+  pub stretch-inside : (q : ℕ) → q < k .parts → 32 * q + k .channels ≤ length values
+  stretch-inside q h =
+      let c = x .tabled .counts in
+      omega (arith, h, c .channels, c .parts, c .formed .channels, c .formed .parts, x .long)
+
   abbrev rule : Rule
   rule = ruleAt d r
 

@@ -1,0 +1,50 @@
+-- `charge::listeners` meets its contract: the rules that listen to a channel of the mask below `c` are in the set.
+-- Assumes nothing.
+use Prim.Native.Nat.{_≤_, _-_}
+use native.Mathlib.Omega.{arith}
+use Rattle.lists.specs.Laws.Through.{Through, through-next, through-here, through-all}
+use Rattle.charge.proofs.Columns.{Collected, collected-none, collected-skip, collected-more, collected-all}
+use Rattle.charge.proofs.listeners.Statement.{statement}
+use Rattle.charge.proofs.listeners.Tie as tie
+
+abbrev Inv-loop : tie.InvT-loop
+Inv-loop rules mask set₀ c₀ set c = (c ≤ 64) × Through mask 32 (Collected rules mask set) c
+
+abbrev μ-loop : tie.MeasureT-loop
+μ-loop rules mask set₀ c₀ set c = 64 - c
+
+loop-holds : tie.Need-loop-holds Inv-loop μ-loop
+loop-holds c =
+    let n = c .next-in .ensures in
+    (n .most, through-next n (omega arith) (omega arith) (λ i a b f h. collected-skip h f) collected-none)
+
+loop-less : tie.Need-loop-less Inv-loop μ-loop
+loop-less c = omega (arith, c .next-in2 .ensures .on (omega arith), c .next-in2 .ensures .most)
+
+loop-again : tie.Need-loop-again Inv-loop μ-loop
+loop-again c =
+    let i = c .before .before .before .loop in
+    let h = through-here (i .inv .1) (c .before .before .loop-test .taken) in
+    let n = c .next-in2 .ensures in (
+      n .most,
+      through-next n (omega arith) (omega arith) (λ i a b f h. collected-skip h f)
+          (collected-more h (i .inv .1 .found (omega arith))),
+    )
+
+pub listeners-spec : {M : Type 1} → statement M
+listeners-spec =
+    tie.close
+    (tie.spec
+    Inv-loop
+    μ-loop
+    (λ c κs. omega arith)
+    loop-holds
+    (λ c. omega arith)
+    (λ c. omega arith)
+    (λ c. omega arith)
+    (λ c. omega arith)
+    (λ c. omega arith)
+    (λ c κs. omega arith)
+    loop-less
+    loop-again
+    (λ c. collected-all (through-all (c .before .loop .inv .1) (c .loop-test .left))))

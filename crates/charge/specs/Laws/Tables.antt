@@ -1,0 +1,39 @@
+-- What the functions of this crate take is there at the start: a memo of zeros knows nothing, and the listeners are noted
+-- beside what the deck is read from. Assumes nothing.
+use Prim.Native.Nat.{ℕ, zero, suc, _+_, _*_}
+use mathlib.Core.Path.{_≡_, refl, sym, ap, fun-ext}
+use mathlib.Core.List.{List, map}
+use native.Mathlib.Omega.{arith}
+use lib.ListN.{getD, replicate, length-replicate}
+use Rattle.lists.specs.Lists.{below}
+use Rattle.deck.specs.Deck.{Deck, Rule}
+use Rattle.deck.specs.Shape.{ruleShape, partShape, shapeOf}
+use Rattle.charge.specs.Memo.{OthersKept, Memo}
+
+zeros : (n i : ℕ) → getD {A = ℕ} (replicate n 0) i 0 ≡ 0
+zeros zero i = refl
+zeros (suc n) zero = refl
+zeros (suc n) (suc i) = zeros n i
+
+pub memo-new : (d : Deck) → Memo d (replicate 1024 0)
+memo-new d =
+    record {
+      long = length-replicate {A = ℕ} 1024 0;
+      right = λ i h. absurd (h (zeros 1024 i));
+      whole = λ r q _ h. absurd (h (zeros 1024 (16 * r)));
+    }
+
+-- column 7 plays no role for the shape
+module _ {rules₀ rules : List ℕ} (h : OthersKept rules₀ rules) where
+  pub first-kept : (r : ℕ) → getD rules (8 * r) 0 ≡ getD rules₀ (8 * r) 0
+  first-kept r = let e : 8 * r + 0 ≡ 8 * r = omega arith in rw (sym e) (h .each r 0 (omega arith))
+
+  rule-kept : (r : ℕ) → ruleShape rules r ≡ ruleShape rules₀ r
+  unfolding ruleShape
+  rule-kept r = rw (first-kept r, h .each r 1 (omega arith), h .each r 2 (omega arith), h .each r 3 (omega arith)) refl
+
+  pub shape-kept : (parts : List ℕ) (R M N : ℕ) → shapeOf rules parts R M N ≡ shapeOf rules₀ parts R M N
+  unfolding shapeOf
+  shape-kept parts R M N =
+      ap (λ (f : ℕ → Rule). record { labels = replicate R 0; rules = map f (below M); parts = map (partShape parts) (below N) })
+      (fun-ext rule-kept)
