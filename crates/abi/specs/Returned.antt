@@ -1,9 +1,7 @@
 -- The replies of the six calls as a host in C sees them. Assumes nothing.
 use Prim.Native.Nat.{ℕ}
 use mathlib.Core.List.{List, [], _∷_}
-use lib.IntN.{ℤ}
 use Rattle.refusals.specs.Outcome.{Outcome}
-use Rattle.pool.specs.declared.State.{State}
 use Rattle.pool.specs.States.{Memory}
 use Rattle.engine.specs.Calls.{Answer, Reply, Section}
 use Rattle.engine.specs.Answers.{Numbers, numbersOf}
@@ -27,9 +25,6 @@ answered o = arrayOf (numbersOf o)
 pub record Returned : Type 0 where
   pub answered : Answered
   pub memory : Memory
-
-abbrev pub memoryAt : List ℤ → ℕ → List ℤ → Memory
-memoryAt values pending pool = record { state = record { values = values; pending = pending }; pool = pool }
 
 abbrev pub returnedOf : ℕ → List ℕ → Memory → Returned
 returnedOf number answer memory = record { answered = answeredOf number answer; memory = memory }

@@ -3,7 +3,8 @@
 ghost use mathlib.Core.Path.{_≡_};
 ghost use mathlib.Core.List.{[], _∷_};
 ghost use Rattle.engine.specs.Calls as Calls;
-ghost use Rattle.abi.specs.Returned.{answeredOf, answered, memoryAt, returnedOf, returned, returnedSectionOf, returnedSection};
+ghost use Rattle.engine.specs.Answers.{memoryAt};
+ghost use Rattle.abi.specs.Returned.{answeredOf, answered, returnedOf, returned, returnedSectionOf, returnedSection};
 use deck::Deck;
 use pool::State;
 
@@ -12,17 +13,6 @@ fn write(answer: &mut [u32; 5], place: u32, first: u32, second: u32, third: u32,
     ensures { λ _. ⌜ now (answer .exit) ≡ place ∷ first ∷ second ∷ third ∷ fourth ∷ [] ⌝ }
 {
     *answer = [place, first, second, third, fourth];
-}
-
-// The state that a host holds.
-fn held(values: &[i32; Deck::VALUES], pending: u32) -> State
-    ensures { λ r. ⌜ (r .values ≡ now (values .entry)) × (r .pending ≡ pending) ⌝ }
-{
-    let v = *values;
-    State {
-        values: v,
-        pending: pending,
-    }
 }
 
 // A state, where the host holds it.
@@ -113,13 +103,9 @@ pub extern "C" fn reaction_input(
 ) -> u32
     ensures { λ r. ⌜ returnedOf r (now (answer .exit)) (memoryAt (now (values .exit)) (now (pending .exit)) (now (pool .exit))) ≡ returned (Calls.input (now (deck .entry)) (memoryAt (now (values .entry)) (now (pending .entry)) (now (pool .entry))) part (now (pairs .entry))) ⌝ }
 {
-    let state = held(values, *pending);
-    let made = engine::input(deck, pool, state, part, pairs);
-    let later = made.state;
-    let reply = made.answer;
+    let reply = engine::input_lent(deck, pool, values, pending, part, pairs);
     match reply {
         engine::InputAnswer::Added(charge) => {
-            store(values, pending, later);
             write(answer, 0, charge, 0, 0, 0);
             0
         }
@@ -141,18 +127,13 @@ pub extern "C" fn reaction_commit(
 ) -> u32
     ensures { λ r. ⌜ returnedOf r (now (answer .exit)) (memoryAt (now (values .exit)) (now (pending .exit)) (now (pool .exit))) ≡ returned (Calls.commit (now (deck .entry)) (memoryAt (now (values .entry)) (now (pending .entry)) (now (pool .entry))) place) ⌝ }
 {
-    let state = held(values, *pending);
-    let made = engine::commit(deck, pool, state, place);
-    let later = made.state;
-    let reply = made.answer;
+    let reply = engine::commit_lent(deck, pool, values, pending, place);
     match reply {
         engine::CommitAnswer::Applied(charge) => {
-            store(values, pending, later);
             write(answer, 0, 1, charge, 0, 0);
             0
         }
         engine::CommitAnswer::Discarded(charge) => {
-            store(values, pending, later);
             write(answer, 0, 0, charge, 0, 0);
             0
         }
@@ -174,18 +155,13 @@ pub extern "C" fn reaction_settle(
 ) -> u32
     ensures { λ r. ⌜ returnedOf r (now (answer .exit)) (memoryAt (now (values .exit)) (now (pending .exit)) (now (pool .exit))) ≡ returned (Calls.settle (now (deck .entry)) (memoryAt (now (values .entry)) (now (pending .entry)) (now (pool .entry))) budget) ⌝ }
 {
-    let state = held(values, *pending);
-    let made = engine::settle(deck, pool, state, budget);
-    let later = made.state;
-    let reply = made.answer;
+    let reply = engine::settle_lent(deck, pool, values, pending, budget);
     match reply {
         engine::SettleAnswer::Settled(commits) => {
-            store(values, pending, later);
             write(answer, 0, commits, 1, 0, 0);
             0
         }
         engine::SettleAnswer::Spent(commits) => {
-            store(values, pending, later);
             write(answer, 0, commits, 0, 0, 0);
             0
         }

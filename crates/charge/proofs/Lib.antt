@@ -9,3 +9,4 @@ pub mod Memos
 pub mod Tabled
 pub mod RowCharges
 pub mod Search
+pub mod ByRules

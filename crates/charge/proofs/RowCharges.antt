@@ -7,7 +7,7 @@ use mathlib.Core.List.{List}
 use native.Mathlib.Omega.{arith}
 use lib.Bits.{bitAnd}
 use lib.Dec.{eqb}
-use lib.ListN.{getD, replicate, length-replicate}
+use lib.ListN.{length, getD, replicate, length-replicate}
 use borrow.Author.Tests.{eq-eqb, ne-eqb}
 use Rattle.lists.specs.Lists.{sum, below}
 use Rattle.lists.specs.Bits.{bit}
@@ -16,7 +16,8 @@ use Rattle.deck.specs.Deck.{Deck, N}
 use Rattle.deck.specs.Shape.{bitsOf, shapeOf}
 use Rattle.deck.specs.Laws.Shape.{shape-N, shape-kind}
 use Rattle.charge.specs.Charge.{unlessEmpty, updateCharge, ruleCharge}
-use Rattle.charge.specs.Memo.{AcyclicTables, Memo, Answered, RowSmall, RowKnown, RowAdded, RowPut, Keeps, UpdatesGive, RulesGive, listening, capped}
+use Rattle.charge.specs.Memo.{AcyclicTables, Memo, Answered, RowSmall, RowKnown, RowAdded, RowPut, Keeps, Begun, UpdatesGive, RulesGive, listening, capped}
+use Rattle.charge.specs.Laws.Tables.{memo-long, memo-room}
 use Rattle.charge.proofs.Sets.{no-channel, some-channel}
 use Rattle.charge.proofs.Terms.{heard, own, given, unless-none, unless-some}
 use Rattle.charge.proofs.Tabled.{update-all, rule-all, listening-heard, not-listening-heard}
@@ -51,22 +52,36 @@ hearsBelow d mask k q = 1 + sum (heard d q (bitsOf 32 mask)) (below k)
 pub record Hearing (d : Deck) (n mask k : ℕ) (xs : List ℕ) : Type 0 where
   pub row : RowOf n (hearsBelow d mask k) k xs
 
+-- the charges of an action, and a memo that has all that it had
+pub record ActionGives (rules parts : List ℕ) (R M N mask : ℕ) (m₀ m sums : List ℕ) : Type 0 where
+  pub memo : Memo (shapeOf rules parts R M N) m
+  pub keeps : Keeps m₀ m
+  pub row : RowOf N (λ q. unlessEmpty (bitsOf 32 mask) (updateCharge (shapeOf rules parts R M N) q (bitsOf 32 mask))) 64 sums
+
+pub ones-long : {row : List ℕ} → row ≡ replicate 16 1 → length row ≡ 16
+ones-long e = ap length e ∙ length-replicate {A = ℕ} 16 1
+
 module _ {rules parts : List ℕ} {R′ M′ N′ : ℕ} (h : AcyclicTables rules parts R′ M′ N′) where
   abbrev d : Deck
   d = shapeOf rules parts R′ M′ N′
 
-  -- those of an update
+  -- those of an action
   abbrev charges : ℕ → ℕ → ℕ
   charges mask q = unlessEmpty (bitsOf 32 mask) (updateCharge d q (bitsOf 32 mask))
 
   few : N d ≤ 16
   few = omega (arith, shape-N rules parts R′ M′ N′, h .few-parts)
 
-  pub hearing-none : (mask : ℕ) → Hearing d N′ mask 0 (replicate 16 1)
-  hearing-none mask =
+  -- the row of a rule is within the memo
+  pub row-room : {m : List ℕ} → Memo d m → (r : ℕ) → r < M′ → 16 * r + 16 ≤ length m
+  row-room memo r l = omega (arith, memo-long rules parts R′ M′ N′ memo, memo-room M′ r l (h .few-rules))
+
+  pub hearing-none : (mask : ℕ) {row : List ℕ} → row ≡ replicate 16 1 → Hearing d N′ mask 0 row
+  hearing-none mask e =
       record {
-        row = row-replicated 1 N′ 0 (hearsBelow d mask 0) (omega arith) (h .few-parts)
-            (λ q. omega (arith, sum-start (heard d q (bitsOf 32 mask))));
+        row = rw e
+            (row-replicated 1 N′ 0 (hearsBelow d mask 0) (omega arith) (h .few-parts)
+            (λ q. omega (arith, sum-start (heard d q (bitsOf 32 mask)))));
       }
 
   -- the charges in a known row of the memo
@@ -149,16 +164,9 @@ module _ {rules parts : List ℕ} {R′ M′ N′ : ℕ} (h : AcyclicTables rule
           put .each p l ∙ ap suc (omega (arith, one .each p l, s, e, rule-all h p l r))
 
   -- the contracts' records from these
-  pub gives-none : {mask : ℕ} {m : List ℕ} → bitAnd mask 4294967295 ≡ 0 → Memo d m
-      → UpdatesGive rules parts R′ M′ N′ mask m m (replicate 16 0)
-  gives-none {mask} z memo =
-      let none = row-replicated 0 N′ 64 (charges mask) (omega arith) (h .few-parts)
-      (λ q. unless-none (bitsOf 32 mask) _ (no-channel mask z)) in
-      record { memo = memo; keeps = keeps-same; small = none .small; each = none .each }
-
-  pub gives-heard : {mask k : ℕ} {m₀ m xs : List ℕ} → (bitAnd mask 4294967295 ≡ 0 → ⊥) → Memo d m → Keeps m₀ m
-      → Hearing d N′ mask k xs → k ≡ M′ → UpdatesGive rules parts R′ M′ N′ mask m₀ m xs
-  gives-heard {mask} {k} z memo keeps w e =
+  pub gives-heard : {mask k : ℕ} {m₀ m xs : List ℕ} → Memo d m → Keeps m₀ m → Hearing d N′ mask k xs → k ≡ M′
+      → UpdatesGive rules parts R′ M′ N′ mask m₀ m xs
+  gives-heard {mask} {k} memo keeps w e =
       record {
         memo = memo;
         keeps = keeps;
@@ -168,15 +176,32 @@ module _ {rules parts : List ℕ} {R′ M′ N′ : ℕ} (h : AcyclicTables rule
         };
         each = λ q l.
             w .row .each q l
-            ∙ ap capped
-            (ap (λ k. hearsBelow d mask k q) e
-            ∙ update-all h q l (bitsOf 32 mask)
-            ∙ sym (unless-some (bitsOf 32 mask) _ (some-channel mask z)));
+            ∙ ap capped (ap (λ k. hearsBelow d mask k q) e ∙ update-all h q l (bitsOf 32 mask));
       }
 
-  pub row-of : {mask : ℕ} {m₀ m xs : List ℕ} → UpdatesGive rules parts R′ M′ N′ mask m₀ m xs
-      → RowOf N′ (charges mask) 64 xs
-  row-of g = record { small = g .small; each = g .each }
+  -- an action without a channel leaves the row of zeros, another gives what its update gives
+  pub action-none : {mask : ℕ} {m xs : List ℕ} → bitAnd mask 4294967295 ≡ 0 → Begun mask xs → Memo d m
+      → ActionGives rules parts R′ M′ N′ mask m m xs
+  action-none {mask} z b memo =
+      record {
+        memo = memo;
+        keeps = keeps-same;
+        row = rw (b .none z)
+            (row-replicated 0 N′ 64 (charges mask) (omega arith) (h .few-parts)
+            (λ q. unless-none (bitsOf 32 mask) _ (no-channel mask z)));
+      }
+
+  pub action-some : {mask : ℕ} {m₀ m xs : List ℕ} → (bitAnd mask 4294967295 ≡ 0 → ⊥)
+      → UpdatesGive rules parts R′ M′ N′ mask m₀ m xs → ActionGives rules parts R′ M′ N′ mask m₀ m xs
+  action-some {mask} z g =
+      record {
+        memo = g .memo;
+        keeps = g .keeps;
+        row = record {
+          small = g .small;
+          each = λ q l. g .each q l ∙ ap capped (sym (unless-some (bitsOf 32 mask) _ (some-channel mask z)));
+        };
+      }
 
   all-known : {r : ℕ} {m : List ℕ} → RowKnown (N d) r m → RowKnown N′ r m
   all-known {r} {m} known = subst (λ n. RowKnown n r m) (shape-N rules parts R′ M′ N′) known

@@ -1,5 +1,5 @@
 -- Rows of numbers, one for each part: entries written one after the other, and what they add up to. Assumes nothing.
-use Prim.Native.Nat.{ℕ, zero, suc, _+_, _*_, _-_, _<_, _≤_}
+use Prim.Native.Nat.{ℕ, zero, suc, _+_, _*_, _-_, _<_, _≤_, max}
 use mathlib.Core.Path.{_≡_, refl, sym, ap, _∙_}
 use mathlib.Core.Logic.{_⊎_, inl, inr, ⊎-elim}
 use mathlib.Core.Bool.{Bool, true, false, not, cond}
@@ -14,9 +14,10 @@ use borrow.Author.Tests.{eq-eqb, ne-eqb}
 use lib.Seq.{getD-set-same, getD-set-other}
 use Rattle.lists.specs.Lists.{sum, below}
 use Rattle.lists.specs.Bits.{bit}
+use Rattle.lists.specs.Laws.Booleans.{contradiction}
 use Rattle.lists.specs.Laws.Sums.{sum-cong, sum-plus}
 use Rattle.lists.specs.Laws.Steps.{sum-start, sum-next, sum-only}
-use Rattle.charge.specs.Memo.{RowSmall, RowKnown, RowAdded, RowPut, capped}
+use Rattle.charge.specs.Memo.{RowSmall, RowKnown, RowAdded, RowPut, RowLargest, capped}
 
 -- a row of one number has no larger one
 pub replicate-most : (x n i : ℕ) → getD (replicate n x) i 0 ≤ x
@@ -118,6 +119,37 @@ module _ {parts m : List ℕ} {N r : ℕ} {row₀ row : List ℕ} {k : ℕ} (h :
       most : (q : ℕ) → Dec (q < N) → getD row q 0 ≤ 1 + 65536 * (r + 1)
       most q (yes l) = omega (arith, each q l, low q l, h .small .each q)
       most q (no n) = omega (arith, h .filled .rest q (inr (omega arith)), h .small .each q)
+
+-- ---- the largest entry of row r, over the first k parts
+module _ {parts m : List ℕ} {r best : ℕ} where
+  pub largest-none : RowLargest parts m 0 r best best
+  largest-none = record { from = omega arith; each = λ q l t. absurd (omega arith); least = λ b l each. l }
+
+  module _ {k most : ℕ} (h : RowLargest parts m k r best most) where
+    pub largest-yes : (x : ℕ) → bit (getD parts (4 * k) 0) r ≡ true → x ≡ max most (getD m (16 * r + k) 0 - 1)
+        → RowLargest parts m (k + 1) r best x
+    largest-yes x t e =
+        record {
+          from = omega (arith, h .from);
+          each = λ q l u.
+              ⊎-elim
+              (λ (i : q ≡ k). let same = ap (λ q. getD m (16 * r + q) 0) i in omega arith)
+              (λ (v : q < k). omega (arith, h .each q v u))
+              (eq-or-lt-of-le (omega arith));
+          least = λ b l each. omega (arith, h .least b l (λ q v. each q (omega arith)), each k (omega arith) t);
+        }
+
+    pub largest-no : bit (getD parts (4 * k) 0) r ≡ false → RowLargest parts m (k + 1) r best most
+    largest-no f =
+        record {
+          from = h .from;
+          each = λ q l u.
+              ⊎-elim
+              (λ (i : q ≡ k). contradiction (ap (λ q. bit (getD parts (4 * q) 0) r) (sym i) ∙ u) f)
+              (λ (v : q < k). h .each q v u)
+              (eq-or-lt-of-le (omega arith));
+          least = λ b l each. h .least b l (λ q v. each q (omega arith));
+        }
 
 -- ---- row r of the memo is written
 

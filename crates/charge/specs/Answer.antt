@@ -7,6 +7,7 @@ use Rattle.deck.specs.Deck.{Deck, M, N, carries}
 use Rattle.charge.specs.declared.Bound.{Bound}
 use Rattle.charge.specs.declared.Bound.the-variants.{Within, Above}
 use Rattle.charge.specs.Charge.{ruleCharge, carriedCharges, largestCharge, aboveBound}
+use Rattle.charge.specs.Memo.{capped}
 
 -- the first place above the bound, or the largest charge if there is none
 unfoldable pub boundBy : List ℕ → ℕ → Bound
@@ -26,3 +27,8 @@ pub record Passed (d : Deck) (k best : ℕ) : Type 0 where
 abbrev pub PartBound : Deck → ℕ → Bound → Type 0
 PartBound d p (Within n) = Passed d (64 * (p + 1)) n
 PartBound d p (Above k) = Above k ≡ boundOf d
+
+-- best is, up to the cap, the largest charge of the rules below k
+pub record RulesPassed (d : Deck) (k best : ℕ) : Type 0 where
+  pub most : (q s : ℕ) → q < N d → s < M d → carries d q s ≡ true → s < k → capped (ruleCharge d q s) ≤ best
+  pub least : best ≤ capped (largestCharge d)

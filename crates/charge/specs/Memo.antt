@@ -2,17 +2,18 @@
 use Prim.Native.Nat.{ℕ, suc, _+_, _*_, _-_, _/_, _%_, _≤_, _<_, min}
 use mathlib.Core.Path.{_≡_}
 use mathlib.Core.Logic.{_⊎_}
-use mathlib.Core.Bool.{Bool, _&&_, _||_, cond}
+use mathlib.Core.Bool.{Bool, true, _&&_, _||_, cond}
 use mathlib.Core.List.{List}
-use lib.Dec.{eqb, ltb}
-use lib.ListN.{length, getD}
+use lib.Bits.{bitAnd}
+use lib.Dec.{eqb, ltb, leb}
+use lib.ListN.{length, getD, replicate}
 use Rattle.lists.specs.Lists.{any, member, sum, below}
 use Rattle.lists.specs.Bits.{bit}
-use Rattle.deck.specs.Deck.{Deck, N}
+use Rattle.deck.specs.Deck.{Deck, M, N}
 use Rattle.deck.specs.Shape.{bitsOf, shapeOf}
 use Rattle.graph.specs.Masks.{carriedAt}
 use Rattle.graph.specs.Laws.Cycles.{KnownTargets, Acyclic}
-use Rattle.charge.specs.Charge.{unlessEmpty, updateCharge, ruleCharge}
+use Rattle.charge.specs.Charge.{updateCharge, ruleCharge}
 
 -- column 7 of row c has the carried rules that have channel c among their events
 pub record Noted (rules parts : List ℕ) (M N : ℕ) : Type 0 where
@@ -39,9 +40,10 @@ pub record RuleNoted (events r : ℕ) (rules₀ rules : List ℕ) : Type 0 where
 pub record ListenersAre (rules : List ℕ) (mask s : ℕ) : Type 0 where
   pub each : (r : ℕ) → bit s r ≡ any (λ c. bit (getD rules (8 * c + 7) 0) r) (bitsOf 32 mask)
 
--- what the reading pass and the test for cycles gave, with the listeners noted
+-- what the reading pass and the test for cycles gave, with the listeners noted: a row for each of 32 channels and of M rules
 pub record AcyclicTables (rules parts : List ℕ) (R M N : ℕ) : Type 0 where
-  pub rules-long : 512 ≤ length rules
+  pub rules-long : 256 ≤ length rules
+  pub rules-room : 8 * M ≤ length rules
   pub parts-long : 64 ≤ length parts
   pub few-rules : M ≤ 64
   pub few-parts : N ≤ 16
@@ -53,9 +55,13 @@ pub record AcyclicTables (rules parts : List ℕ) (R M N : ℕ) : Type 0 where
 abbrev pub capped : ℕ → ℕ
 capped x = min 65536 x
 
+-- the numbers of a memo for so many rules, 16 for each: one table for at most 16 rules, another for at most 64
+unfoldable pub memoSize : ℕ → ℕ
+memoSize n = cond (leb n 16) 256 1024
+
 -- entry 16 r + p is 0, or one more than the charge of rule r at part p; a rule's charges are known at all parts or at none
 pub record Memo (d : Deck) (m : List ℕ) : Type 0 where
-  pub long : length m ≡ 1024
+  pub long : length m ≡ memoSize (M d)
   pub right : (i : ℕ) → (getD m i 0 ≡ 0 → ⊥) → getD m i 0 ≡ suc (capped (ruleCharge d (i % 16) (i / 16)))
   pub whole : (r q : ℕ) → q < N d → (getD m (16 * r) 0 ≡ 0 → ⊥) → getD m (16 * r + q) 0 ≡ 0 → ⊥
 
@@ -106,6 +112,13 @@ pub record RowAdded (parts m : List ℕ) (N r : ℕ) (row₀ row : List ℕ) : T
   pub each : (q : ℕ) → q < N
       → getD row q 0 ≡ getD row₀ q 0 + cond (bit (getD parts (4 * q) 0) r) (getD m (16 * r + q) 0 - 1) 0
 
+-- most is the largest of a number and of them, at the parts that carry the rule
+pub record RowLargest (parts m : List ℕ) (N r best most : ℕ) : Type 0 where
+  pub from : best ≤ most
+  pub each : (q : ℕ) → q < N → bit (getD parts (4 * q) 0) r ≡ true → getD m (16 * r + q) 0 - 1 ≤ most
+  pub least : (b : ℕ) → best ≤ b
+      → ((q : ℕ) → q < N → bit (getD parts (4 * q) 0) r ≡ true → getD m (16 * r + q) 0 - 1 ≤ b) → most ≤ b
+
 -- they were written: the charge of the default action, and that of the action at the part itself or at all others
 pub record RowPut (N r kind : ℕ) (first second m₀ m : List ℕ) : Type 0 where
   pub long : length m ≡ length m₀
@@ -118,14 +131,18 @@ pub record RowPut (N r kind : ℕ) (first second m₀ m : List ℕ) : Type 0 whe
 pub record Keeps (m₀ m : List ℕ) : Type 0 where
   pub each : (i : ℕ) → (getD m₀ i 0 ≡ 0 → ⊥) → getD m i 0 ≡ getD m₀ i 0
 
--- what is answered for an update at all parts, if it has a channel, and for a rule at all parts
+-- a row for the channels of a mask: all 0 if it has none, else all 1
+pub record Begun (mask : ℕ) (sums : List ℕ) : Type 0 where
+  pub none : bitAnd mask 4294967295 ≡ 0 → sums ≡ replicate 16 0
+  pub some : (bitAnd mask 4294967295 ≡ 0 → ⊥) → sums ≡ replicate 16 1
+
+-- what is answered for an update at all parts, and for a rule at all parts
 pub record UpdatesGive (rules parts : List ℕ) (R M N mask : ℕ) (m₀ m sums : List ℕ) : Type 0 where
   pub memo : Memo (shapeOf rules parts R M N) m
   pub keeps : Keeps m₀ m
   pub small : RowSmall 64 sums
   pub each : (q : ℕ) → q < N
-      → capped (getD sums q 0)
-      ≡ capped (unlessEmpty (bitsOf 32 mask) (updateCharge (shapeOf rules parts R M N) q (bitsOf 32 mask)))
+      → capped (getD sums q 0) ≡ capped (updateCharge (shapeOf rules parts R M N) q (bitsOf 32 mask))
 
 pub record RulesGive (rules parts : List ℕ) (R M N r : ℕ) (m₀ m : List ℕ) : Type 0 where
   pub memo : Memo (shapeOf rules parts R M N) m

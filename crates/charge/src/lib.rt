@@ -3,13 +3,13 @@ ghost use mathlib.Core.Path.{_≡_};
 ghost use mathlib.Core.Bool.{true, cond};
 ghost use Prim.Native.Nat.{_+_, _*_, _-_, _<_, _≤_, max};
 ghost use lib.Dec.{eqb};
-ghost use lib.ListN.{length, getD};
+ghost use lib.ListN.{length, getD, replicate};
 ghost use Rattle.lists.specs.Lists.{sum, below};
 ghost use Rattle.lists.specs.Bits.{bit};
 ghost use Rattle.deck.specs.Shape.{shapeOf};
 ghost use Rattle.graph.specs.Masks.{carriedAt};
-ghost use Rattle.charge.specs.Memo.{Noted, OthersKept, Cleared, RuleNoted, ListenersAre, AcyclicTables, Memo, Ready, UpdateGives, RulesGive, UpdatesGive, ActiveIs, RowSmall, RowKnown, RowAdded, RowPut, capped};
-ghost use Rattle.charge.specs.Answer.{boundOf, Passed, PartBound};
+ghost use Rattle.charge.specs.Memo.{Noted, OthersKept, Cleared, RuleNoted, ListenersAre, AcyclicTables, Memo, Ready, UpdateGives, RulesGive, Begun, UpdatesGive, ActiveIs, RowSmall, RowKnown, RowAdded, RowPut, RowLargest, capped};
+ghost use Rattle.charge.specs.Answer.{boundOf, Passed, PartBound, RulesPassed};
 use deck::Deck;
 
 // The largest charge of a carried rule; or the lowest place, 64 times part + rule, of one above 65,535.
@@ -29,7 +29,7 @@ fn capped_sum(a: u32, b: u32) -> u32
 
 // No rule listens to any channel: column 7 of the rules is for that.
 fn clear_listeners(rules: &mut [u64])
-    requires { ⌜ 512 ≤ length (now rules) ⌝ }
+    requires { ⌜ 256 ≤ length (now rules) ⌝ }
     ensures { λ _. ⌜ Cleared (now (rules .entry)) (now (rules .exit)) ⌝ }
 {
     let mut c: usize = 0;
@@ -41,41 +41,47 @@ fn clear_listeners(rules: &mut [u64])
 
 // Rule r listens to every channel of its events.
 fn note_rule(rules: &mut [u64], events: u64, r: usize)
-    requires { ⌜ (512 ≤ length (now rules)) × (r < 64) ⌝ }
+    requires { ⌜ (256 ≤ length (now rules)) × (r < 64) ⌝ }
     ensures { λ _. ⌜ RuleNoted events r (now (rules .entry)) (now (rules .exit)) ⌝ }
 {
-    let mut c = lists::next_in(events, 0);
+    let mut left = events;
+    let mut c = lists::lowest(left);
     while c < Deck::CHANNELS {
         rules[8 * c + 7] = rules[8 * c + 7] | (1u64 << r);
-        c = lists::next_in(events, c + 1);
+        left = lists::rest(left);
+        c = lists::lowest(left);
     }
 }
 
 // The carried rules that listen to each channel, in column 7.
 pub fn note_listeners(rules: &mut [u64], parts: &[u64], count: usize, parts_count: usize)
-    requires { ⌜ (512 ≤ length (now rules)) × (64 ≤ length (now parts)) × (count ≤ 64) × («parts_count» ≤ 16) ⌝ }
+    requires { ⌜ (256 ≤ length (now rules)) × (8 * count ≤ length (now rules)) × (64 ≤ length (now parts)) × (count ≤ 64) × («parts_count» ≤ 16) ⌝ }
     ensures { λ _. ⌜ OthersKept (now (rules .entry)) (now (rules .exit)) × Noted (now (rules .exit)) (now (parts .entry)) count «parts_count» ⌝ }
 {
     clear_listeners(rules);
     let carried = graph::carried_by_some(parts, parts_count);
-    let mut r = lists::next_in(carried, 0);
+    let mut left = carried;
+    let mut r = lists::lowest(left);
     while r < count {
         let events = rules[8 * r];
         note_rule(rules, events, r);
-        r = lists::next_in(carried, r + 1);
+        left = lists::rest(left);
+        r = lists::lowest(left);
     }
 }
 
 // The rules that listen to a channel of the mask, as a set.
 fn listeners(rules: &[u64], mask: u64) -> u64
-    requires { ⌜ 512 ≤ length (now rules) ⌝ }
+    requires { ⌜ 256 ≤ length (now rules) ⌝ }
     ensures { λ s. ⌜ ListenersAre (now (rules .entry)) mask s ⌝ }
 {
     let mut set: u64 = 0;
-    let mut c = lists::next_in(mask, 0);
+    let mut left = mask;
+    let mut c = lists::lowest(left);
     while c < Deck::CHANNELS {
         set = set | rules[8 * c + 7];
-        c = lists::next_in(mask, c + 1);
+        left = lists::rest(left);
+        c = lists::lowest(left);
     }
     set
 }
@@ -107,7 +113,7 @@ pub fn active(
 
 // Row r of the memo added to the charges of an update, at the parts that carry rule r.
 fn add_row(sums: &mut [u32], parts: &[u64], memo: &[u32], parts_count: usize, r: usize)
-    requires { ⌜ (64 ≤ length (now parts)) × (length (now memo) ≡ 1024) × («parts_count» ≤ 16) × (r < 64) × RowSmall r (now sums) × RowKnown «parts_count» r (now memo) ⌝ }
+    requires { ⌜ (64 ≤ length (now parts)) × (16 * r + 16 ≤ length (now memo)) × («parts_count» ≤ 16) × (r < 64) × RowSmall r (now sums) × RowKnown «parts_count» r (now memo) ⌝ }
     ensures { λ _. ⌜ RowAdded (now (parts .entry)) (now (memo .entry)) «parts_count» r (now (sums .entry)) (now (sums .exit)) ⌝ }
 {
     let mut q: usize = 0;
@@ -119,7 +125,17 @@ fn add_row(sums: &mut [u32], parts: &[u64], memo: &[u32], parts_count: usize, r:
     }
 }
 
-// The charges at all parts of an update of the channels in the mask, or 0 where there is none.
+// The charges of an update at all parts before any rule is counted: 1, or 0 where it has no channel.
+fn begin(mask: u64) -> [u32; 16]
+    ensures { λ sums. ⌜ Begun mask sums ⌝ }
+{
+    if mask & 4294967295 == 0 {
+        return [0u32; 16];
+    }
+    [1u32; 16]
+}
+
+// The charges at all parts of an update of the channels in the mask, on a row that has 1 for each.
 fn update_charges(
     rules: &[u64],
     parts: &[u64],
@@ -128,22 +144,20 @@ fn update_charges(
     count: usize,
     parts_count: usize,
     mask: u64,
-) -> [u32; 16]
-    requires { ⌜ Ready (now rules) (now parts) channels count «parts_count» (now memo) ⌝ }
-    ensures { λ sums. ⌜ UpdatesGive (now (rules .entry)) (now (parts .entry)) channels count «parts_count» mask (now (memo .entry)) (now (memo .exit)) sums ⌝ }
+    sums: &mut [u32],
+)
+    requires { ⌜ Ready (now rules) (now parts) channels count «parts_count» (now memo) × (now sums ≡ replicate 16 1) ⌝ }
+    ensures { λ _. ⌜ UpdatesGive (now (rules .entry)) (now (parts .entry)) channels count «parts_count» mask (now (memo .entry)) (now (memo .exit)) (now (sums .exit)) ⌝ }
 {
-    if mask & 4294967295 == 0 {
-        return [0u32; 16];
-    }
     let set = listeners(rules, mask);
-    let mut sums = [1u32; 16];
-    let mut r = lists::next_in(set, 0);
+    let mut left = set;
+    let mut r = lists::lowest(left);
     while r < count {
         rule_charges(rules, parts, memo, channels, count, parts_count, r);
-        add_row(&mut sums, parts, memo, parts_count, r);
-        r = lists::next_in(set, r + 1);
+        add_row(sums, parts, memo, parts_count, r);
+        left = lists::rest(left);
+        r = lists::lowest(left);
     }
-    sums
 }
 
 // The charges of a row, added up.
@@ -182,7 +196,7 @@ fn share(kind: u64, total: u32, own: u32) -> u32
 
 // Row r of the memo: at each part the charge of the default action, and what the action adds.
 fn put_row(memo: &mut [u32], parts_count: usize, r: usize, kind: u64, first: &[u32], second: &[u32])
-    requires { ⌜ (length (now memo) ≡ 1024) × («parts_count» ≤ 16) × (r < 64) × RowSmall 64 (now first) × RowSmall 64 (now second) ⌝ }
+    requires { ⌜ (16 * r + 16 ≤ length (now memo)) × («parts_count» ≤ 16) × (r < 64) × RowSmall 64 (now first) × RowSmall 64 (now second) ⌝ }
     ensures { λ _. ⌜ RowPut «parts_count» r kind (now (first .entry)) (now (second .entry)) (now (memo .entry)) (now (memo .exit)) ⌝ }
 {
     let total = total_for(kind, second, parts_count);
@@ -213,8 +227,14 @@ fn rule_charges(
     }
     let default = rules[8 * r + 1];
     let action = rules[8 * r + 2];
-    let first = update_charges(rules, parts, memo, channels, count, parts_count, default);
-    let second = update_charges(rules, parts, memo, channels, count, parts_count, action);
+    let mut first = begin(default);
+    let mut second = begin(action);
+    if default & 4294967295 != 0 {
+        update_charges(rules, parts, memo, channels, count, parts_count, default, &mut first);
+    }
+    if action & 4294967295 != 0 {
+        update_charges(rules, parts, memo, channels, count, parts_count, action, &mut second);
+    }
     put_row(memo, parts_count, r, rules[8 * r + 3], &first, &second);
 }
 
@@ -253,11 +273,13 @@ pub fn update_charge(
 {
     let set = active(rules, parts, channels, count, parts_count, p, mask);
     let mut total: u32 = 1;
-    let mut r = lists::next_in(set, 0);
+    let mut left = set;
+    let mut r = lists::lowest(left);
     while r < count {
         known_charges(rules, parts, memo, channels, count, parts_count, r);
         total = capped_sum(total, memo[16 * r + p] - 1);
-        r = lists::next_in(set, r + 1);
+        left = lists::rest(left);
+        r = lists::lowest(left);
     }
     total
 }
@@ -268,7 +290,7 @@ fn larger(a: u32, b: u32) -> u32
     if a < b { b } else { a }
 }
 
-// The same at one part, behind the largest charge so far.
+// The search at one part, behind the largest charge so far.
 fn part_above(
     rules: &[u64],
     parts: &[u64],
@@ -284,7 +306,8 @@ fn part_above(
 {
     let carried = parts[4 * p];
     let mut most = best;
-    let mut r = lists::next_in(carried, 0);
+    let mut left = carried;
+    let mut r = lists::lowest(left);
     while r < count {
         known_charges(rules, parts, memo, channels, count, parts_count, r);
         let c = memo[16 * r + p] - 1;
@@ -292,13 +315,14 @@ fn part_above(
             return Bound::Above(64 * p + r);
         }
         most = larger(most, c);
-        r = lists::next_in(carried, r + 1);
+        left = lists::rest(left);
+        r = lists::lowest(left);
     }
     Bound::Within(most)
 }
 
-// The bound on the charges of the carried rules, lowest place first. The memo is lent, and has then what was computed.
-pub fn first_above(
+// The bound on the charges of the carried rules, lowest place first.
+fn search_above(
     rules: &[u64],
     parts: &[u64],
     memo: &mut [u32],
@@ -324,4 +348,65 @@ pub fn first_above(
         p += 1;
     }
     Bound::Within(best)
+}
+
+// The largest of a number and the charges of rule r at the parts that carry it.
+fn row_largest(parts: &[u64], memo: &[u32], parts_count: usize, r: usize, best: u32) -> u32
+    requires { ⌜ (64 ≤ length (now parts)) × (16 * r + 16 ≤ length (now memo)) × («parts_count» ≤ 16) × (r < 64) × RowKnown «parts_count» r (now memo) ⌝ }
+    ensures { λ most. ⌜ RowLargest (now (parts .entry)) (now (memo .entry)) «parts_count» r best most ⌝ }
+{
+    let mut most = best;
+    let mut q: usize = 0;
+    while q < parts_count {
+        if carries(parts, q, r) {
+            most = larger(most, memo[16 * r + q] - 1);
+        }
+        q += 1;
+    }
+    most
+}
+
+// The largest charge of the carried rules, up to 65,536. The memo has then the charges of all of them.
+fn largest(
+    rules: &[u64],
+    parts: &[u64],
+    memo: &mut [u32],
+    channels: usize,
+    count: usize,
+    parts_count: usize,
+) -> u32
+    requires { ⌜ Ready (now rules) (now parts) channels count «parts_count» (now memo) ⌝ }
+    ensures { λ most. ⌜ RulesPassed (shapeOf (now (rules .entry)) (now (parts .entry)) channels count «parts_count») count most × Memo (shapeOf (now (rules .entry)) (now (parts .entry)) channels count «parts_count») (now (memo .exit)) ⌝ }
+{
+    let carried = graph::carried_by_some(parts, parts_count);
+    let mut most: u32 = 0;
+    let mut left = carried;
+    let mut r = lists::lowest(left);
+    while r < count {
+        known_charges(rules, parts, memo, channels, count, parts_count, r);
+        most = row_largest(parts, memo, parts_count, r, most);
+        left = lists::rest(left);
+        r = lists::lowest(left);
+    }
+    most
+}
+
+// The bound on the charges of the carried rules. Mostly none is above it, and then the order of the places plays no role.
+// The memo is lent, and has then what was computed.
+pub fn first_above(
+    rules: &[u64],
+    parts: &[u64],
+    memo: &mut [u32],
+    channels: usize,
+    count: usize,
+    parts_count: usize,
+) -> Bound
+    requires { ⌜ Ready (now rules) (now parts) channels count «parts_count» (now memo) ⌝ }
+    ensures { λ b. ⌜ (b ≡ boundOf (shapeOf (now (rules .entry)) (now (parts .entry)) channels count «parts_count»)) × Memo (shapeOf (now (rules .entry)) (now (parts .entry)) channels count «parts_count») (now (memo .exit)) ⌝ }
+{
+    let most = largest(rules, parts, memo, channels, count, parts_count);
+    if most < 65536 {
+        return Bound::Within(most);
+    }
+    search_above(rules, parts, memo, channels, count, parts_count)
 }

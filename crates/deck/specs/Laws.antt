@@ -14,6 +14,7 @@ pub mod Marks
 pub mod Points
 pub mod DeckPoints
 pub mod Turns
+pub mod RuleCount
 pub mod Stretches
 pub mod Offsets
 pub mod ActionTurns

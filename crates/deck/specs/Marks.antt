@@ -4,7 +4,7 @@ use Prim.Native.Nat.{ℕ, zero, suc, _+_, _*_, _-_, _≤_, _<_}
 use mathlib.Core.Path.{_≡_}
 use mathlib.Core.Bool.{Bool, true, false, not}
 use mathlib.Core.List.{List, [], _∷_, _++_, map}
-use lib.Dec.{eqb}
+use lib.Dec.{eqb, leb}
 use lib.ListN.{length, getD, take, drop}
 use Rattle.lists.specs.Lists.{member, flatMap}
 use Rattle.lists.specs.Bits.{bit, maskOf}
@@ -181,6 +181,10 @@ abbrev pub Reads : {A : Type 0} → List ℕ → Outcome (Got A) → (A → Type
 Reads {A} s o P (Next n) = (a : A) × (o ≡ accepted (record { value = a; rest = drop n s; at = n })) × (n ≤ length s) × P a
 Reads s o P (Fault number place) = o ≡ refused number place
 
+-- the place after what was read, and 0 where there is a fault or none is looked for
+abbrev pub ReadsTo : {A : Type 0} → List ℕ → Outcome (Got A) → ℕ → Type 0
+ReadsTo s o n = (n ≡ 0 → ⊥) → Reads s o (λ _. Unit {0}) (Next n)
+
 -- an assignment, mask being the set of the targets so far
 abbrev pub ReadsAssignment : Scope → List ℕ → ℕ → ℕ → ℕ → Step → Type 0
 ReadsAssignment sc s at mask target step =
@@ -215,6 +219,18 @@ Loads s rules rules₀ parts parts₀ (Whole d) =
     × (rules ≡ flatMap ruleRow (m .front .rules) ++ drop (8 * m .front .count) rules₀)
     × (parts ≡ flatMap partRow (m .parts) ++ drop (4 * m .count) parts₀)
 Loads s rules rules₀ parts parts₀ (Wrong number place) = markedSections s 0 ≡ refused number place
+
+-- the byte where the number of rules stands, behind the labels; and room for so many in a table, if a deck may have them
+abbrev pub rulesAt : List ℕ → ℕ
+rulesAt s = getD s (1 + getD s 0 0) 0
+
+abbrev pub RulesFit : List ℕ → ℕ → Type 0
+RulesFit s n = rulesAt s ≤ 64 → 8 * rulesAt s ≤ n
+
+-- b tells of bytes that are read as a deck whether it has at most 16 rules; and of other bytes too, if it is true
+pub record FewRules (s : List ℕ) (b : Bool) : Type 0 where
+  pub right : (g : Got Marked) → markedSections s 0 ≡ accepted g → b ≡ leb (g .value .front .count) 16
+  pub low : b ≡ true → rulesAt s ≤ 16
 
 -- a fault of the pass, as the whole pass answers it
 abbrev pub wrongOf : Step → Loaded

@@ -11,7 +11,7 @@ ghost use Rattle.deck.specs.Deck.{targets};
 ghost use Rattle.deck.specs.Reader.{number, times, rising, value};
 ghost use Rattle.deck.specs.Layout.{action};
 ghost use Rattle.deck.specs.Encoding.{kindByte};
-ghost use Rattle.deck.specs.Marks.{Reads, scopeOf, expressionFor, isWhole, ReadsAssignment, ReadsFront, Loads, wrongOf, offsetOf, stretchOf, markedTask, markedRule, markedPart, ruleRow, partRow};
+ghost use Rattle.deck.specs.Marks.{Reads, ReadsTo, RulesFit, FewRules, scopeOf, expressionFor, isWhole, ReadsAssignment, ReadsFront, Loads, wrongOf, offsetOf, stretchOf, markedTask, markedRule, markedPart, ruleRow, partRow};
 
 // The counts R, M and N of a deck, and the offsets of its second and third section's counts.
 pub struct Deck {
@@ -273,8 +273,34 @@ fn judged(bytes: &[u8], truth: bool, own: usize, far: usize) -> bool
     }
 }
 
-// An expression: a truth, or else a number, with so many own and far channels known.
-fn expression_at(s: &[u8], at: usize, truth: bool, own: usize, far: usize) -> Step
+// The place after an expression, a truth or else a number, with so many own and far channels known; 0 where there is a fault.
+fn expression_end(s: &[u8], at: usize, truth: bool, own: usize, far: usize) -> usize
+    ensures { λ r. ⌜ ReadsTo (now (s .entry)) (expressionFor truth (scopeOf own far) (drop at (now (s .entry))) at) r ⌝ }
+{
+    if s.len() <= at {
+        return 0;
+    }
+    let n = wide(s[at]);
+    if n == 0 {
+        return 0;
+    }
+    if n > Deck::EXPRESSION {
+        return 0;
+    }
+    if s.len() - at <= n {
+        return 0;
+    }
+    let from = at + 1;
+    let to = from + n;
+    if judged(&s[from..to], truth, own, far) {
+        to
+    } else {
+        0
+    }
+}
+
+// The same with the fault, step by step.
+fn expression_step(s: &[u8], at: usize, truth: bool, own: usize, far: usize) -> Step
     ensures { λ r. ⌜ Reads (now (s .entry)) (expressionFor truth (scopeOf own far) (drop at (now (s .entry))) at) (λ _. Unit {0}) r ⌝ }
 {
     let b = number_at(s, at, 1, Deck::EXPRESSION + 1);
@@ -298,6 +324,17 @@ fn expression_at(s: &[u8], at: usize, truth: bool, own: usize, far: usize) -> St
             place: from,
         }
     }
+}
+
+// An expression. Mostly it has no fault, and its end comes back as one number.
+fn expression_at(s: &[u8], at: usize, truth: bool, own: usize, far: usize) -> Step
+    ensures { λ r. ⌜ Reads (now (s .entry)) (expressionFor truth (scopeOf own far) (drop at (now (s .entry))) at) (λ _. Unit {0}) r ⌝ }
+{
+    let end = expression_end(s, at, truth, own, far);
+    if end != 0 {
+        return Step::Next(end);
+    }
+    expression_step(s, at, truth, own, far)
 }
 
 // One assignment, to a channel that is not among the targets so far.
@@ -569,7 +606,7 @@ fn no_front(step: Step) -> Front
 
 // The channels and the rules.
 fn front_at(s: &[u8], table: &mut [u64]) -> Front
-    requires { ⌜ 512 ≤ length (now table) ⌝ }
+    requires { ⌜ RulesFit (now s) (length (now table)) ⌝ }
     ensures { λ r. ⌜ ReadsFront (now (s .entry)) r (now (table .exit)) (now (table .entry)) ⌝ }
 {
     let r = number_at(s, 0, 1, Deck::CHANNELS + 1);
@@ -614,7 +651,7 @@ fn wrong(step: Step) -> Loaded
 
 // One pass over the bytes: the deck, its rules and parts in the tables, or the first fault in reading order, 1 to 5.
 pub fn read(deck: &[u8], rules: &mut [u64], parts: &mut [u64]) -> Loaded
-    requires { ⌜ (512 ≤ length (now rules)) × (64 ≤ length (now parts)) ⌝ }
+    requires { ⌜ RulesFit (now deck) (length (now rules)) × (64 ≤ length (now parts)) ⌝ }
     ensures { λ r. ⌜ Loads (now (deck .entry)) (now (rules .exit)) (now (rules .entry)) (now (parts .exit)) (now (parts .entry)) r ⌝ }
 {
     let f = front_at(deck, rules);
@@ -645,6 +682,21 @@ pub fn read(deck: &[u8], rules: &mut [u64], parts: &mut [u64]) -> Loaded
         second: f.second,
         third: third,
     })
+}
+
+// Whether a deck has at most 16 rules. Their number is looked up and not read in order: of other bytes only a true answer says
+// something, that the byte where the number would stand is at most 16.
+pub fn few_rules(deck: &[u8]) -> bool
+    ensures { λ r. ⌜ FewRules (now (deck .entry)) r ⌝ }
+{
+    if deck.len() == 0 {
+        return false;
+    }
+    let channels = wide(deck[0]);
+    if deck.len() - 1 <= channels {
+        return false;
+    }
+    wide(deck[1 + channels]) <= 16
 }
 
 // The offset of a section's count; from 3 on, the deck's end.

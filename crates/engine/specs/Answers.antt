@@ -50,6 +50,13 @@ memoryOf state pool = record { state = state; pool = pool }
 abbrev pub replyOf : Outcome Answer → State → List ℤ → Reply
 replyOf answer state pool = record { answer = answer; memory = memoryOf state pool }
 
+-- the same, where values and pending number are lent each by itself
+abbrev pub memoryAt : List ℤ → ℕ → List ℤ → Memory
+memoryAt values pending pool = memoryOf (record { values = values; pending = pending }) pool
+
+abbrev pub replyAt : Outcome Answer → List ℤ → ℕ → List ℤ → Reply
+replyAt answer values pending pool = record { answer = answer; memory = memoryAt values pending pool }
+
 -- an outcome as numbers: the refusal's number and place, both 0 where the call is accepted, and the answer numbers, all 0 where
 -- it is refused. "applied" and "settled" are 1, "discarded" and "spent" 0
 pub record Numbers : Type 0 where

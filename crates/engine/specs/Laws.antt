@@ -1,6 +1,7 @@
 -- Laws of the calls.
 pub mod Opening
 pub mod Checks
+pub mod Tables
 pub mod CheckAnswers
 pub mod SectionAnswers
 pub mod Inputs

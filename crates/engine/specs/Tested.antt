@@ -26,7 +26,7 @@ use Rattle.firing.specs.Firing.{Commit, setAndFire, committed}
 use Rattle.steps.specs.Queue.{heldOf}
 use Rattle.steps.specs.Commits.{Stored, Committing}
 use Rattle.engine.specs.Calls.{Answer, added, applied, discarded, settled, spent, Done, tested, goodInput, Settling, settling}
-use Rattle.engine.specs.Answers.{memoryOf}
+use Rattle.engine.specs.Answers.{memoryAt}
 use Rattle.engine.specs.declared.Tested.{Tested}
 use Rattle.engine.specs.declared.Tested.the-variants.{Ready, Refused}
 
@@ -48,7 +48,7 @@ abbrev pub TestsState : Counted.Deck → List ℕ → List ℕ → List ℕ → 
 TestsState k rules parts memo index pool vs pending (Ready c total) =
     (c ≡ k)
     × (goodLength (length pool) ≡ true)
-    × (Good total ≡ goodnessOf (shape rules parts k) (memoryOf (record { values = vs; pending = pending }) pool))
+    × (Good total ≡ goodnessOf (shape rules parts k) (memoryAt vs pending pool))
     × Memo (shape rules parts k) memo
     × Indexed 0 (keys (headsOf index) pending pool) index
     × Roomy (capacity (length pool)) index
@@ -57,7 +57,7 @@ TestsState k rules parts memo index pool vs pending (Refused n p) =
     × (((n ≡ badPool) × (goodLength (length pool) ≡ false))
     ⊎ ((n ≡ badState)
     × (goodLength (length pool) ≡ true)
-    × (Bad ≡ goodnessOf (shape rules parts k) (memoryOf (record { values = vs; pending = pending }) pool))))
+    × (Bad ≡ goodnessOf (shape rules parts k) (memoryAt vs pending pool))))
 
 -- the tests 1 to 10: the refusal, or all that the rest of a call needs
 pub record Passed (s rules parts memo index : List ℕ) (m : Memory) (k : Counted.Deck) (total : ℕ) : Type 0 where
@@ -68,9 +68,9 @@ pub record Passed (s rules parts memo index : List ℕ) (m : Memory) (k : Counte
 
 abbrev pub Tests : List ℕ → List ℕ → List ℕ → List ℕ → List ℕ → List ℤ → List ℤ → ℕ → Tested → Type 0
 Tests s rules parts memo index pool vs pending (Ready k total) =
-    Passed s rules parts memo index (memoryOf (record { values = vs; pending = pending }) pool) k total
+    Passed s rules parts memo index (memoryAt vs pending pool) k total
 Tests s rules parts memo index pool vs pending (Refused n p) =
-    tested s (memoryOf (record { values = vs; pending = pending }) pool) ≡ refused n p
+    tested s (memoryAt vs pending pool) ≡ refused n p
 
 -- what is left of an input behind the tests 1 to 10, on values and pending updates, with C places
 unfoldable pub entered : Deck → ℕ → Machine → ℕ → List ℤ → Outcome Done

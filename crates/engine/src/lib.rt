@@ -11,22 +11,35 @@ ghost use Rattle.refusals.specs.Outcome.{refused, accepted};
 ghost use Rattle.pool.specs.Places.{zeros};
 ghost use Rattle.pool.specs.States.{goodLength};
 ghost use Rattle.engine.specs.Calls as Calls;
-ghost use Rattle.engine.specs.Answers.{checkOutcome, sectionOf, startOutcome, inputOutcome, commitOutcome, settleOutcome, memoryOf, replyOf};
+ghost use Rattle.engine.specs.Answers.{checkOutcome, sectionOf, startOutcome, inputOutcome, commitOutcome, settleOutcome, memoryOf, memoryAt, replyOf, replyAt};
 ghost use Rattle.engine.specs.Tested.{GoodInput, Usable, TestsState, Tests, Entering, Enters, CommitsAs, Settles};
 ghost use Rattle.charge.specs.Memo.{Ready};
+ghost use Rattle.passing.specs.Judged.{ZeroRules, ZeroMemo};
 ghost use Rattle.steps.specs.Queue.{heldOf};
 ghost use Rattle.steps.specs.Commits.{Committing};
 use deck::Deck;
 use passing::Judged;
 use pool::State;
 
-// The numbers of an index, a third of them for the buckets and the others for places: for pools of up to 1,024 places, of up to
-// 8,192, and for the longest. It begins as zeros in each call, so that a short pool should have a short one.
-const SHORT_POOL: usize = 10240;
-const SHORT_INDEX: usize = 1536;
-const MIDDLE_POOL: usize = 81920;
-const MIDDLE_INDEX: usize = 12288;
+// The numbers of an index, a third of them for the buckets and the others for places: for pools of up to 64 places, of up to 256,
+// of up to 2,048, of up to 12,288, and for the longest. It begins as zeros in each call, so that a short pool should have a short
+// one.
+const TINY_POOL: usize = 640;
+const TINY_INDEX: usize = 96;
+const SMALL_POOL: usize = 2560;
+const SMALL_INDEX: usize = 384;
+const SHORT_POOL: usize = 20480;
+const SHORT_INDEX: usize = 3072;
+const MIDDLE_POOL: usize = 122880;
+const MIDDLE_INDEX: usize = 18432;
 const INDEX: usize = 98304;
+
+// The numbers of a table of rules and of a memo of charges, for decks of at most 16 rules and for the others. They begin as zeros
+// as well.
+const SHORT_RULES: usize = 256;
+const RULES: usize = 512;
+const SHORT_MEMO: usize = 256;
+const MEMO: usize = 1024;
 
 // R, M, N and the largest charge of any carried rule.
 pub enum CheckAnswer {
@@ -87,14 +100,13 @@ pub struct Settled {
     pub state: State,
 }
 
-// R, M, N and the largest charge of any carried rule; or why the deck does not pass.
-pub fn check(deck: &[u8]) -> CheckAnswer
+// The check with a table of rules and a memo that are long enough for the deck.
+fn check_with(deck: &[u8], rules: &mut [u64], memo: &mut [u32]) -> CheckAnswer
+    requires { ⌜ ZeroRules (now deck) (now rules) × ZeroMemo (now deck) (now memo) ⌝ }
     ensures { λ r. ⌜ checkOutcome r ≡ Calls.check (now (deck .entry)) ⌝ }
 {
-    let mut rules = [0u64; 512];
     let mut parts = [0u64; 64];
-    let mut memo = [0u32; 1024];
-    let verdict = passing::judge(deck, &mut rules, &mut parts, &mut memo);
+    let verdict = passing::judge(deck, rules, &mut parts, memo);
     match verdict {
         Judged::Passing { counts, charge } => CheckAnswer::Passed {
             channels: counts.channels as u32,
@@ -109,15 +121,27 @@ pub fn check(deck: &[u8]) -> CheckAnswer
     }
 }
 
-// The stretch of the deck from a section's count to its end; empty where it is refused. The refusal's number and place go into
-// the two lent numbers, both 0 where it is not.
-pub fn section<'a>(deck: &'a [u8], number: u32, refusal: &mut u32, place: &mut u32) -> &'a [u8]
+// R, M, N and the largest charge of any carried rule; or why the deck does not pass.
+pub fn check(deck: &[u8]) -> CheckAnswer
+    ensures { λ r. ⌜ checkOutcome r ≡ Calls.check (now (deck .entry)) ⌝ }
+{
+    if deck::few_rules(deck) {
+        let mut short = [0u64; SHORT_RULES];
+        let mut small = [0u32; SHORT_MEMO];
+        return check_with(deck, &mut short, &mut small);
+    }
+    let mut rules = [0u64; RULES];
+    let mut memo = [0u32; MEMO];
+    check_with(deck, &mut rules, &mut memo)
+}
+
+// The section with a table of rules and a memo that are long enough for the deck.
+fn section_with<'a>(deck: &'a [u8], number: u32, refusal: &mut u32, place: &mut u32, rules: &mut [u64], memo: &mut [u32]) -> &'a [u8]
+    requires { ⌜ ZeroRules (now deck) (now rules) × ZeroMemo (now deck) (now memo) ⌝ }
     ensures { λ r. ⌜ sectionOf (now r) (now (refusal .exit)) (now (place .exit)) ≡ Calls.section (now (deck .entry)) number ⌝ }
 {
-    let mut rules = [0u64; 512];
     let mut parts = [0u64; 64];
-    let mut memo = [0u32; 1024];
-    let judged = passing::judge(deck, &mut rules, &mut parts, &mut memo);
+    let judged = passing::judge(deck, rules, &mut parts, memo);
     match judged {
         Judged::Refused {
             number: n,
@@ -137,6 +161,21 @@ pub fn section<'a>(deck: &'a [u8], number: u32, refusal: &mut u32, place: &mut u
             deck::stretch(deck, counts, number as usize)
         }
     }
+}
+
+// The stretch of the deck from a section's count to its end; empty where it is refused. The refusal's number and place go into
+// the two lent numbers, both 0 where it is not.
+pub fn section<'a>(deck: &'a [u8], number: u32, refusal: &mut u32, place: &mut u32) -> &'a [u8]
+    ensures { λ r. ⌜ sectionOf (now r) (now (refusal .exit)) (now (place .exit)) ≡ Calls.section (now (deck .entry)) number ⌝ }
+{
+    if deck::few_rules(deck) {
+        let mut short = [0u64; SHORT_RULES];
+        let mut small = [0u32; SHORT_MEMO];
+        return section_with(deck, number, refusal, place, &mut short, &mut small);
+    }
+    let mut rules = [0u64; RULES];
+    let mut memo = [0u32; MEMO];
+    section_with(deck, number, refusal, place, &mut rules, &mut memo)
 }
 
 // 9: the pool's length is a multiple of 10 from 10 to 655,350.
@@ -186,15 +225,14 @@ fn begin(pool: &mut [i32], state: State) -> Started
     }
 }
 
-// The opening values, nothing pending, and the pool all 0. A refused start hands back a state of zeros.
-pub fn start(deck: &[u8], pool: &mut [i32]) -> Started
+// The start with a table of rules and a memo that are long enough for the deck.
+fn start_with(deck: &[u8], pool: &mut [i32], rules: &mut [u64], memo: &mut [u32]) -> Started
+    requires { ⌜ ZeroRules (now deck) (now rules) × ZeroMemo (now deck) (now memo) ⌝ }
     ensures { λ r. ⌜ replyOf (startOutcome (r .answer)) (r .state) (now (pool .exit)) ≡ Calls.start (now (deck .entry)) (now (pool .entry)) ⌝ }
 {
-    let mut rules = [0u64; 512];
     let mut parts = [0u64; 64];
-    let mut memo = [0u32; 1024];
     let mut values = [0i32; Deck::VALUES];
-    let found = passing::judge(deck, &mut rules, &mut parts, &mut memo);
+    let found = passing::judge(deck, rules, &mut parts, memo);
     match found {
         Judged::Refused { number, place } => start_refused(number, place),
         Judged::Passing { counts, charge: _ } => {
@@ -209,6 +247,20 @@ pub fn start(deck: &[u8], pool: &mut [i32]) -> Started
             begin(pool, state)
         }
     }
+}
+
+// The opening values, nothing pending, and the pool all 0. A refused start hands back a state of zeros.
+pub fn start(deck: &[u8], pool: &mut [i32]) -> Started
+    ensures { λ r. ⌜ replyOf (startOutcome (r .answer)) (r .state) (now (pool .exit)) ≡ Calls.start (now (deck .entry)) (now (pool .entry)) ⌝ }
+{
+    if deck::few_rules(deck) {
+        let mut short = [0u64; SHORT_RULES];
+        let mut small = [0u32; SHORT_MEMO];
+        return start_with(deck, pool, &mut short, &mut small);
+    }
+    let mut rules = [0u64; RULES];
+    let mut memo = [0u32; MEMO];
+    start_with(deck, pool, &mut rules, &mut memo)
 }
 
 // What the tests of deck, pool and state come to: the counts of the deck and the charge of the pending updates, or the refusal.
@@ -262,7 +314,7 @@ fn test_lent(
     values: &[i32],
     pending: u32,
 ) -> Tested
-    requires { ⌜ (now rules ≡ replicate 512 0) × (now parts ≡ replicate 64 0) × (now memo ≡ replicate 1024 0) × Usable (length (now pool)) (now index) ⌝ }
+    requires { ⌜ ZeroRules (now deck) (now rules) × (now parts ≡ replicate 64 0) × ZeroMemo (now deck) (now memo) × Usable (length (now pool)) (now index) ⌝ }
     ensures { λ r. ⌜ Tests (now (deck .entry)) (now (rules .exit)) (now (parts .exit)) (now (memo .exit)) (now (index .exit)) (now (pool .entry)) (now (values .entry)) pending r ⌝ }
 {
     let found = passing::judge(deck, rules, parts, memo);
@@ -309,28 +361,12 @@ fn good_input(pairs: &[i32], channels: usize) -> bool
     true
 }
 
-fn input_refused(number: u32, state: State) -> Entered
-    ensures { λ r. ⌜ (inputOutcome (r .answer) ≡ refused number 0) × (r .state ≡ state) ⌝ }
+fn input_refused(number: u32) -> InputAnswer
+    ensures { λ r. ⌜ inputOutcome r ≡ refused number 0 ⌝ }
 {
-    Entered {
-        answer: InputAnswer::Refused {
-            number: number,
-            place: 0,
-        },
-        state: state,
-    }
-}
-
-fn input_done(added: u32, values: [i32; Deck::VALUES], pending: u32) -> Entered
-    ensures { λ r. ⌜ (inputOutcome (r .answer) ≡ accepted (Calls.added added)) × (r .state .values ≡ values) × (r .state .pending ≡ pending) ⌝ }
-{
-    let state = State {
-        values: values,
-        pending: pending,
-    };
-    Entered {
-        answer: InputAnswer::Added(added),
-        state: state,
+    InputAnswer::Refused {
+        number: number,
+        place: 0,
     }
 }
 
@@ -343,7 +379,7 @@ fn take_back(pool: &mut [i32], pending: usize)
     pool::clear(&mut pool[from..]);
 }
 
-// An input on what was tested: the values are set, and the firing follows.
+// An input on what was tested: the firing follows on a copy with the values set, which are stored unless that is too much.
 fn enter(
     deck: &[u8],
     counts: Deck,
@@ -352,71 +388,107 @@ fn enter(
     memo: &mut [u32],
     index: &mut [u16],
     pool: &mut [i32],
-    state: State,
+    values: &mut [i32; Deck::VALUES],
+    pending: &mut u32,
     charge: u32,
     part: u32,
     pairs: &[i32],
-) -> Entered
-    requires { ⌜ Entering (now deck) counts (now rules) (now parts) (now memo) (now index) (now pool) (state .values) (state .pending) charge ⌝ }
-    ensures { λ r. ⌜ Enters (now (deck .entry)) (state .values) (state .pending) charge (now (index .entry)) (now (pool .entry)) part (now (pairs .entry)) (inputOutcome (r .answer)) (r .state .values) (r .state .pending) (now (pool .exit)) ⌝ }
+) -> InputAnswer
+    requires { ⌜ Entering (now deck) counts (now rules) (now parts) (now memo) (now index) (now pool) (now values) (now pending) charge ⌝ }
+    ensures { λ r. ⌜ Enters (now (deck .entry)) (now (values .entry)) (now (pending .entry)) charge (now (index .entry)) (now (pool .entry)) part (now (pairs .entry)) (inputOutcome r) (now (values .exit)) (now (pending .exit)) (now (pool .exit)) ⌝ }
 {
     let p = part as usize;
     if p >= counts.parts {
-        return input_refused(refusals::UNKNOWN_PART, state);
+        return input_refused(refusals::UNKNOWN_PART);
     }
     if !good_input(pairs, counts.channels) {
-        return input_refused(refusals::BAD_INPUT, state);
+        return input_refused(refusals::BAD_INPUT);
     }
-    let n = state.pending as usize;
-    let before = state.values;
-    let mut after = state.values;
+    let n = *pending as usize;
+    let mut back = [0i32; 2 * Deck::CHANNELS];
+    let changed = firing::compare(values, p, pairs, &mut back);
+    let mut after = *values;
     firing::assign_pairs(&mut after, p, pairs);
     let capacity = (pool.len() / Deck::PLACE) as u32;
-    let queue = steps::react(deck, counts, rules, parts, memo, index, pool, 0, capacity, n, charge, &before, &after, p);
+    let queue = steps::react(deck, counts, rules, parts, memo, index, pool, 0, capacity, n, charge, &after, p, changed);
     if queue.full {
         take_back(pool, n);
-        return input_refused(refusals::OVER_CAPACITY, state);
+        return input_refused(refusals::OVER_CAPACITY);
     }
-    input_done(queue.charge - charge, after, queue.pending as u32)
+    firing::assign_pairs(values, p, pairs);
+    *pending = queue.pending as u32;
+    InputAnswer::Added(queue.charge - charge)
+}
+
+// The input with an index, a table of rules and a memo that are long enough for the pool and the deck.
+fn input_on(deck: &[u8], pool: &mut [i32], values: &mut [i32; Deck::VALUES], pending: &mut u32, part: u32, pairs: &[i32], index: &mut [u16], rules: &mut [u64], memo: &mut [u32]) -> InputAnswer
+    requires { ⌜ Usable (length (now pool)) (now index) × ZeroRules (now deck) (now rules) × ZeroMemo (now deck) (now memo) ⌝ }
+    ensures { λ r. ⌜ replyAt (inputOutcome r) (now (values .exit)) (now (pending .exit)) (now (pool .exit)) ≡ Calls.input (now (deck .entry)) (memoryAt (now (values .entry)) (now (pending .entry)) (now (pool .entry))) part (now (pairs .entry)) ⌝ }
+{
+    let mut parts = [0u64; 64];
+    let found = test_lent(deck, rules, &mut parts, memo, index, pool, values, *pending);
+    match found {
+        Tested::Refused { number, place } => InputAnswer::Refused {
+            number: number,
+            place: place,
+        },
+        Tested::Ready { counts, charge } => {
+            enter(deck, counts, rules, &parts, memo, index, pool, values, pending, charge, part, pairs)
+        }
+    }
 }
 
 // The input with an index that is long enough for the pool.
-fn input_with(deck: &[u8], pool: &mut [i32], state: State, part: u32, pairs: &[i32], index: &mut [u16]) -> Entered
+fn input_with(deck: &[u8], pool: &mut [i32], values: &mut [i32; Deck::VALUES], pending: &mut u32, part: u32, pairs: &[i32], index: &mut [u16]) -> InputAnswer
     requires { ⌜ Usable (length (now pool)) (now index) ⌝ }
-    ensures { λ r. ⌜ replyOf (inputOutcome (r .answer)) (r .state) (now (pool .exit)) ≡ Calls.input (now (deck .entry)) (memoryOf state (now (pool .entry))) part (now (pairs .entry)) ⌝ }
+    ensures { λ r. ⌜ replyAt (inputOutcome r) (now (values .exit)) (now (pending .exit)) (now (pool .exit)) ≡ Calls.input (now (deck .entry)) (memoryAt (now (values .entry)) (now (pending .entry)) (now (pool .entry))) part (now (pairs .entry)) ⌝ }
 {
-    let mut rules = [0u64; 512];
-    let mut parts = [0u64; 64];
-    let mut memo = [0u32; 1024];
-    let found = test_lent(deck, &mut rules, &mut parts, &mut memo, index, pool, &state.values, state.pending);
-    match found {
-        Tested::Refused { number, place } => Entered {
-            answer: InputAnswer::Refused {
-                number: number,
-                place: place,
-            },
-            state: state,
-        },
-        Tested::Ready { counts, charge } => {
-            enter(deck, counts, &rules, &parts, &mut memo, index, pool, state, charge, part, pairs)
-        }
+    if deck::few_rules(deck) {
+        let mut short = [0u64; SHORT_RULES];
+        let mut small = [0u32; SHORT_MEMO];
+        return input_on(deck, pool, values, pending, part, pairs, index, &mut short, &mut small);
     }
+    let mut rules = [0u64; RULES];
+    let mut memo = [0u32; MEMO];
+    input_on(deck, pool, values, pending, part, pairs, index, &mut rules, &mut memo)
+}
+
+// The input on memory that is lent: values and pending number change only when it is accepted.
+pub fn input_lent(deck: &[u8], pool: &mut [i32], values: &mut [i32; Deck::VALUES], pending: &mut u32, part: u32, pairs: &[i32]) -> InputAnswer
+    ensures { λ r. ⌜ replyAt (inputOutcome r) (now (values .exit)) (now (pending .exit)) (now (pool .exit)) ≡ Calls.input (now (deck .entry)) (memoryAt (now (values .entry)) (now (pending .entry)) (now (pool .entry))) part (now (pairs .entry)) ⌝ }
+{
+    if pool.len() <= TINY_POOL {
+        let mut tiny = [0u16; TINY_INDEX];
+        return input_with(deck, pool, values, pending, part, pairs, &mut tiny);
+    }
+    if pool.len() <= SMALL_POOL {
+        let mut small = [0u16; SMALL_INDEX];
+        return input_with(deck, pool, values, pending, part, pairs, &mut small);
+    }
+    if pool.len() <= SHORT_POOL {
+        let mut short = [0u16; SHORT_INDEX];
+        return input_with(deck, pool, values, pending, part, pairs, &mut short);
+    }
+    if pool.len() <= MIDDLE_POOL {
+        let mut middle = [0u16; MIDDLE_INDEX];
+        return input_with(deck, pool, values, pending, part, pairs, &mut middle);
+    }
+    let mut index = [0u16; INDEX];
+    input_with(deck, pool, values, pending, part, pairs, &mut index)
 }
 
 // The values of channels of a part are set; the limit is not tested. The answer is the charge added.
 pub fn input(deck: &[u8], pool: &mut [i32], state: State, part: u32, pairs: &[i32]) -> Entered
     ensures { λ r. ⌜ replyOf (inputOutcome (r .answer)) (r .state) (now (pool .exit)) ≡ Calls.input (now (deck .entry)) (memoryOf state (now (pool .entry))) part (now (pairs .entry)) ⌝ }
 {
-    if pool.len() <= SHORT_POOL {
-        let mut short = [0u16; SHORT_INDEX];
-        return input_with(deck, pool, state, part, pairs, &mut short);
-    }
-    if pool.len() <= MIDDLE_POOL {
-        let mut middle = [0u16; MIDDLE_INDEX];
-        return input_with(deck, pool, state, part, pairs, &mut middle);
-    }
-    let mut index = [0u16; INDEX];
-    input_with(deck, pool, state, part, pairs, &mut index)
+    let mut values = state.values;
+    let mut pending = state.pending;
+    let answer = input_lent(deck, pool, &mut values, &mut pending, part, pairs);
+    let later = State {
+        values: values,
+        pending: pending,
+    };
+    Entered { answer: answer, state: later }
 }
 
 fn commit_answer(applied: bool, charge: u32) -> CommitAnswer
@@ -438,71 +510,95 @@ fn commit_tested(
     memo: &mut [u32],
     index: &mut [u16],
     pool: &mut [i32],
-    state: State,
+    values: &mut [i32; Deck::VALUES],
+    pending: &mut u32,
     charge: u32,
     place: u32,
-) -> Committed
-    requires { ⌜ Entering (now deck) counts (now rules) (now parts) (now memo) (now index) (now pool) (state .values) (state .pending) charge × (place < state .pending) ⌝ }
-    ensures { λ r. ⌜ CommitsAs (now (deck .entry)) (state .values) (state .pending) charge (now (index .entry)) (now (pool .entry)) place (commitOutcome (r .answer)) (r .state .values) (r .state .pending) (now (pool .exit)) ⌝ }
+) -> CommitAnswer
+    requires { ⌜ Entering (now deck) counts (now rules) (now parts) (now memo) (now index) (now pool) (now values) (now pending) charge × (place < now pending) ⌝ }
+    ensures { λ r. ⌜ CommitsAs (now (deck .entry)) (now (values .entry)) (now (pending .entry)) charge (now (index .entry)) (now (pool .entry)) place (commitOutcome r) (now (values .exit)) (now (pending .exit)) (now (pool .exit)) ⌝ }
 {
     let capacity = (pool.len() / Deck::PLACE) as u32;
-    let mut before = state.values;
-    let mut values = state.values;
-    let step = steps::commit(deck, counts, rules, parts, memo, index, pool, capacity, &mut before, &mut values, state.pending as usize, charge, place as usize);
-    let answer = commit_answer(step.applied, step.charge);
-    let later = State {
-        values: values,
-        pending: step.pending as u32,
-    };
-    Committed { answer: answer, state: later }
+    let step = steps::commit(deck, counts, rules, parts, memo, index, pool, capacity, values, *pending as usize, charge, place as usize);
+    *pending = step.pending as u32;
+    commit_answer(step.applied, step.charge)
+}
+
+// The commit with an index, a table of rules and a memo that are long enough for the pool and the deck.
+fn commit_on(deck: &[u8], pool: &mut [i32], values: &mut [i32; Deck::VALUES], pending: &mut u32, place: u32, index: &mut [u16], rules: &mut [u64], memo: &mut [u32]) -> CommitAnswer
+    requires { ⌜ Usable (length (now pool)) (now index) × ZeroRules (now deck) (now rules) × ZeroMemo (now deck) (now memo) ⌝ }
+    ensures { λ r. ⌜ replyAt (commitOutcome r) (now (values .exit)) (now (pending .exit)) (now (pool .exit)) ≡ Calls.commit (now (deck .entry)) (memoryAt (now (values .entry)) (now (pending .entry)) (now (pool .entry))) place ⌝ }
+{
+    let mut parts = [0u64; 64];
+    let found = test_lent(deck, rules, &mut parts, memo, index, pool, values, *pending);
+    match found {
+        Tested::Refused { number, place: p } => CommitAnswer::Refused {
+            number: number,
+            place: p,
+        },
+        Tested::Ready { counts, charge } => {
+            if place >= *pending {
+                return CommitAnswer::Refused {
+                    number: refusals::PLACE_NOT_PENDING,
+                    place: 0,
+                };
+            }
+            commit_tested(deck, counts, rules, &parts, memo, index, pool, values, pending, charge, place)
+        }
+    }
 }
 
 // The commit with an index that is long enough for the pool.
-fn commit_with(deck: &[u8], pool: &mut [i32], state: State, place: u32, index: &mut [u16]) -> Committed
+fn commit_with(deck: &[u8], pool: &mut [i32], values: &mut [i32; Deck::VALUES], pending: &mut u32, place: u32, index: &mut [u16]) -> CommitAnswer
     requires { ⌜ Usable (length (now pool)) (now index) ⌝ }
-    ensures { λ r. ⌜ replyOf (commitOutcome (r .answer)) (r .state) (now (pool .exit)) ≡ Calls.commit (now (deck .entry)) (memoryOf state (now (pool .entry))) place ⌝ }
+    ensures { λ r. ⌜ replyAt (commitOutcome r) (now (values .exit)) (now (pending .exit)) (now (pool .exit)) ≡ Calls.commit (now (deck .entry)) (memoryAt (now (values .entry)) (now (pending .entry)) (now (pool .entry))) place ⌝ }
 {
-    let mut rules = [0u64; 512];
-    let mut parts = [0u64; 64];
-    let mut memo = [0u32; 1024];
-    let found = test_lent(deck, &mut rules, &mut parts, &mut memo, index, pool, &state.values, state.pending);
-    match found {
-        Tested::Refused { number, place: p } => Committed {
-            answer: CommitAnswer::Refused {
-                number: number,
-                place: p,
-            },
-            state: state,
-        },
-        Tested::Ready { counts, charge } => {
-            if place >= state.pending {
-                return Committed {
-                    answer: CommitAnswer::Refused {
-                        number: refusals::PLACE_NOT_PENDING,
-                        place: 0,
-                    },
-                    state: state,
-                };
-            }
-            commit_tested(deck, counts, &rules, &parts, &mut memo, index, pool, state, charge, place)
-        }
+    if deck::few_rules(deck) {
+        let mut short = [0u64; SHORT_RULES];
+        let mut small = [0u32; SHORT_MEMO];
+        return commit_on(deck, pool, values, pending, place, index, &mut short, &mut small);
     }
+    let mut rules = [0u64; RULES];
+    let mut memo = [0u32; MEMO];
+    commit_on(deck, pool, values, pending, place, index, &mut rules, &mut memo)
+}
+
+// The commit on memory that is lent.
+pub fn commit_lent(deck: &[u8], pool: &mut [i32], values: &mut [i32; Deck::VALUES], pending: &mut u32, place: u32) -> CommitAnswer
+    ensures { λ r. ⌜ replyAt (commitOutcome r) (now (values .exit)) (now (pending .exit)) (now (pool .exit)) ≡ Calls.commit (now (deck .entry)) (memoryAt (now (values .entry)) (now (pending .entry)) (now (pool .entry))) place ⌝ }
+{
+    if pool.len() <= TINY_POOL {
+        let mut tiny = [0u16; TINY_INDEX];
+        return commit_with(deck, pool, values, pending, place, &mut tiny);
+    }
+    if pool.len() <= SMALL_POOL {
+        let mut small = [0u16; SMALL_INDEX];
+        return commit_with(deck, pool, values, pending, place, &mut small);
+    }
+    if pool.len() <= SHORT_POOL {
+        let mut short = [0u16; SHORT_INDEX];
+        return commit_with(deck, pool, values, pending, place, &mut short);
+    }
+    if pool.len() <= MIDDLE_POOL {
+        let mut middle = [0u16; MIDDLE_INDEX];
+        return commit_with(deck, pool, values, pending, place, &mut middle);
+    }
+    let mut index = [0u16; INDEX];
+    commit_with(deck, pool, values, pending, place, &mut index)
 }
 
 // The commit of the update at a place. The answer is whether it was applied, and the charge now pending.
 pub fn commit(deck: &[u8], pool: &mut [i32], state: State, place: u32) -> Committed
     ensures { λ r. ⌜ replyOf (commitOutcome (r .answer)) (r .state) (now (pool .exit)) ≡ Calls.commit (now (deck .entry)) (memoryOf state (now (pool .entry))) place ⌝ }
 {
-    if pool.len() <= SHORT_POOL {
-        let mut short = [0u16; SHORT_INDEX];
-        return commit_with(deck, pool, state, place, &mut short);
-    }
-    if pool.len() <= MIDDLE_POOL {
-        let mut middle = [0u16; MIDDLE_INDEX];
-        return commit_with(deck, pool, state, place, &mut middle);
-    }
-    let mut index = [0u16; INDEX];
-    commit_with(deck, pool, state, place, &mut index)
+    let mut values = state.values;
+    let mut pending = state.pending;
+    let answer = commit_lent(deck, pool, &mut values, &mut pending, place);
+    let later = State {
+        values: values,
+        pending: pending,
+    };
+    Committed { answer: answer, state: later }
 }
 
 fn settle_answer(pending: u32, made: u32) -> SettleAnswer
@@ -513,17 +609,6 @@ fn settle_answer(pending: u32, made: u32) -> SettleAnswer
     } else {
         SettleAnswer::Spent(made)
     }
-}
-
-fn settle_done(values: [i32; Deck::VALUES], pending: u32, made: u32) -> Settled
-    ensures { λ r. ⌜ (settleOutcome (r .answer) ≡ accepted (cond (eqb pending 0) (Calls.settled made) (Calls.spent made))) × (r .state .values ≡ values) × (r .state .pending ≡ pending) ⌝ }
-{
-    let answer = settle_answer(pending, made);
-    let state = State {
-        values: values,
-        pending: pending,
-    };
-    Settled { answer: answer, state: state }
 }
 
 // Place 0 is committed until none is pending or the budget is used. What was tested once is not tested again, and the places
@@ -537,64 +622,95 @@ fn settle_tested(
     index: &mut [u16],
     pool: &mut [i32],
     capacity: u32,
-    state: State,
+    values: &mut [i32; Deck::VALUES],
+    pending: &mut u32,
     charge: u32,
     budget: u32,
-) -> Settled
-    requires { ⌜ Committing (now deck) counts (now rules) (now parts) (now memo) (heldOf 0 (now index) (now pool)) capacity (state .values) (state .pending) charge ⌝ }
-    ensures { λ r. ⌜ Settles (now (deck .entry)) capacity (state .values) (state .pending) charge (now (index .entry)) (now (pool .entry)) budget (settleOutcome (r .answer)) (r .state .values) (r .state .pending) (now (pool .exit)) ⌝ }
+) -> SettleAnswer
+    requires { ⌜ Committing (now deck) counts (now rules) (now parts) (now memo) (heldOf 0 (now index) (now pool)) capacity (now values) (now pending) charge ⌝ }
+    ensures { λ r. ⌜ Settles (now (deck .entry)) capacity (now (values .entry)) (now (pending .entry)) charge (now (index .entry)) (now (pool .entry)) budget (settleOutcome r) (now (values .exit)) (now (pending .exit)) (now (pool .exit)) ⌝ }
 {
-    let mut before = state.values;
-    let mut values = state.values;
-    let mut pending = state.pending as usize;
+    let mut left = *pending as usize;
     let mut total = charge;
     let mut made: u32 = 0;
     while made < budget {
-        if pending == 0 {
+        if left == 0 {
             break;
         }
         let gone = made as usize;
         let from = Deck::PLACE * gone;
-        let step = steps::commit_front(deck, counts, rules, parts, memo, index, &mut pool[from..], gone, capacity - made, &mut before, &mut values, pending, total);
-        pending = step.pending;
+        let step = steps::commit_front(deck, counts, rules, parts, memo, index, &mut pool[from..], gone, capacity - made, values, left, total);
+        left = step.pending;
         total = step.charge;
         made += 1;
     }
-    pool::shift(pool, Deck::PLACE * (made as usize), Deck::PLACE * pending);
-    settle_done(values, pending as u32, made)
+    pool::shift(pool, Deck::PLACE * (made as usize), Deck::PLACE * left);
+    *pending = left as u32;
+    settle_answer(*pending, made)
 }
 
-// The settle with an index that is long enough for the pool.
-fn settle_with(deck: &[u8], pool: &mut [i32], state: State, budget: u32, index: &mut [u16]) -> Settled
-    requires { ⌜ Usable (length (now pool)) (now index) ⌝ }
-    ensures { λ r. ⌜ replyOf (settleOutcome (r .answer)) (r .state) (now (pool .exit)) ≡ Calls.settle (now (deck .entry)) (memoryOf state (now (pool .entry))) budget ⌝ }
+// The settle with an index, a table of rules and a memo that are long enough for the pool and the deck.
+fn settle_on(deck: &[u8], pool: &mut [i32], values: &mut [i32; Deck::VALUES], pending: &mut u32, budget: u32, index: &mut [u16], rules: &mut [u64], memo: &mut [u32]) -> SettleAnswer
+    requires { ⌜ Usable (length (now pool)) (now index) × ZeroRules (now deck) (now rules) × ZeroMemo (now deck) (now memo) ⌝ }
+    ensures { λ r. ⌜ replyAt (settleOutcome r) (now (values .exit)) (now (pending .exit)) (now (pool .exit)) ≡ Calls.settle (now (deck .entry)) (memoryAt (now (values .entry)) (now (pending .entry)) (now (pool .entry))) budget ⌝ }
 {
-    let mut rules = [0u64; 512];
     let mut parts = [0u64; 64];
-    let mut memo = [0u32; 1024];
-    let found = test_lent(deck, &mut rules, &mut parts, &mut memo, index, pool, &state.values, state.pending);
+    let found = test_lent(deck, rules, &mut parts, memo, index, pool, values, *pending);
     match found {
-        Tested::Refused { number, place } => Settled {
-            answer: SettleAnswer::Refused {
-                number: number,
-                place: place,
-            },
-            state: state,
+        Tested::Refused { number, place } => SettleAnswer::Refused {
+            number: number,
+            place: place,
         },
         Tested::Ready { counts, charge } => {
             if budget > 65535 {
-                return Settled {
-                    answer: SettleAnswer::Refused {
-                        number: refusals::BUDGET_TOO_LARGE,
-                        place: 0,
-                    },
-                    state: state,
+                return SettleAnswer::Refused {
+                    number: refusals::BUDGET_TOO_LARGE,
+                    place: 0,
                 };
             }
             let capacity = (pool.len() / Deck::PLACE) as u32;
-            settle_tested(deck, counts, &rules, &parts, &mut memo, index, pool, capacity, state, charge, budget)
+            settle_tested(deck, counts, rules, &parts, memo, index, pool, capacity, values, pending, charge, budget)
         }
     }
+}
+
+// The settle with an index that is long enough for the pool.
+fn settle_with(deck: &[u8], pool: &mut [i32], values: &mut [i32; Deck::VALUES], pending: &mut u32, budget: u32, index: &mut [u16]) -> SettleAnswer
+    requires { ⌜ Usable (length (now pool)) (now index) ⌝ }
+    ensures { λ r. ⌜ replyAt (settleOutcome r) (now (values .exit)) (now (pending .exit)) (now (pool .exit)) ≡ Calls.settle (now (deck .entry)) (memoryAt (now (values .entry)) (now (pending .entry)) (now (pool .entry))) budget ⌝ }
+{
+    if deck::few_rules(deck) {
+        let mut short = [0u64; SHORT_RULES];
+        let mut small = [0u32; SHORT_MEMO];
+        return settle_on(deck, pool, values, pending, budget, index, &mut short, &mut small);
+    }
+    let mut rules = [0u64; RULES];
+    let mut memo = [0u32; MEMO];
+    settle_on(deck, pool, values, pending, budget, index, &mut rules, &mut memo)
+}
+
+// The settle on memory that is lent.
+pub fn settle_lent(deck: &[u8], pool: &mut [i32], values: &mut [i32; Deck::VALUES], pending: &mut u32, budget: u32) -> SettleAnswer
+    ensures { λ r. ⌜ replyAt (settleOutcome r) (now (values .exit)) (now (pending .exit)) (now (pool .exit)) ≡ Calls.settle (now (deck .entry)) (memoryAt (now (values .entry)) (now (pending .entry)) (now (pool .entry))) budget ⌝ }
+{
+    if pool.len() <= TINY_POOL {
+        let mut tiny = [0u16; TINY_INDEX];
+        return settle_with(deck, pool, values, pending, budget, &mut tiny);
+    }
+    if pool.len() <= SMALL_POOL {
+        let mut small = [0u16; SMALL_INDEX];
+        return settle_with(deck, pool, values, pending, budget, &mut small);
+    }
+    if pool.len() <= SHORT_POOL {
+        let mut short = [0u16; SHORT_INDEX];
+        return settle_with(deck, pool, values, pending, budget, &mut short);
+    }
+    if pool.len() <= MIDDLE_POOL {
+        let mut middle = [0u16; MIDDLE_INDEX];
+        return settle_with(deck, pool, values, pending, budget, &mut middle);
+    }
+    let mut index = [0u16; INDEX];
+    settle_with(deck, pool, values, pending, budget, &mut index)
 }
 
 // The commit of place 0, again and again, within a budget of commits. The answer is how many were made, and whether nothing is
@@ -602,14 +718,12 @@ fn settle_with(deck: &[u8], pool: &mut [i32], state: State, budget: u32, index: 
 pub fn settle(deck: &[u8], pool: &mut [i32], state: State, budget: u32) -> Settled
     ensures { λ r. ⌜ replyOf (settleOutcome (r .answer)) (r .state) (now (pool .exit)) ≡ Calls.settle (now (deck .entry)) (memoryOf state (now (pool .entry))) budget ⌝ }
 {
-    if pool.len() <= SHORT_POOL {
-        let mut short = [0u16; SHORT_INDEX];
-        return settle_with(deck, pool, state, budget, &mut short);
-    }
-    if pool.len() <= MIDDLE_POOL {
-        let mut middle = [0u16; MIDDLE_INDEX];
-        return settle_with(deck, pool, state, budget, &mut middle);
-    }
-    let mut index = [0u16; INDEX];
-    settle_with(deck, pool, state, budget, &mut index)
+    let mut values = state.values;
+    let mut pending = state.pending;
+    let answer = settle_lent(deck, pool, &mut values, &mut pending, budget);
+    let later = State {
+        values: values,
+        pending: pending,
+    };
+    Settled { answer: answer, state: later }
 }

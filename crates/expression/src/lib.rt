@@ -3,7 +3,7 @@
 
 ghost use mathlib.Core.Path.{_≡_};
 ghost use mathlib.Core.Bool.{true, not};
-ghost use Prim.Native.Nat.{_-_, _<_};
+ghost use Prim.Native.Nat.{_-_, _<_, _≤_};
 ghost use lib.ListN.{length, getD};
 ghost use Rattle.clamped.specs.Clamp.{negated};
 ghost use Rattle.expression.specs.Values.{arith, join, compare};
@@ -377,8 +377,9 @@ pub fn truth_end(s: &[u8], at: usize, own: usize, far: usize) -> usize
 
 // ---- whole expressions
 
-// Most expressions are one operator with leaves. To enter a function that calls itself costs more than to read a leaf, so
-// the functions for whole expressions look at the first operator themselves, and call those only for what is deeper.
+// Most expressions are one operator, and its operands are leaves or operators of two leaves. To enter a function that calls
+// itself costs more than to read these, so the functions for whole expressions look at the first operator and at those of its
+// operands themselves, and call the others only for what is deeper.
 
 // Whether a literal or a channel stands at a place of s.
 fn is_leaf(s: &[u8], at: usize) -> bool
@@ -406,7 +407,43 @@ fn leaf_at(s: &[u8], at: usize, own: &[i32], far: &[i32]) -> NumAt
     channel_at(s, next, far)
 }
 
-// The number that s begins with: a leaf, or an operator of two leaves, without a recursive call.
+// The number at a place where an operator stands: one of two leaves without a recursive call.
+fn pair_at(s: &[u8], at: usize, own: &[i32], far: &[i32]) -> NumAt
+    requires { ⌜ at < length (now s) ⌝ }
+    ensures { λ r. ⌜ Answers (numAt (now (own .entry)) (now (far .entry))) (now (s .entry)) at (ofNum r) ⌝ }
+{
+    let op = num_op(s[at]);
+    let NumOp::Two(k) = op else {
+        return num_at(s, at, own, far);
+    };
+    if !is_leaf(s, at + 1) {
+        return num_at(s, at, own, far);
+    }
+    let first = leaf_at(s, at + 1, own, far);
+    let NumAt::Value(a, n) = first else {
+        return NumAt::Nothing;
+    };
+    if !is_leaf(s, n) {
+        return num_at(s, at, own, far);
+    }
+    calculate_at(k, a, leaf_at(s, n, own, far))
+}
+
+// The number at a place: a leaf is read at once.
+fn operand_at(s: &[u8], at: usize, own: &[i32], far: &[i32]) -> NumAt
+    ensures { λ r. ⌜ Answers (numAt (now (own .entry)) (now (far .entry))) (now (s .entry)) at (ofNum r) ⌝ }
+{
+    if s.len() <= at {
+        return NumAt::Nothing;
+    }
+    if is_leaf(s, at) {
+        leaf_at(s, at, own, far)
+    } else {
+        pair_at(s, at, own, far)
+    }
+}
+
+// The number that s begins with.
 fn first_num(s: &[u8], own: &[i32], far: &[i32]) -> NumAt
     ensures { λ r. ⌜ Answers (numAt (now (own .entry)) (now (far .entry))) (now (s .entry)) 0 (ofNum r) ⌝ }
 {
@@ -420,20 +457,14 @@ fn first_num(s: &[u8], own: &[i32], far: &[i32]) -> NumAt
     let NumOp::Two(k) = op else {
         return num_at(s, 0, own, far);
     };
-    if !is_leaf(s, 1) {
-        return num_at(s, 0, own, far);
-    }
-    let first = leaf_at(s, 1, own, far);
+    let first = operand_at(s, 1, own, far);
     let NumAt::Value(a, n) = first else {
         return NumAt::Nothing;
     };
-    if !is_leaf(s, n) {
-        return num_at(s, 0, own, far);
-    }
-    calculate_at(k, a, leaf_at(s, n, own, far))
+    calculate_at(k, a, operand_at(s, n, own, far))
 }
 
-// The truth that s begins with: a constant, or a comparison of two leaves, without a recursive call.
+// The truth that s begins with.
 fn first_truth(s: &[u8], own: &[i32], far: &[i32]) -> TruthAt
     ensures { λ r. ⌜ Answers (truthAt (now (own .entry)) (now (far .entry))) (now (s .entry)) 0 (ofTruth r) ⌝ }
 {
@@ -460,6 +491,45 @@ fn first_truth(s: &[u8], own: &[i32], far: &[i32]) -> TruthAt
     compare_at(k, a, leaf_at(s, n, own, far))
 }
 
+// The end of the number at a place where an operator stands: one of two leaves without a recursive call.
+fn pair_end(s: &[u8], at: usize, own: usize, far: usize) -> usize
+    requires { ⌜ (at < length (now s)) × (3 ≤ getD (now s) at 0) ⌝ }
+    ensures { λ r. ⌜ Answers (numEnd (scope own far)) (now (s .entry)) at (ofEnd r) ⌝ }
+{
+    let b = s[at];
+    if b > 5 {
+        return num_end(s, at, own, far);
+    }
+    if !is_leaf(s, at + 1) {
+        return num_end(s, at, own, far);
+    }
+    let first = s[at + 1];
+    let n = leaf_end(s, at + 1, first, own, far);
+    if n == 0 {
+        return 0;
+    }
+    if !is_leaf(s, n) {
+        return num_end(s, at, own, far);
+    }
+    let second = s[n];
+    leaf_end(s, n, second, own, far)
+}
+
+// The end of the number at a place: a leaf is passed at once.
+fn first_end(s: &[u8], at: usize, own: usize, far: usize) -> usize
+    ensures { λ r. ⌜ Answers (numEnd (scope own far)) (now (s .entry)) at (ofEnd r) ⌝ }
+{
+    if s.len() <= at {
+        return 0;
+    }
+    let b = s[at];
+    if b < 3 {
+        leaf_end(s, at, b, own, far)
+    } else {
+        pair_end(s, at, own, far)
+    }
+}
+
 // The end of the number that s begins with, with so many own and far channels known.
 fn first_num_end(s: &[u8], own: usize, far: usize) -> usize
     ensures { λ r. ⌜ Answers (numEnd (scope own far)) (now (s .entry)) 0 (ofEnd r) ⌝ }
@@ -474,19 +544,11 @@ fn first_num_end(s: &[u8], own: usize, far: usize) -> usize
     if b > 5 {
         return num_end(s, 0, own, far);
     }
-    if !is_leaf(s, 1) {
-        return num_end(s, 0, own, far);
-    }
-    let first = s[1];
-    let n = leaf_end(s, 1, first, own, far);
+    let n = first_end(s, 1, own, far);
     if n == 0 {
         return 0;
     }
-    if !is_leaf(s, n) {
-        return num_end(s, 0, own, far);
-    }
-    let second = s[n];
-    leaf_end(s, n, second, own, far)
+    first_end(s, n, own, far)
 }
 
 // The end of the truth that s begins with, with so many own and far channels known.
@@ -503,19 +565,11 @@ fn first_truth_end(s: &[u8], own: usize, far: usize) -> usize
     let TruthOp::Two(_) = op else {
         return truth_end(s, 0, own, far);
     };
-    if !is_leaf(s, 1) {
-        return truth_end(s, 0, own, far);
-    }
-    let first = s[1];
-    let n = leaf_end(s, 1, first, own, far);
+    let n = first_end(s, 1, own, far);
     if n == 0 {
         return 0;
     }
-    if !is_leaf(s, n) {
-        return truth_end(s, 0, own, far);
-    }
-    let second = s[n];
-    leaf_end(s, n, second, own, far)
+    first_end(s, n, own, far)
 }
 
 // Whether an expression that ends there ends with the bytes, so that nothing stands after it.

@@ -1,22 +1,21 @@
 -- What the code of the firing evaluates at the offsets of the deck. Assumes nothing.
-use Prim.Native.Nat.{ℕ, _+_, _*_, _≤_, _<_}
+use Prim.Native.Nat.{ℕ, _+_, _*_, _<_}
 use mathlib.Core.Path.{_≡_}
-use mathlib.Core.Bool.{Bool, true, false, not}
+use mathlib.Core.Bool.{not}
 use mathlib.Core.List.{List, map}
-use lib.ListN.{length, getD}
+use lib.ListN.{length, getD, take}
 use lib.IntN.{ℤ, pos}
-use Rattle.lists.specs.Lists.{eqZ}
+use Rattle.lists.specs.Lists.{filter, eqZ}
 use Rattle.lists.specs.Bits.{maskOf}
 use Rattle.expression.specs.Syntax.{Num}
 use Rattle.expression.specs.Reading.{wholeNum}
 use Rattle.expression.specs.Answers.{scope, numIn}
-use Rattle.deck.specs.Deck.{Deck, Action, R}
+use Rattle.deck.specs.Deck.{Action}
 use Rattle.deck.specs.Layout.{action}
 use Rattle.deck.specs.Laws.Points.{ReadsAt}
-use Rattle.pool.specs.Updates.{Update, valueAt}
-use Rattle.pool.specs.Places.{place}
+use Rattle.pool.specs.Updates.{Pair, Update, valueAt}
+use Rattle.pool.specs.Places.{place, pairsOf}
 use Rattle.passing.specs.Stands.{Stands}
-use Rattle.firing.specs.Firing.{changed}
 
 -- the number at an offset, with so many own and far channels, and its value
 abbrev pub HasNumber : List ℕ → ℕ → ℕ → ℕ → Type 0
@@ -40,17 +39,16 @@ ActionIs s at q own far r =
 abbrev pub Assignable : List ℤ → Type 0
 Assignable l = (i : ℕ) → 2 * i + 1 < length l → (c : ℕ) × (getD l (2 * i) (pos 0) ≡ pos c) × (c < 32)
 
--- the test of one channel
-unfoldable pub differs : ℕ → List ℤ → List ℤ → ℕ → Bool
-differs p before after c = not (eqZ (valueAt before p c) (valueAt after p c))
+-- the pairs that set these channels to what the table holds
+unfoldable pub heldPairs : ℕ → List ℤ → List Pair → List Pair
+heldPairs p values l = map (λ a. record { channel = a .channel; value = valueAt values p (a .channel) }) l
 
--- r is the lowest channel of part p from one on that differs, or n where there is none below
-pub record NextChanged (p : ℕ) (before after : List ℤ) (from n r : ℕ) : Type 0 where
-  pub most : r ≤ n
-  pub on : from ≤ r
-  pub found : r < n → differs p before after r ≡ true
-  pub passed : (i : ℕ) → from ≤ i → i < r → differs p before after i ≡ false
+-- the channels of the pairs that hold another value
+unfoldable pub channelsSet : ℕ → List ℤ → List Pair → List ℕ
+channelsSet p values l = map (λ a. a .channel) (filter (λ a. not (eqZ (valueAt values p (a .channel)) (a .value))) l)
 
--- the changed channels as a set
-abbrev pub ChangedIs : ℕ → ℕ → List ℤ → List ℤ → ℕ → Type 0
-ChangedIs channels p before after r = (d : Deck) → R d ≡ channels → r ≡ maskOf (changed d p before after)
+-- r is the set of the channels that the pairs change at part p, and `back` begins with the pairs that set them back
+pub record Compared (p : ℕ) (pairs values back : List ℤ) (r : ℕ) : Type 0 where
+  pub held : pairsOf (take (length pairs) back) ≡ heldPairs p values (pairsOf pairs)
+  pub assignable : Assignable (take (length pairs) back)
+  pub mask : r ≡ maskOf (channelsSet p values (pairsOf pairs))

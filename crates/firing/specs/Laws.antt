@@ -5,7 +5,7 @@ pub mod Charges
 pub mod Commits
 pub mod Among
 pub mod Evaluated
-pub mod Changed
 pub mod Pairs
+pub mod Setting
 pub mod Lined
 pub mod Written

@@ -1,10 +1,10 @@
 // The firing, and one commit. The definitions are in specs/.
 ghost use mathlib.Core.Path.{_≡_};
-ghost use Prim.Native.Nat.{_+_, _*_, _≤_, _<_};
+ghost use Prim.Native.Nat.{_+_, _*_, _%_, _≤_, _<_};
 ghost use lib.ListN.{length};
 ghost use Rattle.pool.specs.Updates.{assign};
 ghost use Rattle.pool.specs.Places.{pairsOf};
-ghost use Rattle.firing.specs.Evaluated.{HasNumber, NumberIs, HasAction, ActionIs, Assignable, NextChanged, ChangedIs};
+ghost use Rattle.firing.specs.Evaluated.{HasNumber, NumberIs, HasAction, ActionIs, Assignable, Compared};
 use deck::Deck;
 
 // The value of the number that stands at an offset of the deck.
@@ -44,6 +44,28 @@ pub fn evaluate(deck: &[u8], at: usize, part: usize, own: &[i32], far: &[i32]) -
     row
 }
 
+// What the pairs change at a part, as a set of channels. `back` begins then with the pairs that set the channels back.
+pub fn compare(values: &[i32], part: usize, pairs: &[i32], back: &mut [i32]) -> u64
+    requires { ⌜ (length (now values) ≡ 512) × (part < 16) × Assignable (now pairs) × (length (now pairs) % 2 ≡ 0) × (length (now pairs) ≤ length (now back)) ⌝ }
+    ensures { λ r. ⌜ Compared part (now (pairs .entry)) (now (values .entry)) (now (back .exit)) r ⌝ }
+{
+    let n = pairs.len() / 2;
+    let mut mask: u64 = 0;
+    let mut i: usize = 0;
+    while i < n {
+        let c = pairs[2 * i] as usize;
+        let new = pairs[2 * i + 1];
+        let old = values[Deck::CHANNELS * part + c];
+        back[2 * i] = pairs[2 * i];
+        back[2 * i + 1] = old;
+        if old != new {
+            mask = mask | (1u64 << c);
+        }
+        i += 1;
+    }
+    mask
+}
+
 // The channels of a part set, pair by pair.
 pub fn assign_pairs(values: &mut [i32], part: usize, pairs: &[i32])
     requires { ⌜ (length (now values) ≡ 512) × (part < 16) × Assignable (now pairs) ⌝ }
@@ -57,35 +79,4 @@ pub fn assign_pairs(values: &mut [i32], part: usize, pairs: &[i32])
         values[Deck::CHANNELS * part + c] = v;
         i += 1;
     }
-}
-
-// The lowest channel of a part from one on whose values differ, or the number of channels where there is none. A loop that leaves
-// early is not compiled to vector instructions, which would wait for values that were just written.
-fn next_changed(before: &[i32], after: &[i32], part: usize, from: usize, channels: usize) -> usize
-    requires { ⌜ (length (now before) ≡ 512) × (length (now after) ≡ 512) × (part < 16) × (channels ≤ 32) × (from ≤ channels) ⌝ }
-    ensures { λ r. ⌜ NextChanged part (now (before .entry)) (now (after .entry)) from channels r ⌝ }
-{
-    let base = Deck::CHANNELS * part;
-    let mut c = from;
-    while c < channels {
-        if before[base + c] != after[base + c] {
-            return c;
-        }
-        c += 1;
-    }
-    channels
-}
-
-// The channels of a part whose values differ, as a set.
-pub fn changed(before: &[i32], after: &[i32], part: usize, channels: usize) -> u64
-    requires { ⌜ (length (now before) ≡ 512) × (length (now after) ≡ 512) × (part < 16) × (channels ≤ 32) ⌝ }
-    ensures { λ r. ⌜ ChangedIs channels part (now (before .entry)) (now (after .entry)) r ⌝ }
-{
-    let mut mask: u64 = 0;
-    let mut c = next_changed(before, after, part, 0, channels);
-    while c < channels {
-        mask = mask | (1u64 << c);
-        c = next_changed(before, after, part, c + 1, channels);
-    }
-    mask
 }

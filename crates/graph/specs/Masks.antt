@@ -1,17 +1,17 @@
 -- The graph as the code has it: for each channel the set of those that an edge leads to. Assumes nothing.
 use Prim.Native.Nat.{ℕ, _+_, _*_, _<_, _≤_}
 use mathlib.Core.Path.{_≡_}
+use mathlib.Core.Logic.{_⊎_}
 use mathlib.Core.Bool.{Bool, true, _&&_, _||_}
 use mathlib.Core.List.{List}
 use lib.Dec.{ltb}
 use lib.ListN.{length, getD}
 use Rattle.lists.specs.Lists.{any, below}
 use Rattle.lists.specs.Bits.{bit}
-use Rattle.graph.specs.Graph.{Reaches}
 
--- the tables have 64 rules and 16 parts, of which the first M and N are the deck's
+-- the tables have the deck's M rules, and 16 parts, of which the first N are the deck's
 pub record Sized (rules parts : List ℕ) (M N : ℕ) : Type 0 where
-  pub longRules : 512 ≤ length rules
+  pub longRules : 8 * M ≤ length rules
   pub longParts : 64 ≤ length parts
   pub fewRules : M ≤ 64
   pub fewParts : N ≤ 16
@@ -48,10 +48,8 @@ pub record Drawn (rules parts : List ℕ) (N k : ℕ) (edges : List ℕ) : Type 
 unfoldable pub inner : ℕ → (ℕ → ℕ → Bool) → ℕ → ℕ → Bool
 inner n e a b = ltb b n && e a b
 
--- a round from a makes t of the set s: it adds what one edge more leads to, and nothing that a cannot reach
-pub record Spread (n : ℕ) (e : ℕ → ℕ → Bool) (a s t : ℕ) : Type 0 where
+-- a round makes t of the set s: it adds what an edge from the set f leads to, and nothing else
+pub record Spread (n : ℕ) (e : ℕ → ℕ → Bool) (f s t : ℕ) : Type 0 where
   pub keeps : (c : ℕ) → bit s c ≡ true → bit t c ≡ true
-  pub base : (c : ℕ) → e a c ≡ true → bit t c ≡ true
-  pub grows : (b c : ℕ) → b < n → bit s b ≡ true → e b c ≡ true → bit t c ≡ true
-  pub sound : ((c : ℕ) → c < n → bit s c ≡ true → Reaches (inner n e) a c)
-      → (c : ℕ) → c < n → bit t c ≡ true → Reaches (inner n e) a c
+  pub grows : (b c : ℕ) → b < n → bit f b ≡ true → e b c ≡ true → bit t c ≡ true
+  pub sound : (c : ℕ) → bit t c ≡ true → (bit s c ≡ true) ⊎ ((b : ℕ) × (b < n) × (bit f b ≡ true) × (e b c ≡ true))

@@ -18,10 +18,12 @@ fn add_edges(edges: &mut [u64], events: u64, targets: u64)
     requires { ⌜ length (now edges) ≡ 32 ⌝ }
     ensures { λ _. ⌜ Added events targets (now (edges .entry)) (now (edges .exit)) ⌝ }
 {
-    let mut c = lists::next_in(events, 0);
+    let mut left = events;
+    let mut c = lists::lowest(left);
     while c < Deck::CHANNELS {
         edges[c] = edges[c] | targets;
-        c = lists::next_in(events, c + 1);
+        left = lists::rest(left);
+        c = lists::lowest(left);
     }
 }
 
@@ -45,24 +47,28 @@ fn draw(rules: &[u64], parts: &[u64], count: usize, parts_count: usize, edges: &
     ensures { λ _. ⌜ Drawn (now (rules .entry)) (now (parts .entry)) «parts_count» count (now (edges .exit)) ⌝ }
 {
     let carried = carried_by_some(parts, parts_count);
-    let mut r = lists::next_in(carried, 0);
+    let mut left = carried;
+    let mut r = lists::lowest(left);
     while r < count {
         let targets = rules[8 * r + 1] | rules[8 * r + 2];
         add_edges(edges, rules[8 * r], targets);
-        r = lists::next_in(carried, r + 1);
+        left = lists::rest(left);
+        r = lists::lowest(left);
     }
 }
 
-// One round from channel a: its own edges, and those from every channel seen.
-fn spread(edges: &[u64], channels: usize, a: usize, seen: u64) -> u64
-    requires { ⌜ (length (now edges) ≡ 32) × (channels ≤ 32) × (a < channels) ⌝ }
-    ensures { λ r. ⌜ Spread channels (edgeAt (now (edges .entry))) a seen r ⌝ }
+// One round: the edges from the channels that the last round saw first are added to those seen.
+fn spread(edges: &[u64], channels: usize, fresh: u64, seen: u64) -> u64
+    requires { ⌜ (length (now edges) ≡ 32) × (channels ≤ 32) ⌝ }
+    ensures { λ r. ⌜ Spread channels (edgeAt (now (edges .entry))) fresh seen r ⌝ }
 {
-    let mut set = seen | edges[a];
-    let mut b = lists::next_in(set, 0);
+    let mut set = seen;
+    let mut left = fresh;
+    let mut b = lists::lowest(left);
     while b < channels {
         set = set | edges[b];
-        b = lists::next_in(set, b + 1);
+        left = lists::rest(left);
+        b = lists::lowest(left);
     }
     set
 }
@@ -76,15 +82,17 @@ fn lowest_cycle(edges: &[u64], channels: usize) -> usize
     let mut start: usize = 0;
     'search: while start < channels {
         let mut seen: u64 = 0;
+        let mut fresh: u64 = 1u64 << start;
         let mut round: usize = 0;
         while round < channels {
-            let next = spread(edges, channels, start, seen);
+            let next = spread(edges, channels, fresh, seen);
             if (next >> start) % 2 == 1 {
                 break 'search;
             }
             if next == seen {
                 break;
             }
+            fresh = next ^ seen;
             seen = next;
             round += 1;
         }

@@ -2,7 +2,4 @@
 pub mod Raising
 pub mod Hashing
 pub mod Lowering
-pub mod Keys
 pub mod Searching
-pub mod Different
-pub mod Entering

@@ -8,7 +8,7 @@ use native.Mathlib.Omega.{arith}
 use lib.ListN.{length, take, drop, getD, set, length-drop, length-map, List·getD-map}
 use lib.Seq.{getD-drop, getD-append-add, paste, paste-zero, paste-suc, length-paste-head}
 use Rattle.index.specs.Index.{headsOf, lowered, loweredHeads, loweredLinks}
-use Rattle.index.proofs.Keys.{take-map}
+use Rattle.index.specs.Laws.Front.{take-map}
 
 -- the first i numbers from `at` on are those from m further on, through f
 module _ (f : ℕ → ℕ) (d : List ℕ) (at m : ℕ) where

@@ -17,7 +17,7 @@ use Rattle.pool.specs.Places.{places}
 use Rattle.index.specs.Hash.{bucketOf}
 use Rattle.index.specs.Index.{headsOf, further, lastOf, Indexed, keys}
 use Rattle.index.specs.Laws.Last.{last-bound, last-is}
-use Rattle.index.proofs.Keys.{places-length, places-take, places-at, keys-length, keys-take}
+use Rattle.index.specs.Laws.Front.{places-length, places-take, places-at, keys-length, keys-take}
 
 any-at : {A : Type 0} (f : A → Bool) (l : List A) (j : ℕ) (x : A) → j < length l → f (getD l j x) ≡ true → any f l ≡ true
 unfolding any

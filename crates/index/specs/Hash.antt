@@ -1,8 +1,8 @@
 -- The bucket of a place: a function of its numbers, of which nothing but that is used. Assumes nothing.
 use Prim.Native.Nat.{ℕ, _+_, _*_, _-_, _/_, _%_}
 use mathlib.Core.Bool.{cond}
-use mathlib.Core.List.{List, [], _∷_}
-use lib.ListN.{getD, take}
+use mathlib.Core.List.{List}
+use lib.ListN.{getD}
 use lib.IntN.{ℤ, pos, negsuc}
 use Rattle.lists.specs.Lists.{eqZ}
 
@@ -11,20 +11,19 @@ unfoldable pub raised : ℤ → ℕ
 raised (pos n) = n + 2147483648
 raised (negsuc n) = 2147483647 - n
 
--- two more numbers mixed into a hash below 2^32; the two factors are odd and far from each other's multiples
-unfoldable pub mixed : ℕ → ℕ → ℕ → ℕ
-mixed h x y = ((h + x) * 748982257 + y * 1640531527) / 65536 % 4294967296
+-- two numbers of a place with their factors
+unfoldable pub factored : List ℤ → ℕ → ℕ → ℕ → ℕ
+factored l i j k = raised (getD l i (pos 0)) * j + raised (getD l (i + 1) (pos 0)) * k
 
--- two by two, and once more so that the last two count as much as the others
-unfoldable pub hashed : ℕ → List ℤ → ℕ
-hashed h [] = mixed h 0 0
-hashed h (x ∷ []) = mixed h 0 0
-hashed h (x ∷ y ∷ l) = hashed (mixed h (raised x) (raised y)) l
+-- the sum of all numbers with their factors: primes, together below 2^32. With one pair, the numbers behind the first four are 0
+-- in a well-written place and do not count
+unfoldable pub hashOf : List ℤ → ℕ
+hashOf l =
+    factored l 0 748982257 374761393
+    + factored l 2 668265263 1640531527
+    + cond (eqZ (getD l 1 (pos 0)) (pos 1)) 0
+    (factored l 4 122949823 141650939 + factored l 6 160481183 179424673 + factored l 8 104395301 86028121)
 
--- how often two numbers are mixed in: with one pair, the numbers behind the first four are 0 in a well-written place
-unfoldable pub mixedPairs : List ℤ → ℕ
-mixedPairs l = cond (eqZ (getD l 1 (pos 0)) (pos 1)) 2 5
-
--- one of n buckets
+-- one of n buckets, by the low half of the hash: numbers in a row fall far from each other there
 unfoldable pub bucketOf : ℕ → List ℤ → ℕ
-bucketOf n l = hashed 0 (take (2 * mixedPairs l) l) * n / 4294967296
+bucketOf n l = hashOf l % 4294967296 * n / 4294967296

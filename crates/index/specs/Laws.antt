@@ -3,3 +3,5 @@ pub mod Last
 pub mod Lowered
 pub mod Indexed
 pub mod Keys
+pub mod Front
+pub mod Entering

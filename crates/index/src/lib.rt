@@ -1,15 +1,13 @@
 // A hash index of the pending updates, so that an equal one is found without going through all of them. The definitions are in
 // specs/.
 ghost use mathlib.Core.Path.{_≡_};
-ghost use mathlib.Core.Bool.{true};
 ghost use Prim.Native.Nat.{_+_, _*_, _≤_, _<_};
-ghost use lib.ListN.{length, getD, replicate};
+ghost use lib.ListN.{length, getD, drop};
 ghost use lib.IntN.{pos};
-ghost use Rattle.lists.specs.Lists.{all, any, eqZ, eqList};
-ghost use Rattle.pool.specs.Updates.{allDifferent};
-ghost use Rattle.pool.specs.Places.{wellWritten, places, updatesOf};
-ghost use Rattle.index.specs.Hash.{raised, mixed, mixedPairs, bucketOf};
-ghost use Rattle.index.specs.Index.{headsOf, Indexed, keys, Roomy, noted, lowered, loweredHeads, loweredLinks, forgotten};
+ghost use Rattle.lists.specs.Lists.{any, eqZ, eqList};
+ghost use Rattle.pool.specs.Places.{places};
+ghost use Rattle.index.specs.Hash.{raised, factored, hashOf, bucketOf};
+ghost use Rattle.index.specs.Index.{headsOf, Indexed, keys, noted, lowered, loweredHeads, loweredLinks, forgotten};
 
 // The number at an index, as one from 0 on.
 fn raise(place: &[i32], i: usize) -> u64
@@ -21,21 +19,31 @@ fn raise(place: &[i32], i: usize) -> u64
     y as u64
 }
 
-// Two more numbers mixed into a hash.
-fn mix(h: u64, x: u64, y: u64) -> u64
-    requires { ⌜ (h < 4294967296) × (x < 4294967296) × (y < 4294967296) ⌝ }
-    ensures { λ r. ⌜ (r ≡ mixed h x y) × (r < 4294967296) ⌝ }
+// Two numbers of a place with their factors.
+fn factors(place: &[i32], i: usize, j: u64, k: u64) -> u64
+    requires { ⌜ (i + 1 < length (now place)) × (j < 2147483648) × (k < 2147483648) ⌝ }
+    ensures { λ r. ⌜ (r ≡ factored (now (place .entry)) i j k) × (r ≤ 4294967295 * (j + k)) ⌝ }
 {
-    ((h + x) * 748982257 + y * 1640531527) / 65536 % 4294967296
+    let x = raise(place, i);
+    let y = raise(place, i + 1);
+    x * j + y * k
 }
 
-// How often two numbers of a place are mixed into its hash.
-fn mixed_pairs(place: &[i32]) -> usize
-    requires { ⌜ 1 < length (now place) ⌝ }
-    ensures { λ r. ⌜ (r ≡ mixedPairs (now (place .entry))) × (r ≤ 5) ⌝ }
+// The hash of a place: of its first four numbers where it has one pair.
+fn hash(place: &[i32]) -> u64
+    requires { ⌜ length (now place) ≡ 10 ⌝ }
+    ensures { λ r. ⌜ r ≡ hashOf (now (place .entry)) ⌝ }
 {
+    let first = factors(place, 0, 748982257, 374761393);
+    let four = first + factors(place, 2, 668265263, 1640531527);
     let count = place[1];
-    if count == 1 { 2 } else { 5 }
+    if count == 1 {
+        return four;
+    }
+    let third = factors(place, 4, 122949823, 141650939);
+    let fourth = factors(place, 6, 160481183, 179424673);
+    let fifth = factors(place, 8, 104395301, 86028121);
+    four + (third + fourth + fifth)
 }
 
 // The bucket of a place.
@@ -43,17 +51,8 @@ pub fn bucket(place: &[i32], heads: usize) -> usize
     requires { ⌜ (length (now place) ≡ 10) × (0 < heads) × (heads ≤ 65536) ⌝ }
     ensures { λ r. ⌜ (r ≡ bucketOf heads (now (place .entry))) × (r < heads) ⌝ }
 {
-    let n = mixed_pairs(place);
-    let mut h: u64 = 0;
-    let mut i: usize = 0;
-    while i < n {
-        let x = raise(place, 2 * i);
-        let y = raise(place, 2 * i + 1);
-        h = mix(h, x, y);
-        i += 1;
-    }
-    let last = mix(h, 0, 0);
-    (last * (heads as u64) / 4294967296) as usize
+    let h = hash(place) % 4294967296;
+    (h * (heads as u64) / 4294967296) as usize
 }
 
 // Whether one of the places has these numbers: the chain of their bucket, from the last place on.
@@ -88,26 +87,6 @@ pub fn note(index: &mut [u16], at: usize, bucket: usize)
     let first = index[bucket];
     index[heads + at] = first;
     index[bucket] = (at + 1) as u16;
-}
-
-// Whether no two of the pending updates are equal; if so, the index of all of them.
-pub fn all_different(index: &mut [u16], pool: &[i32], pending: usize) -> bool
-    requires { ⌜ (10 * pending ≤ length (now pool)) × (pending ≤ 65535) × Roomy pending (now index) × (now index ≡ replicate (length (now index)) 0) ⌝ }
-    ensures { λ r. ⌜ (all wellWritten (places pending (now (pool .entry))) ≡ true → r ≡ allDifferent (updatesOf pending (now (pool .entry)))) × (r ≡ true → Indexed 0 (keys (headsOf (now (index .entry))) pending (now (pool .entry))) (now (index .exit))) × (length (now (index .exit)) ≡ length (now (index .entry))) ⌝ }
-{
-    let heads = index.len() / 3;
-    let mut k: usize = 0;
-    while k < pending {
-        let at = 10 * k;
-        let next = at + 10;
-        let b = bucket(&pool[at..next], heads);
-        if find(index, pool, 0, k, &pool[at..next], b) {
-            return false;
-        }
-        note(index, k, b);
-        k += 1;
-    }
-    true
 }
 
 // What the number of a place becomes when place k is taken out. All are u16, so that the two loops below

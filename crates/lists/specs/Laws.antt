@@ -18,3 +18,4 @@ pub mod Same
 pub mod First
 pub mod Lowest
 pub mod Through
+pub mod Walks

@@ -44,9 +44,11 @@ pub record PartTable (s : List ℕ) (d : Deck) (parts : List ℕ) : Type 0 where
   pub opening : (p : ℕ) → p < N d → ReadsAt s (times (R d) value) (getD parts (4 * p + 1) 0) (partAt d p .opening)
   pub limit : (p : ℕ) → p < N d → ReadsAt s (expression (wholeTruth (ownOnly (R d)))) (getD parts (4 * p + 2) 0) (partAt d p .limit)
 
--- a row of eight numbers for each rule: the fifth, sixth and seventh are the offsets of default action, condition and action
+-- a row of eight numbers for each rule: the fifth, sixth and seventh are the offsets of default action, condition and action.
+-- There is a row for each of 32 channels too
 pub record RuleTable (s : List ℕ) (d : Deck) (rules : List ℕ) : Type 0 where
-  pub long : length rules ≡ 512
+  pub long : 256 ≤ length rules
+  pub room : 8 * M d ≤ length rules
   pub default : (r : ℕ) → r < M d → ReadsAt s (action (ownOnly (R d))) (getD rules (8 * r + 4) 0) (ruleAt d r .default)
   pub condition : (r : ℕ) → r < M d
       → ReadsAt s (expression (wholeTruth (taskScope (R d) (ruleAt d r .everywhere)))) (getD rules (8 * r + 5) 0) (ruleAt d r .condition)

@@ -1,17 +1,17 @@
 // The tests of a deck. The definitions are in specs/.
 ghost use mathlib.Core.Path.{_≡_};
-ghost use mathlib.Core.Bool.{Bool, not};
 ghost use mathlib.Core.List.{_++_};
 ghost use Prim.Native.Nat.{_+_, _*_, _≤_, _<_};
 ghost use lib.ListN.{length, drop, replicate};
-ghost use Rattle.lists.specs.Lists.{filter, below, firstOr};
+ghost use Rattle.lists.specs.Lists.{firstOr};
 ghost use Rattle.deck.specs.Deck.{N};
+ghost use Rattle.charge.specs.Memo.{memoSize};
 ghost use Rattle.pool.specs.Places.{zeros};
-ghost use Rattle.passing.specs.Check.{openingValues};
+ghost use Rattle.passing.specs.Check.{openingValues, outside};
 ghost use Rattle.passing.specs.Check as Check;
 ghost use Rattle.passing.specs.Stands.{HasTruth, TruthIs, stretch, valuesFrom};
-ghost use Rattle.passing.specs.Tabled.{layoutOf, deckOf, PartsKnown};
-ghost use Rattle.passing.specs.Judged.{RulesKnown, JudgesRules, WholeKnown, Judges};
+ghost use Rattle.passing.specs.Tabled.{deckOf, PartsKnown};
+ghost use Rattle.passing.specs.Judged.{RulesKnown, JudgesRules, ZeroRules, ZeroMemo, WholeKnown, Judges};
 ghost use Rattle.passing.specs.declared.Judged.the-variants.{Refused};
 use deck::Deck;
 
@@ -45,7 +45,7 @@ pub fn truth_from(
     }
 }
 
-// So many opening values, written to the front of a part's stretch of the table.
+// So many opening values, written to the front of a part's stretch of the table, or of a row of its own.
 fn open_part(stretch: &mut [i32], deck: &[u8], at: usize, count: usize)
     requires { ⌜ (count ≤ length (now stretch)) × (at + 4 * count ≤ length (now deck)) ⌝ }
     ensures { λ _. ⌜ now (stretch .exit) ≡ valuesFrom (now (deck .entry)) at count ++ drop count (now (stretch .entry)) ⌝ }
@@ -85,15 +85,27 @@ pub fn open_parts(values: &mut [i32], deck: &[u8], counts: Deck, parts: &[u64])
     }
 }
 
-// The lowest part that is outside its limit, or the number of parts where none is.
-fn first_outside(deck: &[u8], counts: Deck, parts: &[u64], values: &[i32]) -> usize
-    requires { ⌜ PartsKnown (now deck) counts (now parts) × (length (now values) ≡ 512) ⌝ }
-    ensures { λ r. ⌜ r ≡ firstOr (N (deckOf (now (deck .entry)))) (filter (λ p. not (Check.within (deckOf (now (deck .entry))) p (now (values .entry)))) (below (N (deckOf (now (deck .entry)))))) ⌝ }
+// Whether part p opens within its limit: its opening values in a row of their own.
+fn opens_within(deck: &[u8], counts: Deck, parts: &[u64], p: usize) -> bool
+    requires { ⌜ PartsKnown (now deck) counts (now parts) × (p < counts .parts) ⌝ }
+    ensures { λ r. ⌜ r ≡ Check.within (deckOf (now (deck .entry))) p (openingValues (deckOf (now (deck .entry)))) ⌝ }
+{
+    let mut row = [0i32; Deck::CHANNELS];
+    let at = parts[4 * p + 1] as usize;
+    open_part(&mut row, deck, at, counts.channels);
+    let limit = parts[4 * p + 2] as usize;
+    truth_from(deck, limit, &row, 0, counts.channels, 0, 0)
+}
+
+// The lowest part that opens outside its limit, or the number of parts where none does.
+fn first_outside(deck: &[u8], counts: Deck, parts: &[u64]) -> usize
+    requires { ⌜ PartsKnown (now deck) counts (now parts) ⌝ }
+    ensures { λ r. ⌜ r ≡ firstOr (N (deckOf (now (deck .entry)))) (outside (deckOf (now (deck .entry)))) ⌝ }
 {
     let n = counts.parts;
     let mut p: usize = 0;
     while p < n {
-        if within(deck, counts, parts, values, p) {
+        if opens_within(deck, counts, parts, p) {
             p += 1;
         } else {
             return p;
@@ -120,7 +132,7 @@ fn refused(number: u32, place: usize) -> Judged
 
 // 7 and 8, for a deck whose parts open within their limits.
 fn judge_rules(rules: &[u64], parts: &[u64], memo: &mut [u32], counts: Deck) -> Judged
-    requires { ⌜ RulesKnown (now rules) (now parts) counts × (now memo ≡ replicate 1024 0) ⌝ }
+    requires { ⌜ RulesKnown (now rules) (now parts) counts × (now memo ≡ replicate (memoSize (counts .rules)) 0) ⌝ }
     ensures { λ r. ⌜ JudgesRules (now (rules .entry)) (now (parts .entry)) (now (memo .exit)) counts r ⌝ }
 {
     let c = graph::first_cycle(rules, parts, counts.channels, counts.rules, counts.parts);
@@ -152,12 +164,10 @@ fn judge_whole(
     parts: &[u64],
     memo: &mut [u32],
 ) -> Judged
-    requires { ⌜ WholeKnown (now deck) counts (now rules) (now parts) × (now memo ≡ replicate 1024 0) ⌝ }
+    requires { ⌜ WholeKnown (now deck) counts (now rules) (now parts) × (now memo ≡ replicate (memoSize (counts .rules)) 0) ⌝ }
     ensures { λ r. ⌜ Judges (now (deck .entry)) (now (rules .exit)) (now (parts .entry)) (now (memo .exit)) r ⌝ }
 {
-    let mut values = [0i32; Deck::VALUES];
-    open_parts(&mut values, deck, counts, parts);
-    let p = first_outside(deck, counts, parts, &values);
+    let p = first_outside(deck, counts, parts);
     if p < counts.parts {
         return refused(refusals::OPENS_OUTSIDE, p);
     }
@@ -167,7 +177,7 @@ fn judge_whole(
 
 // 1 to 8: the deck's tables are filled, and the tests follow in their order. The memo keeps the charges of a deck that passes.
 pub fn judge(deck: &[u8], rules: &mut [u64], parts: &mut [u64], memo: &mut [u32]) -> Judged
-    requires { ⌜ (now rules ≡ replicate 512 0) × (now parts ≡ replicate 64 0) × (now memo ≡ replicate 1024 0) ⌝ }
+    requires { ⌜ ZeroRules (now deck) (now rules) × (now parts ≡ replicate 64 0) × ZeroMemo (now deck) (now memo) ⌝ }
     ensures { λ r. ⌜ Judges (now (deck .entry)) (now (rules .exit)) (now (parts .exit)) (now (memo .exit)) r ⌝ }
 {
     let loaded = deck::read(deck, rules, parts);

@@ -90,21 +90,19 @@ pub fn clear(tail: &mut [i32])
     }
 }
 
-// Whether the pool's tail is zeros. The loop has no exit, so that it is compiled to vector instructions.
+// Whether the pool's tail is zeros. The loop has no exit and no test, so that it is compiled to few vector instructions.
 pub fn all_zero(tail: &[i32]) -> bool
     ensures { λ r. ⌜ r ≡ all isZero (now (tail .entry)) ⌝ }
 {
     let n = tail.len();
-    let mut clear = true;
+    let mut all: i32 = 0;
     let mut i: usize = 0;
     while i < n {
         let x = tail[i];
-        if x != 0 {
-            clear = false;
-        }
+        all = all | x;
         i += 1;
     }
-    clear
+    all == 0
 }
 
 // So many numbers from an index on move to the front, and zeros stand behind them.

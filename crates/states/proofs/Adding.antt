@@ -1,32 +1,33 @@
--- What the loop over the pending updates keeps that tests their places and adds up their charges. Assumes nothing.
-use Prim.Native.Nat.{ℕ, suc, _+_, _*_, _-_, _<_, _≤_}
+-- What the loop over the pending updates keeps that tests their places, adds up their charges, and enters them into an index.
+-- Assumes nothing.
+use Prim.Native.Nat.{ℕ, _+_, _*_, _-_, _<_, _≤_}
 use mathlib.Core.Path.{_≡_, refl, sym, ap, _∙_}
-use mathlib.Core.Bool.{Bool, true, false, _&&_, cond}
-use mathlib.Core.List.{List, _∷_, map}
+use mathlib.Core.Bool.{Bool, true, false, not, _&&_, cond, and-false}
+use mathlib.Core.List.{List, [], _∷_}
 use native.Mathlib.Omega.{arith}
-use lib.ListN.{length, take, drop, length-take, length-drop}
-use lib.Seq.{drop-drop}
+use lib.ListN.{length, take, drop, replicate, length-take, length-drop}
 use lib.IntN.{ℤ}
-use Rattle.lists.specs.Lists.{lists, all}
+use Rattle.lists.specs.Lists.{lists, all, any, eqZ, eqList}
+use Rattle.lists.specs.Laws.Alls.{all-append, all-at, all-cons, all-map, all-none}
+use Rattle.lists.specs.Laws.Booleans.{and-both, and-left, and-right, contradiction, not-true→false}
+use Rattle.lists.specs.Laws.Sums.{sum-append}
 use Rattle.deck.specs.Deck.{Deck}
 use Rattle.charge.specs.Charge.{updateCharge}
 use Rattle.charge.specs.Memo.{Memo, capped}
-use Rattle.pool.specs.Updates.{channels, charge}
+use Rattle.pool.specs.Updates.{Update, channels, allDifferent, charge}
 use Rattle.pool.specs.Places.{updateOf, wellWritten, places, updatesOf}
 use Rattle.pool.specs.States.{known}
+use Rattle.index.specs.Hash.{bucketOf}
+use Rattle.index.specs.Index.{headsOf, Indexed, Roomy, keys, noted}
+use Rattle.index.specs.Laws.Entering.{entered-none, entered-next}
+use Rattle.index.specs.Laws.Front.{places-length, places-at, places-end}
+use Rattle.index.specs.Laws.Indexed.{noted-length}
+use Rattle.index.specs.Laws.Lowered.{heads-same}
 use Rattle.states.specs.Answer.{Holds, PlaceGives, allFit, weightOf, Weighs}
 use Rattle.states.specs.declared.Goodness.the-variants.{Good, Bad}
+use Rattle.states.specs.Laws.Indexing.{index-none}
 use Rattle.states.specs.Laws.Shape.{fit-holds}
-
--- the place at an index and those behind it
-place-at : (n k : ℕ) (pool : List ℤ) → k < n
-    → places (n - k) (drop (10 * k) pool) ≡ take 10 (drop (10 * k) pool) ∷ places (n - (k + 1)) (drop (10 * (k + 1)) pool)
-unfolding places
-place-at n k pool h =
-    let left : n - k ≡ suc (n - (k + 1)) = omega arith in
-    let ten : 10 * k + 10 ≡ 10 * (k + 1) = omega arith in
-    ap (λ j. places j (drop (10 * k) pool)) left
-    ∙ ap (λ q. take 10 (drop (10 * k) pool) ∷ places (n - (k + 1)) q) (drop-drop 10 (10 * k) pool ∙ ap (λ j. drop j pool) ten)
+use Rattle.states.proofs.Different.{here, updates-end, different-next, different-stop}
 
 -- ---- the place as it is lent, from one index to another
 
@@ -36,85 +37,147 @@ lent k pool = take (10 * k + 10 - 10 * k) (drop (10 * k) pool)
 pub lent-length : (n k : ℕ) (pool : List ℤ) → k < n → 10 * n ≤ length pool → length (lent k pool) ≡ 10
 lent-length n k pool h room = omega (arith, length-take (10 * k + 10 - 10 * k) (drop (10 * k) pool), length-drop (10 * k) pool)
 
-lent-same : (k : ℕ) (pool : List ℤ) → lent k pool ≡ take 10 (drop (10 * k) pool)
+pub lent-same : (k : ℕ) (pool : List ℤ) → lent k pool ≡ here pool k
 lent-same k pool = let ten : 10 * k + 10 - 10 * k ≡ 10 = omega arith in ap (λ j. take j (drop (10 * k) pool)) ten
+
+-- ---- one place more
+
+module _ (d : Deck) (pool : List ℤ) (k : ℕ) where
+  abbrev fits : List ℤ → Bool
+  fits l = wellWritten l && known d (updateOf l)
+
+  fit-more : allFit d k pool ≡ true → fits (here pool k) ≡ true → allFit d (k + 1) pool ≡ true
+  unfolding allFit
+  fit-more a f =
+      let l = here pool k in
+      let us = updatesOf k pool in
+      and-both
+      (ap (all wellWritten) (places-end k pool)
+      ∙ all-append wellWritten (places k pool) (l ∷ []) (and-left (all wellWritten (places k pool)) (all (known d) us) a)
+      (all-cons wellWritten l [] (and-left (wellWritten l) (known d (updateOf l)) f) (all-none wellWritten)))
+      (ap (all (known d)) (updates-end pool k)
+      ∙ all-append (known d) us (updateOf l ∷ []) (and-right (all wellWritten (places k pool)) (all (known d) us) a)
+      (all-cons (known d) (updateOf l) [] (and-right (wellWritten l) (known d (updateOf l)) f) (all-none (known d))))
+
+  fit-stop : (n : ℕ) → k < n → fits (here pool k) ≡ false → allFit d n pool ≡ false
+  unfolding allFit updatesOf
+  fit-stop n h f =
+      not-true→false (allFit d n pool) λ t.
+      let ls = places n pool in
+      let at = places-at n k pool h in
+      let low : k < length ls = omega (arith, places-length n pool) in
+      let first = all-at wellWritten ls k [] (and-left (all wellWritten ls) (all (known d) (updatesOf n pool)) t) low in
+      let second = all-at (λ l. known d (updateOf l)) ls k []
+      (sym (all-map (known d) updateOf ls) ∙ and-right (all wellWritten ls) (all (known d) (updatesOf n pool)) t) low in
+      contradiction (and-both (ap wellWritten (sym at) ∙ first) (ap (λ l. known d (updateOf l)) (sym at) ∙ second)) f
+
+  charge-more : let u = updateOf (here pool k) in
+      charge d (updatesOf (k + 1) pool) ≡ charge d (updatesOf k pool) + updateCharge d (u .part) (channels u)
+  unfolding charge lists
+  charge-more =
+      let f : Update → ℕ = λ u. updateCharge d (u .part) (channels u) in
+      ap (charge d) (updates-end pool k) ∙ sum-append f (updatesOf k pool) (updateOf (here pool k) ∷ []) ∙ omega arith
 
 -- ---- the loop
 
--- the other places fit exactly if all do, and with the charge of their updates the total is that of all
-pub record Adding (d : Deck) (n : ℕ) (pool : List ℤ) (m : List ℕ) (total k : ℕ) : Type 0 where
+-- the first k places fit and are different, the total is the charge of their updates, and the index has them
+pub record Adding (d : Deck) (n : ℕ) (pool : List ℤ) (index₀ m index : List ℕ) (total k : ℕ) : Type 0 where
   pub reached : k ≤ n
-  pub small : total ≤ 65536
   pub memo : Memo d m
-  pub fit : allFit d (n - k) (drop (10 * k) pool) ≡ allFit d n pool
-  pub same : capped (total + charge d (updatesOf (n - k) (drop (10 * k) pool))) ≡ capped (charge d (updatesOf n pool))
+  pub fit : allFit d k pool ≡ true
+  pub different : allDifferent (updatesOf k pool) ≡ true
+  pub same : total ≡ capped (charge d (updatesOf k pool))
+  pub long : length index ≡ length index₀
+  pub indexed : Indexed 0 (keys (headsOf index) k pool) index
 
 module _ (d : Deck) (n : ℕ) (pool : List ℤ) where
-  answer : (b : Bool) → allFit d n pool ≡ b → cond b (Good (capped (charge d (updatesOf n pool)))) Bad ≡ weightOf d n pool
+  answer : (b : Bool) → (allFit d n pool && allDifferent (updatesOf n pool)) ≡ b
+      → cond b (Good (capped (charge d (updatesOf n pool)))) Bad ≡ weightOf d n pool
   answer b e = ap (λ b. cond b (Good (capped (charge d (updatesOf n pool)))) Bad) (sym e)
 
-  pub adding-none : {m : List ℕ} → Memo d m → Adding d n pool m 0 0
-  adding-none a =
-      let e : n - 0 ≡ n = omega arith in
+  pub adding-none : {m index : List ℕ} → Memo d m → Roomy n index → index ≡ replicate (length index) 0
+      → Adding d n pool index m index 0 0
+  unfolding allFit updatesOf places allDifferent charge lists
+  adding-none a r z =
       record {
         reached = omega arith;
-        small = omega arith;
         memo = a;
-        fit = ap (λ k. allFit d k pool) e;
-        same = omega (arith, ap (λ k. charge d (updatesOf k pool)) e);
+        fit = refl;
+        different = refl;
+        same = omega arith;
+        long = refl;
+        indexed = entered-none pool r z;
       }
 
-  pub adding-all : {m : List ℕ} {total k : ℕ} → Adding d n pool m total k → n ≤ k → Weighs d n pool m (Good total)
-  unfolding allFit updatesOf places charge lists
-  adding-all {m} {total} {k} a h =
-      let e : n - k ≡ 0 = omega arith in
-      let none : charge d (updatesOf (n - k) (drop (10 * k) pool)) ≡ 0 = ap (λ j. charge d (updatesOf j (drop (10 * k) pool))) e in
-      let fit : allFit d n pool ≡ true = sym (a .fit) ∙ ap (λ j. allFit d j (drop (10 * k) pool)) e in
-      record { answer = ap Good (omega (arith, none, a .same, a .small)) ∙ answer true fit; memo = a .memo }
+  pub adding-heads : {index₀ m index : List ℕ} {total k : ℕ} → Adding d n pool index₀ m index total k → headsOf index ≡ headsOf index₀
+  adding-heads {index₀} {m} {index} a = heads-same index index₀ (a .long)
 
-  module _ {m : List ℕ} {total k : ℕ} (a : Adding d n pool m total k) (h : k < n) where
+  pub adding-all : {index₀ m index : List ℕ} {total k : ℕ} → Adding d n pool index₀ m index total k → n ≤ k
+      → Weighs d n pool m index₀ index (Good total)
+  adding-all {index₀} {m} {index} {total} {k} a h =
+      let e : k ≡ n = omega (arith, a .reached) in
+      let both = and-both (ap (λ j. allFit d j pool) (sym e) ∙ a .fit) (ap (λ j. allDifferent (updatesOf j pool)) (sym e) ∙ a .different) in
+      record {
+        answer = ap Good (a .same ∙ ap (λ j. capped (charge d (updatesOf j pool))) e) ∙ answer true both;
+        memo = a .memo;
+        indexes = record { indexed = λ _. rw e at (a .indexed); long = a .long };
+      }
+
+  module _ {index₀ m index : List ℕ} {total k : ℕ} (a : Adding d n pool index₀ m index total k) (h : k < n) where
     abbrev l : List ℤ
     l = lent k pool
 
-    abbrev fits : Bool
-    fits = wellWritten l && known d (updateOf l)
+    abbrev found : Bool
+    found = any (λ w. eqList eqZ w l) (places k pool)
 
-    abbrev behind : List (List ℤ)
-    behind = places (n - (k + 1)) (drop (10 * (k + 1)) pool)
+    pub adding-room : Roomy n index₀ → headsOf index + k < length index
+    adding-room r = omega (arith, adding-heads a, a .long, r .links)
 
-    here : places (n - k) (drop (10 * k) pool) ≡ l ∷ behind
-    here = place-at n k pool h ∙ ap (λ x. x ∷ behind) (sym (lent-same k pool))
+    -- a place that does not fit
+    pub adding-unfit : fits d pool k l ≡ false → Weighs d n pool m index₀ index Bad
+    adding-unfit f =
+        let none = fit-stop d pool k n h (ap (fits d pool k) (sym (lent-same k pool)) ∙ f) in
+        record {
+          answer = answer false (ap (λ b. b && allDifferent (updatesOf n pool)) none);
+          memo = a .memo;
+          indexes = index-none (a .long);
+        }
 
-    turn : allFit d n pool ≡ (fits && allFit d (n - (k + 1)) (drop (10 * (k + 1)) pool))
-    unfolding allFit updatesOf lists
-    turn =
-        sym (a .fit)
-        ∙ ap (λ ls. all wellWritten ls && all (known d) (map updateOf ls)) here
-        ∙ swap (wellWritten l) (all wellWritten behind) (known d (updateOf l)) (all (known d) (map updateOf behind))
-      where
-        swap : (a b c e : Bool) → ((a && b) && (c && e)) ≡ ((a && c) && (b && e))
-        swap true true c e = refl
-        swap true false true e = refl
-        swap true false false e = refl
-        swap false b c e = refl
-
-    pub adding-stop : fits ≡ false → Weighs d n pool m Bad
-    adding-stop e =
-        record { answer = answer false (turn ∙ ap (λ b. b && allFit d (n - (k + 1)) (drop (10 * (k + 1)) pool)) e); memo = a .memo }
-
-    pub adding-place : 10 * n ≤ length pool → fits ≡ true → Holds d l
+    pub adding-place : 10 * n ≤ length pool → fits d pool k l ≡ true → Holds d l
     adding-place room e = fit-holds d l (lent-length n k pool h room) e
 
-    pub adding-more : {m′ : List ℕ} {c t : ℕ} → fits ≡ true → PlaceGives d l m′ c → t ≡ capped (total + c) → Adding d n pool m′ t (k + 1)
-    unfolding updatesOf charge lists
-    adding-more {m′} {c} {t} f g e =
-        let u = updateOf l in
-        let both : charge d (updatesOf (n - k) (drop (10 * k) pool))
-        ≡ updateCharge d (u .part) (channels u) + charge d (map updateOf behind) = ap (λ ls. charge d (map updateOf ls)) here in
-        record {
-          reached = omega arith;
-          small = omega (arith, e);
-          memo = g .memo;
-          fit = sym (turn ∙ ap (λ b. b && allFit d (n - (k + 1)) (drop (10 * (k + 1)) pool)) f);
-          same = omega (arith, e, g .value, both, a .same);
-        }
+    module _ {m′ : List ℕ} {c : ℕ} {r : Bool} (f : fits d pool k l ≡ true) (g : PlaceGives d l m′ c) (s : r ≡ found) where
+      fit-here : fits d pool k (here pool k) ≡ true
+      fit-here = ap (fits d pool k) (sym (lent-same k pool)) ∙ f
+
+      different : allDifferent (updatesOf (k + 1) pool) ≡ (allDifferent (updatesOf k pool) && not r)
+      unfolding allFit
+      different =
+          different-next pool k (and-left (all wellWritten (places k pool)) (all (known d) (updatesOf k pool)) (a .fit))
+          (and-left (wellWritten (here pool k)) (known d (updateOf (here pool k))) fit-here)
+          ∙ ap (λ x. allDifferent (updatesOf k pool) && not (any (λ w. eqList eqZ w x) (places k pool))) (sym (lent-same k pool))
+          ∙ ap (λ x. allDifferent (updatesOf k pool) && not x) (sym s)
+
+      -- a place with the numbers of an earlier one
+      pub adding-twice : r ≡ true → Weighs d n pool m′ index₀ index Bad
+      adding-twice b =
+          let twice = different ∙ ap (λ x. allDifferent (updatesOf k pool) && not x) b ∙ and-false (allDifferent (updatesOf k pool)) in
+          record {
+            answer = answer false (ap (λ x. allFit d n pool && x) (different-stop pool n k h twice) ∙ and-false (allFit d n pool));
+            memo = g .memo;
+            indexes = index-none (a .long);
+          }
+
+      pub adding-more : {t b : ℕ} → t ≡ capped (total + c) → r ≡ false → b < headsOf index → Roomy n index₀
+          → b ≡ bucketOf (headsOf index) l → Adding d n pool index₀ m′ (noted index k b) t (k + 1)
+      adding-more {t} {b} e none low roomy key =
+          let value = g .value ∙ ap (λ x. capped (updateCharge d (updateOf x .part) (channels (updateOf x)))) (lent-same k pool) in
+          record {
+            reached = omega arith;
+            memo = g .memo;
+            fit = fit-more d pool k (a .fit) fit-here;
+            different = different ∙ and-both (a .different) (ap not none);
+            same = omega (arith, e, value, a .same, charge-more d pool k);
+            long = noted-length index k b ∙ a .long;
+            indexed = entered-next pool k (a .indexed) b low (adding-room roomy) (key ∙ ap (bucketOf (headsOf index)) (lent-same k pool));
+          }

@@ -3,4 +3,5 @@ pub mod Numbers
 pub mod Turns
 pub mod Deciding
 pub mod Collecting
+pub mod Different
 pub mod Adding

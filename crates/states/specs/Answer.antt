@@ -4,8 +4,8 @@ use mathlib.Core.Path.{_≡_}
 use mathlib.Core.Bool.{Bool, true, false, _&&_, cond}
 use mathlib.Core.List.{List}
 use lib.Dec.{leb, eqb}
-use lib.ListN.{length, drop, replicate}
-use lib.IntN.{ℤ}
+use lib.ListN.{length, getD, drop, replicate}
+use lib.IntN.{ℤ, pos}
 use Rattle.lists.specs.Lists.{all}
 use Rattle.lists.specs.Bits.{maskOf}
 use Rattle.deck.specs.Deck.{Deck, R, N}
@@ -16,7 +16,7 @@ use Rattle.pool.specs.Updates.{channels, allDifferent, charge}
 use Rattle.pool.specs.Places.{isZero, capacity, updateOf, wellWritten, places, updatesOf}
 use Rattle.pool.specs.States.{Memory, unusedZero, known, good}
 use Rattle.index.specs.Index.{headsOf, Indexed, keys, Roomy}
-use Rattle.states.specs.Fits.{channelsOf, channelsFit}
+use Rattle.states.specs.Fits.{within, channelsOf, channelsFit, pairsFit}
 use Rattle.states.specs.declared.Goodness.{Goodness}
 use Rattle.states.specs.declared.Goodness.the-variants.{Good, Bad}
 
@@ -28,6 +28,10 @@ pub record IfFit (test : Bool) (cs : List ℕ) (r : ℕ) : Type 0 where
 -- the channels of the first n pairs
 abbrev pub FitsChannels : ℕ → ℕ → List ℤ → ℕ → Type 0
 FitsChannels R′ n t r = IfFit (channelsFit R′ 0 n t) (channelsOf n t) r
+
+-- the channels of a place, by its count of pairs
+abbrev pub FitsPairs : ℕ → List ℤ → ℕ → Type 0
+FitsPairs R′ l r = IfFit (pairsFit R′ l) (channelsOf (within 5 (getD l 1 (pos 0))) (drop 2 l)) r
 
 -- a test of a state sees of a deck only how many channels and parts it has
 abbrev pub FitsPlace : ℕ → ℕ → List ℤ → ℕ → Type 0
@@ -50,13 +54,19 @@ PlaceGives d l m s = Answered d (updateCharge d (updateOf l .part) (channels (up
 unfoldable pub allFit : Deck → ℕ → List ℤ → Bool
 allFit d n pool = all wellWritten (places n pool) && all (known d) (updatesOf n pool)
 
--- the charge of the pending updates where all fit
+-- the charge of the pending updates where all fit and no two are equal
 abbrev pub weightOf : Deck → ℕ → List ℤ → Goodness
-weightOf d n pool = cond (allFit d n pool) (Good (capped (charge d (updatesOf n pool)))) Bad
+weightOf d n pool = cond (allFit d n pool && allDifferent (updatesOf n pool)) (Good (capped (charge d (updatesOf n pool)))) Bad
 
-pub record Weighs (d : Deck) (n : ℕ) (pool : List ℤ) (m : List ℕ) (r : Goodness) : Type 0 where
+-- the index of the pending places, where the test is passed
+pub record IndexedIf (pending : ℕ) (pool : List ℤ) (index₀ index : List ℕ) (passed : Type 0) : Type 0 where
+  pub indexed : passed → Indexed 0 (keys (headsOf index) pending pool) index
+  pub long : length index ≡ length index₀
+
+pub record Weighs (d : Deck) (n : ℕ) (pool : List ℤ) (m index₀ index : List ℕ) (r : Goodness) : Type 0 where
   pub answer : r ≡ weightOf d n pool
   pub memo : Memo d m
+  pub indexes : IndexedIf n pool index₀ index ((total : ℕ) × (r ≡ Good total))
 
 -- the state and the pool that were lent
 abbrev pub memoryOf : List ℤ → ℕ → List ℤ → Memory
@@ -87,11 +97,6 @@ goodnessOf d m = cond (good d m) (Good (charge d (updatesOf (m .state .pending) 
 pub record Fresh (n : ℕ) (index : List ℕ) : Type 0 where
   pub roomy : Roomy (capacity n) index
   pub zeros : index ≡ replicate (length index) 0
-
--- the index of the pending places, where the test is passed
-pub record IndexedIf (pending : ℕ) (pool : List ℤ) (index₀ index : List ℕ) (passed : Type 0) : Type 0 where
-  pub indexed : passed → Indexed 0 (keys (headsOf index) pending pool) index
-  pub long : length index ≡ length index₀
 
 -- the answer by the shape of the tables, a memo that is still right, and the index of a good state
 pub record Judges (rules parts : List ℕ) (R′ M′ N′ : ℕ) (values : List ℤ) (pending : ℕ) (pool : List ℤ) (m index₀ index : List ℕ) (r : Goodness) : Type 0 where

@@ -34,8 +34,12 @@ channelsFit R m (suc n) (c ∷ []) = false
 channelsFit R m (suc n) (c ∷ v ∷ t) =
     ltb (within R c) R && not (bit m (within R c)) && channelsFit R (bitOr m (2 ^ within R c)) n t
 
--- part, count, channels, and zeros behind the pairs
-unfoldable pub fits : ℕ → ℕ → List ℤ → Bool
-fits R N l =
+-- 1 to 4 pairs, their channels, and zeros behind them
+unfoldable pub pairsFit : ℕ → List ℤ → Bool
+pairsFit R l =
     let n = within 5 (getD l 1 (pos 0)) in
-    ltb (within N (getD l 0 (pos 0))) N && ltb 0 n && ltb n 5 && channelsFit R 0 n (drop 2 l) && all isZero (drop (2 + 2 * n) l)
+    ltb 0 n && ltb n 5 && channelsFit R 0 n (drop 2 l) && all isZero (drop (2 + 2 * n) l)
+
+-- part and pairs
+unfoldable pub fits : ℕ → ℕ → List ℤ → Bool
+fits R N l = ltb (within N (getD l 0 (pos 0))) N && pairsFit R l

@@ -3,7 +3,7 @@ ghost use mathlib.Core.Path.{_≡_};
 ghost use mathlib.Core.Bool.{true};
 ghost use Prim.Native.Nat.{_+_, _*_, _<_, _≤_};
 ghost use lib.Dec.{ltb};
-ghost use lib.ListN.{length, getD, drop};
+ghost use lib.ListN.{length, getD, drop, replicate};
 ghost use lib.IntN.{pos};
 ghost use Rattle.lists.specs.Lists.{all};
 ghost use Rattle.lists.specs.Bits.{maskOf};
@@ -12,8 +12,9 @@ ghost use Rattle.charge.specs.Memo.{Ready, capped};
 ghost use Rattle.pool.specs.Updates.{channels};
 ghost use Rattle.pool.specs.Places.{isZero, updateOf, wellWritten};
 ghost use Rattle.pool.specs.States.{goodLength};
-ghost use Rattle.states.specs.Answer.{FitsChannels, FitsPlace, FitsValues, FitsState, Holds, PlaceGives, Weighs, memoryOf, Fresh, Judges};
-ghost use Rattle.states.specs.Fits.{within, channelsFit};
+ghost use Rattle.index.specs.Index.{Roomy};
+ghost use Rattle.states.specs.Answer.{FitsChannels, FitsPairs, FitsPlace, FitsValues, FitsState, Holds, PlaceGives, Weighs, memoryOf, Fresh, Judges};
+ghost use Rattle.states.specs.Fits.{within};
 use deck::Deck;
 
 // A good state with the charge of its pending updates, or not a good one.
@@ -71,16 +72,34 @@ fn zero_from(place: &[i32], from: usize) -> bool
     true
 }
 
-// The channels of the update that a place holds, as a set, if the place is well written and its update is a known one; else
-// none.
-fn place_fits(place: &[i32], channels: usize, parts: usize) -> u64
-    requires { ⌜ (length (now place) ≡ 10) × (channels ≤ 32) ⌝ }
-    ensures { λ r. ⌜ FitsPlace channels parts (now (place .entry)) r ⌝ }
+// The set of the one channel of a place with one pair, if it is a known one and zeros stand behind the pair; else none.
+fn single_fits(place: &[i32], channels: usize) -> u64
+    requires { ⌜ (length (now place) ≡ 10) × (channels ≤ 32) × (getD (now place) 1 (pos 0) ≡ pos 1) ⌝ }
+    ensures { λ r. ⌜ FitsPairs channels (now (place .entry)) r ⌝ }
 {
-    let p = number_at(place, 0, parts);
-    if p == parts {
+    let c = number_at(place, 2, channels);
+    if c == channels {
         return 0;
     }
+    if place[4] == 0
+        && place[5] == 0
+        && place[6] == 0
+        && place[7] == 0
+        && place[8] == 0
+        && place[9] == 0
+    {
+        1u64 << c
+    } else {
+        0
+    }
+}
+
+// The set of the channels of a place, if it has 1 to 4 pairs, their channels are known and no two are equal, and zeros stand
+// behind the pairs; else none.
+fn several_fit(place: &[i32], channels: usize) -> u64
+    requires { ⌜ (length (now place) ≡ 10) × (channels ≤ 32) ⌝ }
+    ensures { λ r. ⌜ FitsPairs channels (now (place .entry)) r ⌝ }
+{
     let count = number_at(place, 1, Deck::ASSIGNMENTS + 1);
     if count == 0 {
         return 0;
@@ -96,6 +115,23 @@ fn place_fits(place: &[i32], channels: usize, parts: usize) -> u64
         return 0;
     }
     mask
+}
+
+// The channels of the update that a place holds, as a set, if the place is well written and its update is a known one; else
+// none. Most places have one pair.
+fn place_fits(place: &[i32], channels: usize, parts: usize) -> u64
+    requires { ⌜ (length (now place) ≡ 10) × (channels ≤ 32) ⌝ }
+    ensures { λ r. ⌜ FitsPlace channels parts (now (place .entry)) r ⌝ }
+{
+    let p = number_at(place, 0, parts);
+    if p == parts {
+        return 0;
+    }
+    let count = place[1];
+    if count == 1 {
+        return single_fits(place, channels);
+    }
+    several_fit(place, channels)
 }
 
 // Whether the numbers behind the channels of each part are 0.
@@ -170,7 +206,9 @@ fn capped_sum(a: u32, b: u32) -> u32
     if s < 65536 { s } else { 65536 }
 }
 
-// The charge of the pending updates, up to 65,536, if each place is well written and holds a known update.
+// The charge of the pending updates, up to 65,536, and the index of them, if each place is well written and holds a known
+// update and no two are equal. A place is looked for where it and all before it are well written: equal numbers mean equal
+// updates only there.
 fn weigh(
     rules: &[u64],
     parts: &[u64],
@@ -180,10 +218,12 @@ fn weigh(
     parts_count: usize,
     pool: &[i32],
     pending: usize,
+    index: &mut [u16],
 ) -> Goodness
-    requires { ⌜ Ready (now rules) (now parts) channels count «parts_count» (now memo) × (channels ≤ 32) × (10 * pending ≤ length (now pool)) ⌝ }
-    ensures { λ r. ⌜ Weighs (shapeOf (now (rules .entry)) (now (parts .entry)) channels count «parts_count») pending (now (pool .entry)) (now (memo .exit)) r ⌝ }
+    requires { ⌜ Ready (now rules) (now parts) channels count «parts_count» (now memo) × (channels ≤ 32) × (10 * pending ≤ length (now pool)) × (pending ≤ 65535) × Roomy pending (now index) × (now index ≡ replicate (length (now index)) 0) ⌝ }
+    ensures { λ r. ⌜ Weighs (shapeOf (now (rules .entry)) (now (parts .entry)) channels count «parts_count») pending (now (pool .entry)) (now (memo .exit)) (now (index .entry)) (now (index .exit)) r ⌝ }
 {
+    let heads = index.len() / 3;
     let mut total: u32 = 0;
     let mut k: usize = 0;
     while k < pending {
@@ -196,6 +236,11 @@ fn weigh(
         let p = number_at(&pool[at..next], 0, parts_count);
         let c = charge::update_charge(rules, parts, memo, channels, count, parts_count, p, mask);
         total = capped_sum(total, c);
+        let b = index::bucket(&pool[at..next], heads);
+        if index::find(index, pool, 0, k, &pool[at..next], b) {
+            return Goodness::Bad;
+        }
+        index::note(index, k, b);
         k += 1;
     }
     Goodness::Good(total)
@@ -219,8 +264,7 @@ fn state_fits(values: &[i32], pending: usize, pool: &[i32], channels: usize, par
     pool::all_zero(&pool[end..])
 }
 
-// 10: whether the state is a good one; if so, the index of its pending updates. They are compared only where all are well
-// written, since equal numbers mean equal updates only there.
+// 10: whether the state is a good one; if so, the index of its pending updates.
 pub fn judge(
     rules: &[u64],
     parts: &[u64],
@@ -239,13 +283,10 @@ pub fn judge(
     if !state_fits(values, pending, pool, channels, parts_count) {
         return Goodness::Bad;
     }
-    let weighed = weigh(rules, parts, memo, channels, count, parts_count, pool, pending);
+    let weighed = weigh(rules, parts, memo, channels, count, parts_count, pool, pending, index);
     match weighed {
         Goodness::Bad => Goodness::Bad,
         Goodness::Good(total) => {
-            if !index::all_different(index, pool, pending) {
-                return Goodness::Bad;
-            }
             let places = pool.len() / Deck::PLACE;
             if places < total as usize {
                 return Goodness::Bad;

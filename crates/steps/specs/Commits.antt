@@ -2,25 +2,26 @@
 -- updates that they stand for. Assumes nothing.
 use Prim.Native.Nat.{ℕ, _+_, _-_, _*_, _≤_, _<_}
 use mathlib.Core.Path.{_≡_}
-use mathlib.Core.Bool.{Bool, true, false}
+use mathlib.Core.Bool.{Bool, true}
 use mathlib.Core.List.{List}
-use lib.ListN.{length, drop}
-use lib.Seq.{paste}
+use lib.ListN.{length, take}
 use lib.IntN.{ℤ}
-use Rattle.deck.specs.Deck.{Deck, R, N}
+use Rattle.deck.specs.Deck.{Deck}
 use Rattle.deck.specs.declared.Deck as Counted
 use Rattle.graph.specs.Laws.Cycles.{Acyclic}
 use Rattle.charge.specs.Charge.{updateCharge}
 use Rattle.charge.specs.Memo.{Memo, Ready, capped}
-use Rattle.lists.specs.Lists.{all}
+use Rattle.lists.specs.Lists.{all, member}
+use Rattle.lists.specs.Bits.{maskOf}
 use Rattle.pool.specs.Updates.{Update, channels, assign, charge}
+use Rattle.pool.specs.Places.{pairsOf}
 use Rattle.pool.specs.States.{Machine, known}
 use Rattle.pool.specs.Moves.{Laid}
 use Rattle.pool.specs.Laws.Good.{Fine}
-use Rattle.states.specs.Answer.{Holds}
 use Rattle.passing.specs.Tabled.{deckOf, Tabled}
 use Rattle.passing.specs.Judged.{shape}
 use Rattle.firing.specs.Firing.{fired, changed, pick, without, committed}
+use Rattle.firing.specs.Evaluated.{Assignable}
 use Rattle.steps.specs.Queue.{Held, Kept, Room, SameSize, Grown}
 use Rattle.steps.specs.declared.Queue.{Queue}
 
@@ -35,20 +36,17 @@ pub record Reacting (s : List ℕ) (k : Counted.Deck) (rules parts memo : List �
   pub charged : total ≡ charge (shape rules parts k) us
   pub within : total ≤ C
 
--- the firing for the changed channels was offered to the updates that the pool held
-pub record Reacts (d e : Deck) (C pending total : ℕ) (before after : List ℤ) (p : ℕ) (held₀ : Held) (m : List ℕ) (held : Held) (q : Queue) : Type 0 where
-  pub grown : (us : List Update) → Kept held₀ us → pending ≡ length us → total ≡ charge e us
-      → Grown e C us (fired d after p (changed d p before after)) held q
+-- the firing for the channels cs was offered to the updates that the pool held
+pub record Reacted (d e : Deck) (C pending total : ℕ) (values : List ℤ) (p : ℕ) (cs : List ℕ) (held₀ : Held) (m : List ℕ) (held : Held) (q : Queue) : Type 0 where
+  pub grown : (us : List Update) → Kept held₀ us → pending ≡ length us → total ≡ charge e us → Grown e C us (fired d values p cs) held q
   pub memo : Memo e m
   pub size : SameSize held₀ held
 
--- ten numbers that hold a known update of a deck with so many parts
-abbrev pub Appliable : List ℤ → ℕ → Type 0
-Appliable l parts = (d : Deck) × Holds d l × (N d ≡ parts) × (N d ≤ 16) × (R d ≤ 32)
-
--- a table with the values of part p from another
-abbrev pub partCopied : ℕ → List ℤ → List ℤ → List ℤ
-partCopied p from to = paste to (32 * p) (drop (32 * p) from) 32
+-- `mask` is the set of the channels
+abbrev pub Reacts : Deck → Deck → ℕ → ℕ → ℕ → List ℤ → ℕ → ℕ → Held → List ℕ → Held → Queue → Type 0
+Reacts d e C pending total values p mask held₀ m held q =
+    (cs : List ℕ) → ((c : ℕ) → member c cs ≡ true → c < 32) → mask ≡ maskOf cs
+    → Reacted d e C pending total values p cs held₀ m held q
 
 -- a pool that holds exactly so many known updates, and one of their places
 pub record Looking (k : Counted.Deck) (rules parts memo : List ℕ) (pool : List ℤ) (pending j : ℕ) : Type 0 where
@@ -60,12 +58,17 @@ pub record Looking (k : Counted.Deck) (rules parts memo : List ℕ) (pool : List
   pub known : all (known (shape rules parts k)) us ≡ true
   pub place : j < pending
 
--- what stands there: its part, the values with it applied, and its charge, up to 65,536
-pub record Looks (e : Deck) (j : ℕ) (vs pool : List ℤ) (m : List ℕ) (part : ℕ) (after : List ℤ) (c : ℕ) : Type 0 where
+-- what stands there: its part, the number of its pairs, its charge, up to 65,536, and the set of the channels that it changes.
+-- `after` has it applied, and the first pairs of `back` set its channels back
+pub record Looks (e : Deck) (j : ℕ) (vs pool : List ℤ) (m : List ℕ) (after back : List ℤ) (part count c mask : ℕ) : Type 0 where
   pub result : (us : List Update) → Laid pool us → j < length us
       → (part ≡ pick j us .part)
       × (after ≡ assign (pick j us .part) (pick j us .pairs) vs)
       × (c ≡ capped (updateCharge e (pick j us .part) (channels (pick j us))))
+  pub few : count ≤ 4
+  pub assignable : Assignable (take (2 * count) back)
+  pub undone : assign part (pairsOf (take (2 * count) back)) after ≡ vs
+  pub changes : mask ≡ maskOf (changed e part vs after)
   pub memo : Memo e m
 
 -- the numbers stand for the values and pending updates x, a good state with C places
@@ -76,33 +79,35 @@ pub record Stored (d : Deck) (C : ℕ) (x : Machine) (vs : List ℤ) (pending to
   pub kept : Kept held (x .pending)
   pub charged : total ≡ charge d (x .pending)
 
--- place j was taken out of the pending updates of x: the others are held, with room for C
-pub record Without (d : Deck) (C j : ℕ) (x : Machine) (vs : List ℤ) (part : ℕ) (after : List ℤ) (pending total : ℕ) (held : Held) : Type 0 where
+-- place j was taken out of the pending updates of x and applied: the others are held, with room for C. The pairs of `back` set
+-- its channels back, and `mask` is the set of those that it changes
+pub record Without (d : Deck) (C j : ℕ) (x : Machine) (back after : List ℤ) (part mask pending total : ℕ) (held : Held) : Type 0 where
   pub fine : Fine d (C + 1) x
   pub inside : j < length (x .pending)
-  pub values : vs ≡ x .values
   pub part-is : part ≡ pick j (x .pending) .part
-  pub after-is : after ≡ assign (pick j (x .pending) .part) (pick j (x .pending) .pairs) vs
+  pub after-is : after ≡ assign (pick j (x .pending) .part) (pick j (x .pending) .pairs) (x .values)
+  pub undone : assign part (pairsOf back) after ≡ x .values
+  pub changes : mask ≡ maskOf (changed d part (x .values) after)
   pub count : pending ≡ length (without j (x .pending))
   pub kept : Kept held (without j (x .pending))
   pub charged : total ≡ charge d (without j (x .pending))
 
-pub record Finishing (s : List ℕ) (k : Counted.Deck) (rules parts memo : List ℕ) (held : Held) (C : ℕ) (vs : List ℤ) (part : ℕ) (after : List ℤ) (pending total : ℕ) : Type 0 where
+pub record Finishing (s : List ℕ) (k : Counted.Deck) (rules parts memo : List ℕ) (held : Held) (C : ℕ) (back after : List ℤ) (part mask pending total : ℕ) : Type 0 where
   pub tabled : Tabled s k rules parts
   pub ready : Ready rules parts (k .channels) (k .rules) (k .parts) memo
   pub acyclic : Acyclic (deckOf s)
   pub room : Room C held
+  pub assignable : Assignable back
   pub place : ℕ
   pub machine : Machine
-  pub taken : Without (deckOf s) C place machine vs part after pending total held
+  pub taken : Without (deckOf s) C place machine back after part mask pending total held
 
 -- the rest of a commit: what the numbers stand for afterwards is what the definition says
-pub record Finishes (d e : Deck) (C : ℕ) (vs₀ : List ℤ) (part : ℕ) (after : List ℤ) (pending₀ total₀ : ℕ) (held₀ : Held) (m : List ℕ) (held : Held) (before values : List ℤ) (pending total : ℕ) (applied : Bool) : Type 0 where
-  pub result : (j : ℕ) (x : Machine) → Without d C j x vs₀ part after pending₀ total₀ held₀
+pub record Finishes (d e : Deck) (C : ℕ) (back after : List ℤ) (part mask pending₀ total₀ : ℕ) (held₀ : Held) (m : List ℕ) (held : Held) (values : List ℤ) (pending total : ℕ) (applied : Bool) : Type 0 where
+  pub result : (j : ℕ) (x : Machine) → Without d C j x back after part mask pending₀ total₀ held₀
       → Stored d C (committed d j x .machine) values pending total held × (applied ≡ committed d j x .applied)
   pub memo : Memo e m
   pub size : SameSize held₀ held
-  pub same : before ≡ values
 
 pub record Committing (s : List ℕ) (k : Counted.Deck) (rules parts memo : List ℕ) (held : Held) (C : ℕ) (values : List ℤ) (pending total : ℕ) : Type 0 where
   pub tabled : Tabled s k rules parts

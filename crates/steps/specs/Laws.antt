@@ -8,5 +8,4 @@ pub mod Halves
 pub mod Applying
 pub mod Looking
 pub mod Reacting
-pub mod Parts
 pub mod Committing

@@ -2,21 +2,18 @@
 ghost use mathlib.Core.Path.{_≡_};
 ghost use mathlib.Core.Bool.{true};
 ghost use mathlib.Core.List.{[], _∷_};
-ghost use Prim.Native.Nat.{_+_, _≤_, _<_};
+ghost use Prim.Native.Nat.{_+_, _<_};
 ghost use lib.ListN.{length, drop};
 ghost use Rattle.lists.specs.Lists.{flatMap};
-ghost use Rattle.lists.specs.Bits.{maskOf};
 ghost use Rattle.deck.specs.Deck.{ruleAt, active};
 ghost use Rattle.charge.specs.Charge.{others};
 ghost use Rattle.pool.specs.Places.{updateOf};
 ghost use Rattle.states.specs.Answer.{Holds};
 ghost use Rattle.passing.specs.Tabled.{deckOf, Tabled};
 ghost use Rattle.passing.specs.Judged.{shape};
-ghost use Rattle.firing.specs.Firing.{firedHere, firedThere, fired};
-ghost use Rattle.firing.specs.Evaluated.{HasAction};
+ghost use Rattle.firing.specs.Firing.{firedHere, firedThere};
 ghost use Rattle.steps.specs.Queue.{heldOf, Offering, Offered, Offers, Sound, FiresAll, Fires};
-ghost use Rattle.pool.specs.Updates.{assign};
-ghost use Rattle.steps.specs.Commits.{Reacting, Reacts, Appliable, partCopied, Looking, Looks, Finishing, Finishes, Committing, Commits, CommitsFront};
+ghost use Rattle.steps.specs.Commits.{Reacting, Reacts, Looking, Looks, Finishing, Finishes, Committing, Commits, CommitsFront};
 use deck::Deck;
 
 // The pending number and the charge of the pending updates; full where a new one would have passed the capacity.
@@ -226,10 +223,12 @@ fn fire_all_here(
 {
     let n = counts.rules;
     let mut out = queue;
-    let mut r = lists::next_in(set, 0);
+    let mut left = set;
+    let mut r = lists::lowest(left);
     while r < n {
         out = fire_here(deck, counts, rules, parts, memo, index, pool, gone, capacity, out, values, p, r);
-        r = lists::next_in(set, r + 1);
+        left = lists::rest(left);
+        r = lists::lowest(left);
     }
     out
 }
@@ -255,10 +254,12 @@ fn fire_all_others(
 {
     let n = counts.rules;
     let mut out = queue;
-    let mut r = lists::next_in(set, 0);
+    let mut left = set;
+    let mut r = lists::lowest(left);
     while r < n {
         out = fire_others(deck, counts, rules, parts, memo, index, pool, gone, capacity, out, values, p, r);
-        r = lists::next_in(set, r + 1);
+        left = lists::rest(left);
+        r = lists::lowest(left);
     }
     out
 }
@@ -290,7 +291,7 @@ pub fn fire(
     fire_all_others(deck, counts, rules, parts, memo, index, pool, gone, capacity, first, values, p, set)
 }
 
-// The firing that follows when part p's values became `after`, with the pending updates that the pool holds.
+// The firing that follows when channels of part p changed, with the pending updates that the pool holds.
 pub fn react(
     deck: &[u8],
     counts: Deck,
@@ -303,51 +304,30 @@ pub fn react(
     capacity: u32,
     pending: usize,
     charge: u32,
-    before: &[i32],
-    after: &[i32],
+    values: &[i32],
     p: usize,
+    changed: u64,
 ) -> Queue
-    requires { ⌜ Reacting (now deck) counts (now rules) (now parts) (now memo) (heldOf gone (now index) (now pool)) capacity pending charge × (length (now before) ≡ 512) × (length (now after) ≡ 512) × (p < counts .parts) ⌝ }
-    ensures { λ r. ⌜ Reacts (deckOf (now (deck .entry))) (shape (now (rules .entry)) (now (parts .entry)) counts) capacity pending charge (now (before .entry)) (now (after .entry)) p (heldOf gone (now (index .entry)) (now (pool .entry))) (now (memo .exit)) (heldOf gone (now (index .exit)) (now (pool .exit))) r ⌝ }
+    requires { ⌜ Reacting (now deck) counts (now rules) (now parts) (now memo) (heldOf gone (now index) (now pool)) capacity pending charge × (length (now values) ≡ 512) × (p < counts .parts) ⌝ }
+    ensures { λ r. ⌜ Reacts (deckOf (now (deck .entry))) (shape (now (rules .entry)) (now (parts .entry)) counts) capacity pending charge (now (values .entry)) p changed (heldOf gone (now (index .entry)) (now (pool .entry))) (now (memo .exit)) (heldOf gone (now (index .exit)) (now (pool .exit))) r ⌝ }
 {
-    let mask = firing::changed(before, after, p, counts.channels);
     let queue = Queue {
         pending: pending,
         charge: charge,
         full: false,
     };
-    fire(deck, counts, rules, parts, memo, index, pool, gone, capacity, queue, after, p, mask)
+    fire(deck, counts, rules, parts, memo, index, pool, gone, capacity, queue, values, p, changed)
 }
 
-// The values of one part, copied from one table into another.
-fn copy_part(to: &mut [i32], from: &[i32], part: usize)
-    requires { ⌜ (length (now to) ≡ 512) × (length (now from) ≡ 512) × (part < 16) ⌝ }
-    ensures { λ _. ⌜ now (to .exit) ≡ partCopied part (now (from .entry)) (now (to .entry)) ⌝ }
-{
-    let base = Deck::CHANNELS * part;
-    let end = base + Deck::CHANNELS;
-    pool::write_update(&mut to[base..], &from[base..end]);
-}
-
-// The update that a place holds, applied. The answer is its part.
-fn apply(values: &mut [i32], place: &[i32], parts: usize) -> usize
-    requires { ⌜ Appliable (now place) parts × (length (now values) ≡ 512) ⌝ }
-    ensures { λ r. ⌜ (r ≡ updateOf (now (place .entry)) .part) × (now (values .exit) ≡ assign (updateOf (now (place .entry)) .part) (updateOf (now (place .entry)) .pairs) (now (values .entry))) ⌝ }
-{
-    let part = states::number_at(place, 0, parts);
-    let count = states::number_at(place, 1, 5);
-    let to = 2 + 2 * count;
-    firing::assign_pairs(values, part, &place[2..to]);
-    part
-}
-
-// The part of an update, and its charge, up to 65,536.
+// The part of an update and the number of its pairs, its charge, up to 65,536, and the channels that it changes, as a set.
 pub struct Looked {
     pub part: usize,
+    pub count: usize,
     pub charge: u32,
+    pub changed: u64,
 }
 
-// The update at place k, applied.
+// The update at place k, applied. `back` begins then with the pairs that set its channels back.
 fn look(
     counts: Deck,
     rules: &[u64],
@@ -355,19 +335,29 @@ fn look(
     memo: &mut [u32],
     pool: &[i32],
     values: &mut [i32],
+    back: &mut [i32],
     pending: usize,
     k: usize,
 ) -> Looked
-    requires { ⌜ Looking counts (now rules) (now parts) (now memo) (now pool) pending k × (length (now values) ≡ 512) ⌝ }
-    ensures { λ r. ⌜ Looks (shape (now (rules .entry)) (now (parts .entry)) counts) k (now (values .entry)) (now (pool .entry)) (now (memo .exit)) (r .part) (now (values .exit)) (r .charge) ⌝ }
+    requires { ⌜ Looking counts (now rules) (now parts) (now memo) (now pool) pending k × (length (now values) ≡ 512) × (length (now back) ≡ 8) ⌝ }
+    ensures { λ r. ⌜ Looks (shape (now (rules .entry)) (now (parts .entry)) counts) k (now (values .entry)) (now (pool .entry)) (now (memo .exit)) (now (values .exit)) (now (back .exit)) (r .part) (r .count) (r .charge) (r .changed) ⌝ }
 {
     let at = 10 * k;
     let end = at + 10;
-    let c = states::place_charge(rules, parts, memo, counts.channels, counts.rules, counts.parts, &pool[at..end]);
-    let part = apply(values, &pool[at..end], counts.parts);
+    let place = &pool[at..end];
+    let part = states::number_at(place, 0, counts.parts);
+    let count = states::number_at(place, 1, 5);
+    let mask = states::channels_of(place);
+    let c = charge::update_charge(rules, parts, memo, counts.channels, counts.rules, counts.parts, part, mask);
+    let to = 2 + 2 * count;
+    let pairs = &place[2..to];
+    let changed = firing::compare(values, part, pairs, back);
+    firing::assign_pairs(values, part, pairs);
     Looked {
         part: part,
+        count: count,
         charge: c,
+        changed: changed,
     }
 }
 
@@ -378,8 +368,8 @@ pub struct Step {
     pub applied: bool,
 }
 
-// The rest of a commit, when the update is out of the pool and applied: the limit of its part decides. `before` has the values as
-// they were; both tables are equal afterwards.
+// The rest of a commit, when the update is out of the pool and applied: the limit of its part decides. `back` has the pairs that
+// set its channels back.
 fn finish(
     deck: &[u8],
     counts: Deck,
@@ -390,25 +380,25 @@ fn finish(
     pool: &mut [i32],
     gone: usize,
     capacity: u32,
-    before: &mut [i32],
+    back: &[i32],
     values: &mut [i32],
     part: usize,
+    changed: u64,
     pending: usize,
     charge: u32,
 ) -> Step
-    requires { ⌜ Finishing (now deck) counts (now rules) (now parts) (now memo) (heldOf gone (now index) (now pool)) capacity (now before) part (now values) pending charge ⌝ }
-    ensures { λ r. ⌜ Finishes (deckOf (now (deck .entry))) (shape (now (rules .entry)) (now (parts .entry)) counts) capacity (now (before .entry)) part (now (values .entry)) pending charge (heldOf gone (now (index .entry)) (now (pool .entry))) (now (memo .exit)) (heldOf gone (now (index .exit)) (now (pool .exit))) (now (before .exit)) (now (values .exit)) (r .pending) (r .charge) (r .applied) ⌝ }
+    requires { ⌜ Finishing (now deck) counts (now rules) (now parts) (now memo) (heldOf gone (now index) (now pool)) capacity (now back) (now values) part changed pending charge ⌝ }
+    ensures { λ r. ⌜ Finishes (deckOf (now (deck .entry))) (shape (now (rules .entry)) (now (parts .entry)) counts) capacity (now (back .entry)) (now (values .entry)) part changed pending charge (heldOf gone (now (index .entry)) (now (pool .entry))) (now (memo .exit)) (heldOf gone (now (index .exit)) (now (pool .exit))) (now (values .exit)) (r .pending) (r .charge) (r .applied) ⌝ }
 {
     if passing::within(deck, counts, parts, values, part) {
-        let queue = react(deck, counts, rules, parts, memo, index, pool, gone, capacity, pending, charge, before, values, part);
-        copy_part(before, values, part);
+        let queue = react(deck, counts, rules, parts, memo, index, pool, gone, capacity, pending, charge, values, part, changed);
         return Step { pending: queue.pending, charge: queue.charge, applied: true };
     }
-    copy_part(values, before, part);
+    firing::assign_pairs(values, part, back);
     Step { pending: pending, charge: charge, applied: false }
 }
 
-// The commit of place k: it is taken out, and later places move down. Both tables hold the values.
+// The commit of place k: it is taken out, and later places move down.
 pub fn commit(
     deck: &[u8],
     counts: Deck,
@@ -418,20 +408,21 @@ pub fn commit(
     index: &mut [u16],
     pool: &mut [i32],
     capacity: u32,
-    before: &mut [i32],
     values: &mut [i32],
     pending: usize,
     charge: u32,
     k: usize,
 ) -> Step
-    requires { ⌜ Committing (now deck) counts (now rules) (now parts) (now memo) (heldOf 0 (now index) (now pool)) capacity (now values) pending charge × (now before ≡ now values) × (k < pending) ⌝ }
+    requires { ⌜ Committing (now deck) counts (now rules) (now parts) (now memo) (heldOf 0 (now index) (now pool)) capacity (now values) pending charge × (k < pending) ⌝ }
     ensures { λ r. ⌜ Commits (deckOf (now (deck .entry))) (shape (now (rules .entry)) (now (parts .entry)) counts) capacity k (heldOf 0 (now (index .entry)) (now (pool .entry))) (now (values .entry)) pending charge (now (memo .exit)) (heldOf 0 (now (index .exit)) (now (pool .exit))) (now (values .exit)) (r .pending) (r .charge) (r .applied) ⌝ }
 {
-    let found = look(counts, rules, parts, memo, pool, values, pending, k);
+    let mut back = [0i32; 2 * Deck::ASSIGNMENTS];
+    let found = look(counts, rules, parts, memo, pool, values, &mut back, pending, k);
     pool::take_out(pool, pending, k);
     index::forget(index, pending, k);
     let left = charge - found.charge;
-    finish(deck, counts, rules, parts, memo, index, pool, 0, capacity, before, values, found.part, pending - 1, left)
+    let held = 2 * found.count;
+    finish(deck, counts, rules, parts, memo, index, pool, 0, capacity, &back[..held], values, found.part, found.changed, pending - 1, left)
 }
 
 // The commit of place 0, where the others stay: the pool from the next place on is lent.
@@ -445,15 +436,16 @@ pub fn commit_front(
     pool: &mut [i32],
     gone: usize,
     capacity: u32,
-    before: &mut [i32],
     values: &mut [i32],
     pending: usize,
     charge: u32,
 ) -> Step
-    requires { ⌜ Committing (now deck) counts (now rules) (now parts) (now memo) (heldOf gone (now index) (now pool)) capacity (now values) pending charge × (now before ≡ now values) × (0 < pending) ⌝ }
-    ensures { λ r. ⌜ CommitsFront (deckOf (now (deck .entry))) (shape (now (rules .entry)) (now (parts .entry)) counts) capacity (heldOf gone (now (index .entry)) (now (pool .entry))) (now (values .entry)) pending charge (now (memo .exit)) (heldOf (gone + 1) (now (index .exit)) (drop 10 (now (pool .exit)))) (now (values .exit)) (r .pending) (r .charge) (r .applied) × (now (before .exit) ≡ now (values .exit)) ⌝ }
+    requires { ⌜ Committing (now deck) counts (now rules) (now parts) (now memo) (heldOf gone (now index) (now pool)) capacity (now values) pending charge × (0 < pending) ⌝ }
+    ensures { λ r. ⌜ CommitsFront (deckOf (now (deck .entry))) (shape (now (rules .entry)) (now (parts .entry)) counts) capacity (heldOf gone (now (index .entry)) (now (pool .entry))) (now (values .entry)) pending charge (now (memo .exit)) (heldOf (gone + 1) (now (index .exit)) (drop 10 (now (pool .exit)))) (now (values .exit)) (r .pending) (r .charge) (r .applied) ⌝ }
 {
-    let found = look(counts, rules, parts, memo, pool, values, pending, 0);
+    let mut back = [0i32; 2 * Deck::ASSIGNMENTS];
+    let found = look(counts, rules, parts, memo, pool, values, &mut back, pending, 0);
     let left = charge - found.charge;
-    finish(deck, counts, rules, parts, memo, index, &mut pool[Deck::PLACE..], gone + 1, capacity - 1, before, values, found.part, pending - 1, left)
+    let held = 2 * found.count;
+    finish(deck, counts, rules, parts, memo, index, &mut pool[Deck::PLACE..], gone + 1, capacity - 1, &back[..held], values, found.part, found.changed, pending - 1, left)
 }

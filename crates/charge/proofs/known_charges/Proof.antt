@@ -1,9 +1,14 @@
 -- `charge::known_charges` meets its contract: the memo has the row, or `rule_charges` writes it. Assumes nothing.
 use native.Mathlib.Omega.{arith}
 use borrow.Author.Needs.{needs}
-use Rattle.charge.proofs.RowCharges.{gives-known}
+use Rattle.charge.proofs.RowCharges.{row-room, gives-known}
 use Rattle.charge.proofs.known_charges.Statement.{statement}
 use Rattle.charge.proofs.known_charges.Tie as tie
+
+slice-read-if1 : tie.Need-slice-read-if1
+slice-read-if1 c =
+    let s = c .before .before .before .before in
+    omega (arith, row-room (s .pre .0 .tables) (s .pre .0 .memo) (s .args .r) (s .pre .1))
 
 returns : tie.Need-returns
 returns c =
@@ -22,7 +27,7 @@ known-charges-spec =
     (tie.spec
     (λ c. omega arith)
     (λ c. omega arith)
-    (λ c. omega arith)
+    slice-read-if1
     returns
     rule-charges-requires
     same-length

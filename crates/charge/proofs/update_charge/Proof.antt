@@ -1,31 +1,32 @@
 -- `charge::update_charge` meets its contract: the charges of the rules passed are added, up to the cap, and the memo is
 -- right. Assumes nothing.
-use Prim.Native.Nat.{_-_, _≤_}
+use Prim.Native.Nat.{_-_}
 use mathlib.Core.Path.{refl, sym, _∙_}
 use native.Mathlib.Omega.{arith}
 use Rattle.lists.specs.Laws.Through.{Through, through-next, through-here, through-all}
+use Rattle.lists.specs.Laws.Walks.{Walk, walk-first, walk-on, walk-next}
 use Rattle.deck.specs.Shape.{bitsOf, shapeOf}
 use Rattle.charge.proofs.Terms.{heard}
 use Rattle.charge.proofs.Sums.{Summing, same, small, none-yet, skip, more}
 use Rattle.charge.proofs.Tabled.{update-all, heard-yes, heard-no, hears-carried}
-use Rattle.charge.proofs.RowCharges.{gives-charge}
+use Rattle.charge.proofs.RowCharges.{row-room, gives-charge}
 use Rattle.charge.proofs.update_charge.Statement.{statement}
 use Rattle.charge.proofs.update_charge.Tie as tie
 
 abbrev Inv-loop : tie.InvT-loop
-Inv-loop rules parts memo₀ channels count parts-count p mask set total₀ r₀ memo total r =
+Inv-loop rules parts memo₀ channels count parts-count p mask set total₀ left₀ r₀ memo total left r =
     let d = shapeOf rules parts channels count parts-count in
-    (r ≤ 64) × Through set count (Summing d 1 (heard d p (bitsOf 32 mask)) memo total) r
+    Walk set left r × Through set count (Summing d 1 (heard d p (bitsOf 32 mask)) memo total) r
 
 abbrev μ-loop : tie.MeasureT-loop
-μ-loop rules parts memo₀ channels count parts-count p mask set total₀ r₀ memo total r = 64 - r
+μ-loop rules parts memo₀ channels count parts-count p mask set total₀ left₀ r₀ memo total left r = 64 - r
 
 loop-holds : tie.Need-loop-holds Inv-loop μ-loop
 loop-holds c =
     let s = c .before .before .before .before .before in
-    let n = c .next-in .ensures in
+    let n = c .lowest .ensures in
     let set = c .before .active .ensures in (
-      n .most,
+      walk-first n,
       through-next n (omega arith) (s .pre .0 .tables .few-rules)
           (λ i a b f w. skip w (heard-no (s .pre .0 .tables) i b (s .args .mask) (s .args .p) (s .pre .1) (sym (set .each i b) ∙ f)))
           (none-yet (record { value = refl; memo = s .pre .0 .memo })),
@@ -43,7 +44,14 @@ known-charges-requires c κs =
     )
 
 slice-read-capped-sum : tie.Need-slice-read-capped-sum Inv-loop μ-loop
-slice-read-capped-sum c = omega (arith, c .before .before .before .known-charges .ensures .memo .long)
+slice-read-capped-sum c =
+    let t = c .before .before .before .before .before in
+    let s = t .before .before .before .before .before .before .before in
+    omega (
+      arith,
+      s .pre .0 .tables .few-parts,
+      row-room (s .pre .0 .tables) (c .before .before .before .known-charges .ensures .memo) (t .before .loop .r) (t .loop-test .taken),
+    )
 
 sub-capped-sum : tie.Need-sub-capped-sum Inv-loop μ-loop
 sub-capped-sum c =
@@ -58,23 +66,27 @@ capped-sum-requires c κs =
     omega (arith, small (c .before .before .before .before .before .before .loop .inv .1 .done .sum), small g)
 
 loop-less : tie.Need-loop-less Inv-loop μ-loop
-loop-less c = omega (arith, c .next-in2 .ensures .on (omega arith), c .next-in2 .ensures .most)
+loop-less c =
+    let w = c .before .before .before .before .before .before .before .before .before .loop .inv .0 in
+    let n = walk-on w (c .before .rest .ensures) (c .lowest2 .ensures) in
+    omega (arith, n .on (omega arith), n .most)
 
 loop-again : tie.Need-loop-again Inv-loop μ-loop
 loop-again c =
-    let s = c .before .before .before .before .before .before .before .before .before .before .before .before .before .before in
+    let s = c .before .before .before .before .before .before .before .before .before .before .before .before .before .before .before in
     let h = s .pre .0 .tables in
-    let i = c .before .before .before .before .before .before .before .before .loop in
-    let k = c .before .before .before .before .before .before .before .loop-test .taken in
-    let set = c .before .before .before .before .before .before .before .before .before .before .active .ensures in
-    let n = c .next-in2 .ensures in (
-      n .most,
-      through-next n (omega arith) (h .few-rules)
+    let i = c .before .before .before .before .before .before .before .before .before .loop in
+    let k = c .before .before .before .before .before .before .before .before .loop-test .taken in
+    let set = c .before .before .before .before .before .before .before .before .before .before .before .active .ensures in
+    let left = c .before .rest .ensures in
+    let low = c .lowest2 .ensures in (
+      walk-next (i .inv .0) left low,
+      through-next (walk-on (i .inv .0) left low) (omega arith) (h .few-rules)
           (λ i a b f w. skip w (heard-no h i b (s .args .mask) (s .args .p) (s .pre .1) (sym (set .each i b) ∙ f)))
           (more (through-here (i .inv .1) k)
           (heard-yes h (i .r) k (s .args .mask) (s .args .p) (s .pre .1)
           (sym (set .each (i .r) k) ∙ i .inv .1 .found (omega arith)))
-          (gives-charge h (c .before .before .before .before .before .known-charges .ensures) (s .args .p) (s .pre .1)) (c .before .capped-sum .ensures)),
+          (gives-charge h (c .before .before .before .before .before .before .known-charges .ensures) (s .args .p) (s .pre .1)) (c .before .before .capped-sum .ensures)),
     )
 
 same-length : tie.Need-same-length Inv-loop μ-loop
@@ -102,7 +114,7 @@ update-charge-spec =
     slice-read-capped-sum
     sub-capped-sum
     capped-sum-requires
-    (λ c. omega arith)
+    (λ c κs. omega arith)
     (λ c κs. omega arith)
     loop-less
     loop-again

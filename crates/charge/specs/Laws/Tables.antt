@@ -1,27 +1,44 @@
--- What the functions of this crate take is there at the start: a memo of zeros knows nothing, and the listeners are noted
--- beside what the deck is read from. Assumes nothing.
-use Prim.Native.Nat.{ℕ, zero, suc, _+_, _*_}
-use mathlib.Core.Path.{_≡_, refl, sym, ap, fun-ext}
+-- What the functions of this crate take is there at the start: a memo of zeros knows nothing and has a row for each rule, and
+-- the listeners are noted beside what the deck is read from. Assumes nothing.
+use Prim.Native.Nat.{ℕ, zero, suc, _+_, _*_, _≤_, _<_}
+use mathlib.Core.Path.{_≡_, refl, sym, ap, _∙_, fun-ext}
+use mathlib.Core.Bool.{Bool, true, false, cond}
 use mathlib.Core.List.{List, map}
 use native.Mathlib.Omega.{arith}
-use lib.ListN.{getD, replicate, length-replicate}
+use lib.Dec.{leb}
+use lib.ListN.{length, getD, replicate, length-replicate}
+use borrow.Author.Tests.{leb-true}
 use Rattle.lists.specs.Lists.{below}
-use Rattle.deck.specs.Deck.{Deck, Rule}
+use Rattle.deck.specs.Deck.{Deck, Rule, M}
 use Rattle.deck.specs.Shape.{ruleShape, partShape, shapeOf}
-use Rattle.charge.specs.Memo.{OthersKept, Memo}
+use Rattle.deck.specs.Laws.Shape.{shape-M}
+use Rattle.charge.specs.Memo.{OthersKept, memoSize, Memo}
 
 zeros : (n i : ℕ) → getD {A = ℕ} (replicate n 0) i 0 ≡ 0
 zeros zero i = refl
 zeros (suc n) zero = refl
 zeros (suc n) (suc i) = zeros n i
 
-pub memo-new : (d : Deck) → Memo d (replicate 1024 0)
+pub memo-new : (d : Deck) → Memo d (replicate (memoSize (M d)) 0)
 memo-new d =
     record {
-      long = length-replicate {A = ℕ} 1024 0;
-      right = λ i h. absurd (h (zeros 1024 i));
-      whole = λ r q _ h. absurd (h (zeros 1024 (16 * r)));
+      long = length-replicate {A = ℕ} (memoSize (M d)) 0;
+      right = λ i h. absurd (h (zeros (memoSize (M d)) i));
+      whole = λ r q _ h. absurd (h (zeros (memoSize (M d)) (16 * r)));
     }
+
+-- the row of a rule is within the memo
+pub memo-room : (n r : ℕ) → r < n → n ≤ 64 → 16 * r + 16 ≤ memoSize n
+unfolding memoSize
+memo-room n r l few = go (leb n 16) refl
+  where
+    go : (b : Bool) → leb n 16 ≡ b → 16 * r + 16 ≤ cond b 256 1024
+    go true e = omega (arith, leb-true n 16 e)
+    go false e = omega arith
+
+-- the length of a memo, by the count of rules that the tables are read with
+pub memo-long : (rules parts : List ℕ) (R M′ N : ℕ) {m : List ℕ} → Memo (shapeOf rules parts R M′ N) m → length m ≡ memoSize M′
+memo-long rules parts R M′ N h = h .long ∙ ap memoSize (shape-M rules parts R M′ N)
 
 -- column 7 plays no role for the shape
 module _ {rules₀ rules : List ℕ} (h : OthersKept rules₀ rules) where

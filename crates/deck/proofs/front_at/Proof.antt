@@ -4,6 +4,7 @@ use native.Mathlib.Omega.{arith}
 use lib.ListN.{drop}
 use borrow.Author.Needs.{needs}
 use Rattle.deck.specs.Laws.Turns.{got-value, number-below}
+use Rattle.deck.specs.Laws.RuleCount.{count-read}
 use Rattle.deck.specs.Laws.DeckSteps.{no-channels, no-labels, no-rules, front-read}
 use Rattle.deck.proofs.front_at.Statement.{statement}
 use Rattle.deck.proofs.front_at.Tie as tie
@@ -95,17 +96,20 @@ rules-at-requires c κs =
     let i = c .before .before in
     let m = i .before .before in
     let j = m .before .before in
-    let k = j .before .before .before .before in
+    let l = j .before .before in
+    let k = l .before .before in
     let n = k .before .before in
     let start = n .before .before .before in
     let a = start .args in
     let read = rw (k .first .given .1) at (n .number-at .ensures) in
     let got = got-value (a .s .now) (k .first .given .0 .0) (n .number-at .result .value) read in
     let channels = number-below 1 33 (a .s .now) 0 _ got in
+    let labels = rw (j .after .given .1) at (l .labels-at .ensures) in
     let count = rw (i .count .given .1) at (m .number-at2 .ensures) in
     let gotCount = got-value (a .s .now) (i .count .given .0 .0) (m .number-at2 .result .value) count in
     let rules = number-below 0 65 (drop (j .after .given .0 .0) (a .s .now)) (j .after .given .0 .0) _ gotCount in
-    (count .2, omega (arith, channels), omega (arith, rules, start .pre))
+    let told = count-read (a .s .now) _ got _ (labels .1) _ gotCount .1 in
+    (count .2, omega (arith, channels), omega (arith, told, start .pre (omega (arith, told, rules))))
 
 same-length : tie.Need-same-length
 same-length c = search needs

@@ -46,7 +46,7 @@ each-read P r t s p (suc n) at g e =
     subst (Each P) (given _ (drop (xs .0 .at) s) (xs .0 .at) g (xs .2))
     (p at (x .0) (x .1), each-read P r t s p n (x .0 .at) (xs .0) (xs .1))
 
-rule-tracks : (R : ℕ) → Tracks (markedRule R)
+pub rule-tracks : (R : ℕ) → Tracks (markedRule R)
 unfolding markedRule _>>=_
 rule-tracks R =
     then-tracks (number 1 9) _ (number-tracks 1 9)
@@ -58,7 +58,7 @@ rule-tracks R =
     then-tracks (action (ownOnly R)) _ (action-tracks (ownOnly R))
     (λ default. then-tracks (markedTask R) _ (task-tracks R) (λ task. give-tracks _)))))
 
-part-tracks : (R M : ℕ) → Tracks (markedPart R M)
+pub part-tracks : (R M : ℕ) → Tracks (markedPart R M)
 unfolding markedPart _>>=_
 part-tracks R M =
     then-tracks here _ here-tracks
@@ -72,7 +72,7 @@ part-tracks R M =
     then-tracks here _ here-tracks
     (λ l. then-tracks (expression (wholeTruth (ownOnly R))) _ (expression-tracks (wholeTruth (ownOnly R))) (λ limit. give-tracks _))))))
 
-front-tracks : Tracks markedFront
+pub front-tracks : Tracks markedFront
 unfolding markedFront _>>=_
 front-tracks =
     then-tracks (number 1 33) _ (number-tracks 1 33)
@@ -98,7 +98,7 @@ front-points s at g e =
     subst (λ (m : MarkedFront). Each (RulePoints (m .channels) s) (m .rules)) (given _ (drop (i4 .0 .at) s) (i4 .0 .at) g (i4 .2))
     (each-read (RulePoints R s) (markedRule R) (rule-tracks R) s (rule-points R s) M (i3 .0 .at) (i4 .0) (i4 .1))
 
-end-tracks : Tracks end
+pub end-tracks : Tracks end
 unfolding end
 end-tracks s at g e = go (drop at s) refl e
   where

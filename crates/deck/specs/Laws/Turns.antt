@@ -44,7 +44,7 @@ number-cons lo hi b s at = go (leb lo b && ltb b hi)
 
 -- the byte that stands at an offset is read, or it is outside its range
 module _ (lo hi : ℕ) (s : List ℕ) (at : ℕ) (h : at < length s) where
-  by-test : (t : Bool) → (leb lo (getD s at 0) && ltb (getD s at 0) hi) ≡ t
+  pub by-test : (t : Bool) → (leb lo (getD s at 0) && ltb (getD s at 0) hi) ≡ t
       → number lo hi (drop at s) at ≡ cond t (accepted (gotByte (getD s at 0) s at)) (refused outOfRange at)
   by-test t e =
       rw (drop-cons s at 0 h, add-one at)

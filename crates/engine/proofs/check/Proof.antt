@@ -1,35 +1,27 @@
--- `engine::check` meets its contract. Assumes nothing.
-use mathlib.Core.Path.{refl, sym}
-use native.Mathlib.Omega.{arith}
+-- `engine::check` meets its contract: the tables are as long as the deck needs them, and the rest is the same. Assumes nothing.
+use mathlib.Core.Path.{refl}
 use borrow.Author.Needs.{needs}
-use Rattle.engine.specs.Laws.CheckAnswers.{check-refused, check-whole}
+use Rattle.engine.specs.Laws.Tables.{zero-rules, zero-memo}
 use Rattle.engine.proofs.check.Statement.{statement}
 use Rattle.engine.proofs.check.Tie as tie
 
--- the needs in the order of the code: the tables, the tests, and for each of their answers what the call answers
+-- the needs in the order of the code
 pub check-spec : {M : Type 1} → statement M
 check-spec =
     tie.close
     (tie.spec
+    (λ c κs. search needs)
     (λ c. refl)
     (λ c. refl)
+    (λ c κs.
+    let i = c .before .before in
+    let few = i .before .few-rules .ensures in
+    (zero-rules _ few (i .if1 .taken), zero-memo _ few (i .if1 .taken)))
+    (λ c. c .before .before .check-with .ensures)
     (λ c. refl)
-    (λ c κs. (refl, refl, refl))
-    (λ c. search needs)
-    (λ c.
-    let j = c .before .before in
-    let w = rw (j .verdict .given .1) at (j .before .before .before .before .before .judge .ensures) in
-    omega (arith, w .tabled .counts .channels, w .tabled .counts .formed .channels))
-    (λ c.
-    let j = c .before .before .before in
-    let w = rw (j .verdict .given .1) at (j .before .before .before .before .before .judge .ensures) in
-    omega (arith, w .tabled .counts .rules, w .tabled .counts .formed .rules))
-    (λ c.
-    let j = c .before .before .before .before in
-    let w = rw (j .verdict .given .1) at (j .before .before .before .before .before .judge .ensures) in
-    omega (arith, w .tabled .counts .parts, w .tabled .counts .formed .parts))
-    (λ c. search needs)
-    (λ c.
-    let j = c .before .before .before .before in
-    sym (check-whole _ _ _ _ _ _ (rw (j .verdict .given .1) at (j .before .before .before .before .before .judge .ensures))))
-    (λ c. sym (check-refused _ _ _ (rw (c .before .verdict2 .given .1) at (c .before .before .before .before .before .before .judge .ensures)))))
+    (λ c. refl)
+    (λ c κs.
+    let i = c .before .before in
+    let few = i .before .few-rules .ensures in
+    (zero-rules _ few (i .if1 .left), zero-memo _ few (i .if1 .left)))
+    (λ c. c .before .before .check-with2 .ensures))

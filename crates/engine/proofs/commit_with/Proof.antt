@@ -1,55 +1,31 @@
--- `engine::commit_with` meets its contract. Assumes nothing.
-use mathlib.Core.Path.{refl, sym}
-use native.Mathlib.Omega.{arith}
+-- `engine::commit_with` meets its contract: the tables are as long as the deck needs them, and the rest is the same. Assumes nothing.
+use mathlib.Core.Path.{refl}
 use borrow.Author.Needs.{needs}
-use Rattle.engine.specs.Laws.CommitAnswers.{commit-declined, commit-no-place, commit-made}
+use Rattle.engine.specs.Laws.Tables.{zero-rules, zero-memo}
 use Rattle.engine.proofs.commit_with.Statement.{statement}
 use Rattle.engine.proofs.commit_with.Tie as tie
 
--- the needs in the order of the code: the tables, the tests, and for each of their answers what the call answers
+-- the needs in the order of the code
 pub commit-with-spec : {M : Type 1} → statement M
 commit-with-spec =
     tie.close
     (tie.spec
+    (λ c κs. search needs)
     (λ c. refl)
     (λ c. refl)
-    (λ c. refl)
-    (λ c κs. (refl, refl, refl, c .before .before .before .before .before .before .before .before .before .before .pre))
-    (λ c. search needs)
-    (λ c. search needs)
-    (λ c. search needs)
-    (λ c. search needs)
-    (λ c.
-    let f = c .before .before in
-    let w = rw (f .found2 .given .1) at (f .before .before .before .before .before .before .before .test-lent .ensures) in
-    sym (commit-no-place _ _ _ _ (w .accepted) (c .if1 .taken)))
-    (λ c.
-    let f = c .before .before .before in
-    let w = rw (f .found2 .given .1) at (f .before .before .before .before .before .before .before .test-lent .ensures) in
-    sym (w .entering .tabled .ruleTable .long))
-    (λ c.
-    let f = c .before .before .before .before in
-    let w = rw (f .found2 .given .1) at (f .before .before .before .before .before .before .before .test-lent .ensures) in
-    sym (w .entering .tabled .partTable .long))
-    (λ c.
-    let f = c .before .before .before .before .before in
-    let w = rw (f .found2 .given .1) at (f .before .before .before .before .before .before .before .test-lent .ensures) in
-    sym (w .entering .ready .memo .long))
     (λ c κs.
-    let i = c .before .before .before .before .before in
-    let f = i .before .before in
-    let w = rw (f .found2 .given .1) at (f .before .before .before .before .before .before .before .test-lent .ensures) in
-    (w .entering, omega (arith, i .if1 .left)))
+    let i = c .before .before .before .before .before .before in
+    let few = i .before .few-rules .ensures in
+    (i .before .before .before .before .pre, zero-rules _ few (i .if1 .taken), zero-memo _ few (i .if1 .taken)))
     (λ c. search needs)
     (λ c. search needs)
-    (λ c.
-    let f = c .before in
-    sym (commit-declined _ _ _ _ _ (rw (f .found .given .1) at (f .before .before .before .before .before .before .before .test-lent .ensures))))
+    (λ c. c .before .before .before .before .before .commit-on .ensures)
+    (λ c. refl)
+    (λ c. refl)
+    (λ c κs.
+    let i = c .before .before .before .before .before .before in
+    let few = i .before .few-rules .ensures in
+    (i .before .before .before .before .pre, zero-rules _ few (i .if1 .left), zero-memo _ few (i .if1 .left)))
     (λ c. search needs)
     (λ c. search needs)
-    (λ c.
-    let t = c .before .before .before .before in
-    let i = t .before .before .before .before .before .before in
-    let f = i .before .before in
-    let w = rw (f .found2 .given .1) at (f .before .before .before .before .before .before .before .test-lent .ensures) in
-    commit-made _ _ _ (w .accepted) (w .loaded) (t .commit-tested .ensures) (t .commit-tested .kept .1 .1 .1 .1 .1 .1 .0) (omega (arith, i .if1 .left))))
+    (λ c. c .before .before .before .before .before .commit-on2 .ensures))

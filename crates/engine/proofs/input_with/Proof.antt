@@ -1,46 +1,31 @@
--- `engine::input_with` meets its contract: the tests, and for each of their answers what the call answers. Assumes nothing.
+-- `engine::input_with` meets its contract: the tables are as long as the deck needs them, and the rest is the same. Assumes nothing.
+use mathlib.Core.Path.{refl}
 use borrow.Author.Needs.{needs}
-use Rattle.engine.specs.Laws.InputAnswers.{input-refused, input-answers}
+use Rattle.engine.specs.Laws.Tables.{zero-rules, zero-memo}
 use Rattle.engine.proofs.input_with.Statement.{statement}
 use Rattle.engine.proofs.input_with.Tie as tie
 
-enter-requires : tie.Need-enter-requires
-enter-requires c κs =
-    let f = c .before .before .before .before .before .before in
-    (rw (f .found2 .given .1) at (f .before .before .before .before .before .before .before .test-lent .ensures)) .entering
-
-returns : tie.Need-returns
-returns c =
-    let f = c .before in
-    input-refused _ _ _ _ _ _ (rw (f .found .given .1) at (f .before .before .before .before .before .before .before .test-lent .ensures))
-
--- the call keeps the length of the pool
-long : tie.Need-same-length-3
-long c = search needs
-
-returns-2 : tie.Need-returns-2
-returns-2 c =
-    let f = c .before .before .before .before .before .before .before .before .before .before .before in
-    let w = rw (f .found2 .given .1) at (f .before .before .before .before .before .before .before .test-lent .ensures) in
-    input-answers w _ _ (long c) (c .before .before .before .before .enter .ensures)
-
+-- the needs in the order of the code
 pub input-with-spec : {M : Type 1} → statement M
 input-with-spec =
     tie.close
     (tie.spec
-    (λ c. search needs)
-    (λ c. search needs)
-    (λ c. search needs)
     (λ c κs. search needs)
+    (λ c. refl)
+    (λ c. refl)
+    (λ c κs.
+    let i = c .before .before .before .before .before .before in
+    let few = i .before .few-rules .ensures in
+    (i .before .before .before .before .pre, zero-rules _ few (i .if1 .taken), zero-memo _ few (i .if1 .taken)))
     (λ c. search needs)
     (λ c. search needs)
+    (λ c. c .before .before .before .before .before .input-on .ensures)
+    (λ c. refl)
+    (λ c. refl)
+    (λ c κs.
+    let i = c .before .before .before .before .before .before in
+    let few = i .before .few-rules .ensures in
+    (i .before .before .before .before .pre, zero-rules _ few (i .if1 .left), zero-memo _ few (i .if1 .left)))
     (λ c. search needs)
     (λ c. search needs)
-    (λ c. search needs)
-    enter-requires
-    (λ c. search needs)
-    (λ c. search needs)
-    returns
-    long
-    (λ c. search needs)
-    returns-2)
+    (λ c. c .before .before .before .before .before .input-on2 .ensures))

@@ -1,54 +1,27 @@
--- `engine::section` meets its contract. Assumes nothing.
-use mathlib.Core.Path.{refl, sym, ap, _∙_}
-use native.Mathlib.Omega.{arith}
+-- `engine::section` meets its contract: the tables are as long as the deck needs them, and the rest is the same. Assumes nothing.
+use mathlib.Core.Path.{refl}
 use borrow.Author.Needs.{needs}
-use Rattle.engine.specs.Answers.{sectionOf}
-use Rattle.engine.specs.Laws.SectionAnswers.{section-refused, section-unknown, section-known, section-order}
+use Rattle.engine.specs.Laws.Tables.{zero-rules, zero-memo}
 use Rattle.engine.proofs.section.Statement.{statement}
 use Rattle.engine.proofs.section.Tie as tie
 
-returns : tie.Need-returns
-returns c =
-    let j = c .before .before .before in
-    let w = rw (j .judged2 .given .1) at (j .before .before .before .before .before .judge .ensures) in
-    sym (section-unknown _ _ _ _ _ _ w _ (c .before .if1 .taken))
-
-stretch-requires : tie.Need-stretch-requires
-stretch-requires c κs =
-    let j = c .before .before in
-    let w = rw (j .judged2 .given .1) at (j .before .before .before .before .before .judge .ensures) in
-    let o = section-order _ _ _ _ _ _ w in
-    (o .0, o .1, omega (arith, c .if1 .left))
-
-returns-2 : tie.Need-returns-2
-returns-2 c =
-    let j = c .before .before in
-    let w = rw (j .judged .given .1) at (j .before .before .before .before .before .judge .ensures) in
-    sym (section-refused _ _ _ _ w)
-
-returns-3 : tie.Need-returns-3
-returns-3 c =
-    let j = c .before .before .before in
-    let w = rw (j .judged2 .given .1) at (j .before .before .before .before .before .judge .ensures) in
-    ap (λ l. sectionOf l 0 0) (c .stretch .ensures) ∙ sym (section-known _ _ _ _ _ _ w _ (omega (arith, c .before .if1 .left)))
-
+-- the needs in the order of the code
 pub section-spec : {M : Type 1} → statement M
 section-spec =
     tie.close
     (tie.spec
+    (λ c κs. search needs)
     (λ c. refl)
     (λ c. refl)
+    (λ c κs.
+    let i = c .before .before .before .before in
+    let few = i .before .few-rules .ensures in
+    (zero-rules _ few (i .if1 .taken), zero-memo _ few (i .if1 .taken)))
+    (λ c. c .before .before .section-with .ensures)
     (λ c. refl)
-    (λ c κs. (refl, refl, refl))
-    (λ c. search needs)
-    (λ c. search needs)
-    (λ c. search needs)
-    (λ c. search needs)
-    (λ c. search needs)
-    (λ c. search needs)
-    (λ c. search needs)
-    (λ c. search needs)
-    returns
-    stretch-requires
-    returns-2
-    returns-3)
+    (λ c. refl)
+    (λ c κs.
+    let i = c .before .before .before .before in
+    let few = i .before .few-rules .ensures in
+    (zero-rules _ few (i .if1 .left), zero-memo _ few (i .if1 .left)))
+    (λ c. c .before .before .section-with2 .ensures))

@@ -1,48 +1,31 @@
--- `engine::settle_with` meets its contract. Assumes nothing.
-use mathlib.Core.Path.{sym}
-use native.Mathlib.Omega.{arith}
+-- `engine::settle_with` meets its contract: the tables are as long as the deck needs them, and the rest is the same. Assumes nothing.
+use mathlib.Core.Path.{refl}
 use borrow.Author.Needs.{needs}
-use Rattle.engine.specs.Laws.SettleAnswers.{settle-refused, settle-over, settle-places, settle-requires, settle-reply}
+use Rattle.engine.specs.Laws.Tables.{zero-rules, zero-memo}
 use Rattle.engine.proofs.settle_with.Statement.{statement}
 use Rattle.engine.proofs.settle_with.Tie as tie
 
--- the needs in the order of the code: the tables, the tests, and for each of their answers what the call answers
+-- the needs in the order of the code
 pub settle-with-spec : {M : Type 1} → statement M
 settle-with-spec =
     tie.close
     (tie.spec
-    (λ c. search needs)
-    (λ c. search needs)
-    (λ c. search needs)
     (λ c κs. search needs)
-    (λ c. search needs)
-    (λ c. search needs)
-    (λ c. search needs)
-    (λ c. search needs)
-    (λ c.
-    let j = c .before .before in
-    let w = rw (j .found2 .given .1) at (j .before .before .before .before .before .before .before .test-lent .ensures) in
-    sym (settle-over _ _ _ _ (w .accepted) (c .if1 .taken)))
-    (λ c.
-    let j = c .before .before in
-    let w = rw (j .found2 .given .1) at (j .before .before .before .before .before .before .before .test-lent .ensures) in
-    omega (arith, settle-places w))
-    (λ c. search needs)
-    (λ c. search needs)
-    (λ c. search needs)
+    (λ c. refl)
+    (λ c. refl)
     (λ c κs.
-    let j = c .before .before .before .before .before .before .before in
-    settle-requires (rw (j .found2 .given .1) at (j .before .before .before .before .before .before .before .test-lent .ensures)))
+    let i = c .before .before .before .before .before .before in
+    let few = i .before .few-rules .ensures in
+    (i .before .before .before .before .pre, zero-rules _ few (i .if1 .taken), zero-memo _ few (i .if1 .taken)))
     (λ c. search needs)
     (λ c. search needs)
-    (λ c.
-    let j = c .before in
-    sym (settle-refused _ _ _ _ _ (rw (j .found .given .1) at (j .before .before .before .before .before .before .before .test-lent .ensures))))
+    (λ c. c .before .before .before .before .before .settle-on .ensures)
+    (λ c. refl)
+    (λ c. refl)
+    (λ c κs.
+    let i = c .before .before .before .before .before .before in
+    let few = i .before .few-rules .ensures in
+    (i .before .before .before .before .pre, zero-rules _ few (i .if1 .left), zero-memo _ few (i .if1 .left)))
     (λ c. search needs)
     (λ c. search needs)
-    (λ c.
-    let r = c .before .before .before .before in
-    let i = r .before .before .before .before .before .before in
-    let j = i .before .before in
-    let w = rw (j .found2 .given .1) at (j .before .before .before .before .before .before .before .test-lent .ensures) in
-    settle-reply w (omega (arith, i .if1 .left)) (r .settle-tested .kept .1 .1 .1 .1 .1 .1 .0) (r .settle-tested .ensures)))
+    (λ c. c .before .before .before .before .before .settle-on2 .ensures))

@@ -21,7 +21,7 @@ use Rattle.pool.specs.Laws.Good.{count-bounded}
 use Rattle.steps.specs.Queue.{heldOf}
 use Rattle.steps.specs.Commits.{Stored, Commits}
 use Rattle.engine.specs.Calls.{Answer, applied, discarded, Reply, reply, tested, commit}
-use Rattle.engine.specs.Answers.{memoryOf, replyOf}
+use Rattle.engine.specs.Answers.{replyAt}
 use Rattle.engine.specs.Tested.{Entering, committedAs, CommitsAs}
 use Rattle.engine.specs.Laws.StoredMemory.{left-memory, stored-left}
 
@@ -49,7 +49,7 @@ module _ (s : List ℕ) (m : Memory) (k : ℕ) where
       → Stored (deckOf s) (capacity (length (m .pool))) (load m) (m .state .values) (m .state .pending) total (heldOf 0 index (m .pool))
       → CommitsAs s (m .state .values) (m .state .pending) total index (m .pool) k a vs pending pool
       → length pool ≡ length (m .pool) → k < m .state .pending
-      → replyOf a (record { values = vs; pending = pending }) pool ≡ commit s m k
+      → replyAt a vs pending pool ≡ commit s m k
   commit-made {vs} {pool} {pending} t st c l h =
       let d = deckOf s in
       let r = c (load m) st in

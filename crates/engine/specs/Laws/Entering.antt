@@ -1,5 +1,5 @@
 -- An input on what was tested: what the code is lent, and what it leaves. Assumes nothing.
-use Prim.Native.Nat.{ℕ, _+_, _*_, _-_, _/_, _<_, _≤_}
+use Prim.Native.Nat.{ℕ, _+_, _*_, _-_, _/_, _%_, _<_, _≤_}
 use mathlib.Core.Path.{_≡_, refl, sym, ap, ap₂, _∙_, subst}
 use mathlib.Core.Bool.{Bool, true, false, not}
 use mathlib.Core.List.{List, _++_, append-nil}
@@ -7,6 +7,7 @@ use native.Mathlib.Omega.{arith}
 use lib.ListN.{length, take, drop, length-take, length-drop, drop-of-length-le}
 use lib.IntN.{ℤ}
 use borrow.Author.Tests.{le-leb, lt-leb, lt-ltb, le-ltb, not-true, not-false}
+use Rattle.lists.specs.Bits.{maskOf}
 use Rattle.refusals.specs.Outcome.{Outcome, refused, accepted, outcomes}
 use Rattle.refusals.specs.Numbers.{unknownPart, badInput, overCapacity}
 use Rattle.deck.specs.Deck.{Deck, N}
@@ -21,14 +22,17 @@ use Rattle.pool.specs.Laws.Laid.{laid-cleared, cleared-length}
 use Rattle.passing.specs.Tabled.{deckOf}
 use Rattle.passing.specs.Judged.{shape}
 use Rattle.firing.specs.Firing.{fired, changed, enqueue, setAndFire}
-use Rattle.firing.specs.Evaluated.{Assignable}
+use Rattle.firing.specs.Evaluated.{Assignable, Compared}
 use Rattle.firing.specs.Laws.Commits.{set-grows}
+use Rattle.firing.specs.Laws.Setting.{compared-changed}
 use Rattle.steps.specs.declared.Queue.{Queue}
 use Rattle.steps.specs.Queue.{heldOf, Grown}
-use Rattle.steps.specs.Commits.{Reacting, Reacts, Stored}
+use Rattle.steps.specs.Commits.{Reacting, Reacted, Reacts, Stored}
 use Rattle.steps.specs.Laws.Committing.{charge-same}
+use Rattle.steps.specs.Laws.Reacting.{changed-low}
 use Rattle.engine.specs.Calls.{Answer, added, Done, goodInput}
 use Rattle.engine.specs.Tested.{GoodInput, Entering, entered, Left, Leaves, Enters}
+use Rattle.engine.specs.Laws.Inputs.{input-even, input-few, input-known, input-different}
 use Rattle.engine.specs.Laws.InputTests.{input-assignable}
 
 -- ---- what the definition makes of an input
@@ -134,12 +138,26 @@ module _ {s : List ℕ} {k : Counted.Deck} {rules parts memo index : List ℕ} {
       pub enter-assignable : goodInput d l ≡ true → Assignable l
       enter-assignable g = input-assignable d l (w .tabled .counts .formed .channels) g
 
-      module _ (g : goodInput d l ≡ true) {after : List ℤ} (is : after ≡ assign p (pairsOf l) vs) where
+      pub enter-pairs : goodInput d l ≡ true → (length l % 2 ≡ 0) × (length l ≤ 64)
+      enter-pairs g = (input-even d l g, input-few d l g)
+
+      module _ (g : goodInput d l ≡ true) {back : List ℤ} {mask : ℕ} (cmp : Compared p l vs back mask)
+          {after : List ℤ} (is : after ≡ assign p (pairsOf l) vs) where
         pub enter-after : length after ≡ 512
         enter-after = ap length is ∙ assign-length p (pairsOf l) vs ∙ enter-long
 
+        changes : mask ≡ maskOf (changed d p vs after)
+        changes =
+            cmp .mask
+            ∙ compared-changed d p (pairsOf l) vs (w .tabled .counts .formed .channels) (enter-low lp) enter-long
+            (input-known d l g) (input-different d l g)
+            ∙ ap (λ a. maskOf (changed d p vs a)) (sym is)
+
         module _ {m index₁ : List ℕ} {pool₁ : List ℤ} {q : Queue}
-            (r : Reacts d e C pending total vs after p (heldOf 0 index pool) m (heldOf 0 index₁ pool₁) q) where
+            (react : Reacts d e C pending total after p mask (heldOf 0 index pool) m (heldOf 0 index₁ pool₁) q) where
+          r : Reacted d e C pending total after p (changed d p vs after) (heldOf 0 index pool) m (heldOf 0 index₁ pool₁) q
+          r = react (changed d p vs after) (changed-low d p vs after (w .tabled .counts .formed .channels)) changes
+
           module _ (x : Machine) (st : Stored d (capacity (length pool)) x vs pending total (heldOf 0 index pool)) where
             abbrev y : Machine
             y = setAndFire d p (pairsOf l) x

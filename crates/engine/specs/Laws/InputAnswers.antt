@@ -11,7 +11,7 @@ use Rattle.pool.specs.Places.{capacity}
 use Rattle.pool.specs.States.{Memory, load}
 use Rattle.passing.specs.Tabled.{deckOf}
 use Rattle.engine.specs.Calls.{Answer, Done, reply, tested, input}
-use Rattle.engine.specs.Answers.{memoryOf, replyOf}
+use Rattle.engine.specs.Answers.{memoryAt, replyOf, replyAt}
 use Rattle.engine.specs.Tested.{Passed, entered, Leaves, Enters}
 use Rattle.engine.specs.Laws.StoredMemory.{left-memory}
 
@@ -29,24 +29,22 @@ input-entered s m p l d e = rw e
 left-reply : (o : Outcome Done) (vs₀ : List ℤ) (pending₀ : ℕ) (pool₀ : List ℤ)
     (answer : Outcome Answer) (vs : List ℤ) (pending : ℕ) (pool : List ℤ) → length pool ≡ length pool₀
     → Leaves o vs₀ pending₀ pool₀ answer vs pending pool
-    → replyOf answer (record { values = vs; pending = pending }) pool
-    ≡ reply (memoryOf (record { values = vs₀; pending = pending₀ }) pool₀) o
+    → replyAt answer vs pending pool ≡ reply (memoryAt vs₀ pending₀ pool₀) o
 unfolding reply
 left-reply (refused n p) vs₀ pending₀ pool₀ answer vs pending pool long h =
-    ap₂ (λ a v. replyOf a (record { values = v; pending = pending }) pool) (h .0) (h .1)
-    ∙ ap₂ (λ k q. replyOf (refused n p) (record { values = vs₀; pending = k }) q) (h .2) (h .3)
+    ap₂ (λ a v. replyAt a v pending pool) (h .0) (h .1)
+    ∙ ap₂ (replyAt (refused n p) vs₀) (h .2) (h .3)
 left-reply (accepted a) vs₀ pending₀ pool₀ answer vs pending pool long h =
     ap₂ (λ x m. record { answer = x; memory = m }) (h .0)
     (left-memory (a .machine) vs pending pool (length pool₀) (h .1) long)
 
 pub input-answers : {s rules parts memo index : List ℕ} {vs₀ : List ℤ} {pending₀ : ℕ} {pool₀ : List ℤ} {k : Counted.Deck} {total : ℕ}
-    → Passed s rules parts memo index (memoryOf (record { values = vs₀; pending = pending₀ }) pool₀) k total
+    → Passed s rules parts memo index (memoryAt vs₀ pending₀ pool₀) k total
     → (p : ℕ) (l : List ℤ) {answer : Outcome Answer} {vs : List ℤ} {pending : ℕ} {pool : List ℤ} → length pool ≡ length pool₀
     → Enters s vs₀ pending₀ total index pool₀ p l answer vs pending pool
-    → replyOf answer (record { values = vs; pending = pending }) pool
-    ≡ input s (memoryOf (record { values = vs₀; pending = pending₀ }) pool₀) p l
+    → replyAt answer vs pending pool ≡ input s (memoryAt vs₀ pending₀ pool₀) p l
 input-answers {s} {vs₀ = vs₀} {pending₀ = pending₀} {pool₀ = pool₀} w p l {answer} {vs} {pending} {pool} long h =
-    let m = memoryOf (record { values = vs₀; pending = pending₀ }) pool₀ in
+    let m = memoryAt vs₀ pending₀ pool₀ in
     let d = deckOf s in
     let C = capacity (length pool₀) in
     left-reply (entered d C (load m) p l) vs₀ pending₀ pool₀ answer vs pending pool long (h (load m) (w .loaded))

@@ -23,7 +23,7 @@ use Rattle.states.specs.Laws.Fits.{numbers, known-fit, fit-known}
 use Rattle.states.specs.Fits as Fits
 use Rattle.firing.specs.Evaluated.{Assignable}
 use Rattle.engine.specs.Calls.{channelsOf, goodInput}
-use Rattle.engine.specs.Laws.Inputs.{inside, inside-known}
+use Rattle.engine.specs.Laws.Inputs.{inside, inside-known, input-inside}
 
 -- ---- so many pairs
 
@@ -186,7 +186,4 @@ inside-channel r few (c ∷ v ∷ l) h (suc i) low =
     (x .0, ap (λ k. getD (c ∷ v ∷ l) k (pos 0)) e ∙ x .1, x .2)
 
 pub input-assignable : (d : Deck) (l : List ℤ) → R d ≤ 32 → goodInput d l ≡ true → Assignable l
-unfolding goodInput
-input-assignable d l few h =
-    let t1 : Bool = leb 2 (length l) && leb (length l) 64 && even d l in
-    inside-channel (R d) few l (and-right t1 (known d l) (and-left (t1 && known d l) (different d l) h))
+input-assignable d l few h = inside-channel (R d) few l (input-inside d l h)

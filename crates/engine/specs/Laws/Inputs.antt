@@ -1,12 +1,14 @@
--- A good input list has known channels, in the form that the firing asks for. Assumes nothing.
-use Prim.Native.Nat.{ℕ, _%_}
-use mathlib.Core.Path.{_≡_}
+-- A good input list has known, different channels, in the form that the firing asks for. Assumes nothing.
+use Prim.Native.Nat.{ℕ, _%_, _≤_}
+use mathlib.Core.Path.{_≡_, refl, ap, _∙_}
 use mathlib.Core.Bool.{Bool, true, _&&_, false≢true}
 use mathlib.Core.List.{List, [], _∷_, map}
+use native.Mathlib.Omega.{arith}
 use lib.Dec.{leb, ltb, eqb}
 use lib.ListN.{length}
 use lib.IntN.{ℤ, pos, negsuc, natAbs}
 use lib.Signed.{leZ, ltZ}
+use borrow.Author.Tests.{leb-true, eqb-true}
 use Rattle.lists.specs.Lists.{all, distinct}
 use Rattle.lists.specs.Laws.Booleans.{and-left, and-right}
 use Rattle.lists.specs.Laws.Alls.{all-none, all-cons, all-head, all-tail}
@@ -31,10 +33,44 @@ pairs-known n (c ∷ v ∷ l) h =
     all-cons (λ c. ltb c n) (natAbs c) (channelsIn (pairsOf l)) (inside-known n c (all-head (inside n) c (channelsOf l) h))
     (pairs-known n l (all-tail (inside n) c (channelsOf l) h))
 
-pub input-known : (d : Deck) (l : List ℤ) → goodInput d l ≡ true → all (λ c. ltb c (R d)) (channelsIn (pairsOf l)) ≡ true
-unfolding goodInput
-input-known d l h =
-    let t1 : Bool = leb 2 (length l) && leb (length l) 64 && eqb (length l % 2) 0 in
-    let t2 : Bool = t1 && all (inside (R d)) (channelsOf l) in
-    pairs-known (R d) l
-    (and-right t1 (all (inside (R d)) (channelsOf l)) (and-left t2 (distinct (map natAbs (channelsOf l))) h))
+-- every pair has a channel
+pairs-channels : (l : List ℤ) → length l % 2 ≡ 0 → channelsIn (pairsOf l) ≡ map natAbs (channelsOf l)
+unfolding channelsOf pairsOf
+pairs-channels [] e = refl
+pairs-channels (c ∷ []) e = absurd (omega arith)
+pairs-channels (c ∷ v ∷ l) e = ap (λ t. natAbs c ∷ t) (pairs-channels l (omega arith))
+
+module _ (d : Deck) (l : List ℤ) (h : goodInput d l ≡ true) where
+  abbrev short : Bool
+  short = leb 2 (length l) && leb (length l) 64
+
+  abbrev even : Bool
+  even = eqb (length l % 2) 0
+
+  abbrev known : Bool
+  known = all (inside (R d)) (channelsOf l)
+
+  abbrev different : Bool
+  different = distinct (map natAbs (channelsOf l))
+
+  tests : (short && even && known ≡ true) × (different ≡ true)
+  unfolding goodInput
+  tests = (and-left (short && even && known) different h, and-right (short && even && known) different h)
+
+  sizes : short && even ≡ true
+  sizes = and-left (short && even) known (tests .0)
+
+  pub input-even : length l % 2 ≡ 0
+  input-even = eqb-true (length l % 2) 0 (and-right short even sizes)
+
+  pub input-few : length l ≤ 64
+  input-few = leb-true (length l) 64 (and-right (leb 2 (length l)) (leb (length l) 64) (and-left short even sizes))
+
+  pub input-inside : known ≡ true
+  input-inside = and-right (short && even) known (tests .0)
+
+  pub input-known : all (λ c. ltb c (R d)) (channelsIn (pairsOf l)) ≡ true
+  input-known = pairs-known (R d) l input-inside
+
+  pub input-different : distinct (channelsIn (pairsOf l)) ≡ true
+  input-different = ap distinct (pairs-channels l input-even) ∙ tests .1

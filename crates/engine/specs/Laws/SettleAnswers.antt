@@ -16,7 +16,7 @@ use Rattle.passing.specs.Tabled.{deckOf}
 use Rattle.steps.specs.Queue.{heldOf}
 use Rattle.steps.specs.Commits.{Committing}
 use Rattle.engine.specs.Calls.{Answer, reply, tested, settling, settle}
-use Rattle.engine.specs.Answers.{replyOf}
+use Rattle.engine.specs.Answers.{replyOf, replyAt}
 use Rattle.engine.specs.Tested.{Passed, settledAs, Settles}
 use Rattle.engine.specs.Laws.StoredMemory.{left-memory}
 
@@ -53,7 +53,7 @@ module _ {s rules parts memo index : List ℕ} {m : Memory} {k : Counted.Deck} {
   pub settle-reply : {budget : ℕ} {answer : Outcome Answer} {vs : List ℤ} {pending : ℕ} {pool : List ℤ} → budget ≤ 65535
       → length pool ≡ length (m .pool)
       → Settles s (length (m .pool) / 10) (m .state .values) (m .state .pending) total index (m .pool) budget answer vs pending pool
-      → replyOf answer (record { values = vs; pending = pending }) pool ≡ settle s m budget
+      → replyAt answer vs pending pool ≡ settle s m budget
   unfolding capacity
   settle-reply {budget} {answer} {vs} {pending} {pool} h l e =
       let r = e (load m) (w .loaded) in

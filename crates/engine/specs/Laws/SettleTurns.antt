@@ -279,9 +279,6 @@ module _ {s : List ℕ} {k : Counted.Deck} {rules parts : List ℕ} {C : ℕ} wh
         ∙ shifted-length pool (10 * made) (t .committing .machine .pending) (st .kept .laid) gone-room
         ∙ t .long
 
-    pub values-long : length vs ≡ 512
-    values-long = ap length (t .committing .stored .values) ∙ t .committing .stored .fine .long
-
     pub few-left : pending ≤ 65535
     few-left =
         let st = t .committing .stored in

@@ -16,37 +16,34 @@ use Rattle.pool.specs.declared.State.{State}
 use Rattle.passing.specs.Check.{passing, openingValues}
 use Rattle.passing.specs.Tabled.{layoutOf, deckOf}
 use Rattle.engine.specs.Calls.{Answer, started, Reply, reply, opened, start}
-use Rattle.engine.specs.Answers.{memoryOf, replyOf}
-
-abbrev stateOf : List ℤ → ℕ → State
-stateOf values pending = record { values = values; pending = pending }
+use Rattle.engine.specs.Answers.{memoryAt, replyOf, replyAt}
 
 -- the reply of a call whose answer, values and pending number are known
 pub reply-is : {a b : Outcome Answer} {st : State} {vs : List ℤ} {n : ℕ} {pool pool′ : List ℤ} → a ≡ b → st .values ≡ vs → st .pending ≡ n → pool ≡ pool′
-    → replyOf a st pool ≡ replyOf b (record { values = vs; pending = n }) pool′
+    → replyOf a st pool ≡ replyAt b vs n pool′
 reply-is {b} {vs} {n} {pool} e v p q =
-    ap₂ (λ a k. replyOf a k pool) e (ap₂ stateOf v p) ∙ ap (replyOf b (stateOf vs n)) q
+    ap₂ (λ a m. record { answer = a; memory = m }) e (ap₂ (λ vs n. memoryAt vs n pool) v p) ∙ ap (replyAt b vs n) q
 
 module _ (s : List ℕ) (pool : List ℤ) where
-  pub start-declined : (n p : ℕ) → passing s ≡ refused n p → start s pool ≡ replyOf (refused n p) (record { values = replicate 512 (pos 0); pending = 0 }) pool
+  pub start-declined : (n p : ℕ) → passing s ≡ refused n p → start s pool ≡ replyAt (refused n p) (replicate 512 (pos 0)) 0 pool
   unfolding start reply outcomes zeros
   start-declined n p e = rw e
 
   module _ (w : passing s ≡ accepted (layoutOf s)) where
     pub start-pool : goodLength (length pool) ≡ false
-        → start s pool ≡ replyOf (refused badPool 0) (record { values = replicate 512 (pos 0); pending = 0 }) pool
+        → start s pool ≡ replyAt (refused badPool 0) (replicate 512 (pos 0)) 0 pool
     unfolding start reply outcomes zeros
     start-pool l = rw (w, l)
 
     -- nothing is pending, and the pool is all 0
-    none-stored : store (length pool) (opened (deckOf s)) ≡ memoryOf (record { values = openingValues (deckOf s); pending = 0 }) (zeros (length pool))
+    none-stored : store (length pool) (opened (deckOf s)) ≡ memoryAt (openingValues (deckOf s)) 0 (zeros (length pool))
     unfolding store opened poolOf lists
     none-stored =
         let n : length pool - 10 * 0 ≡ length pool = omega arith in
-        ap (λ n. memoryOf (stateOf (openingValues (deckOf s)) 0) (zeros n)) n
+        ap (λ n. memoryAt (openingValues (deckOf s)) 0 (zeros n)) n
 
     pub start-done : goodLength (length pool) ≡ true
-        → start s pool ≡ replyOf (accepted started) (record { values = openingValues (deckOf s); pending = 0 }) (zeros (length pool))
+        → start s pool ≡ replyAt (accepted started) (openingValues (deckOf s)) 0 (zeros (length pool))
     unfolding start reply outcomes
     start-done l = accepting ∙ ap (λ m. record { answer = accepted started; memory = m }) none-stored
       where

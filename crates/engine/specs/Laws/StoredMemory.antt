@@ -9,16 +9,16 @@ use Rattle.pool.specs.Places.{poolOf}
 use Rattle.pool.specs.States.{Machine, store}
 use Rattle.steps.specs.Queue.{Held}
 use Rattle.steps.specs.Commits.{Stored}
-use Rattle.engine.specs.Answers.{memoryOf}
+use Rattle.engine.specs.Answers.{memoryAt}
 use Rattle.engine.specs.Tested.{Left}
 
 pub left-memory : (x : Machine) (vs : List ℤ) (pending : ℕ) (pool : List ℤ) (n : ℕ)
     → Left x vs pending pool → length pool ≡ n
-    → memoryOf (record { values = vs; pending = pending }) pool ≡ store n x
+    → memoryAt vs pending pool ≡ store n x
 unfolding store
 left-memory x vs pending pool n s e =
-    ap₂ (λ v k. memoryOf (record { values = v; pending = k }) pool) (s .values) (s .count)
-    ∙ ap (memoryOf (record { values = x .values; pending = length (x .pending) })) (s .laid .is ∙ ap (λ k. poolOf k (x .pending)) e)
+    ap₂ (λ v k. memoryAt v k pool) (s .values) (s .count)
+    ∙ ap (memoryAt (x .values) (length (x .pending))) (s .laid .is ∙ ap (λ k. poolOf k (x .pending)) e)
 
 pub stored-left : {d : Deck} {C : ℕ} {x : Machine} {vs : List ℤ} {pending total : ℕ} {held : Held}
     → Stored d C x vs pending total held → Left x vs pending (held .pool)

@@ -2,43 +2,40 @@
 use Prim.Native.Nat.{ℕ, _+_, _*_, _/_, _%_, _≤_, _<_}
 use mathlib.Core.Path.{_≡_, refl, sym, ap, ap₂, _∙_, subst}
 use mathlib.Core.Logic.{inl, inr}
-use mathlib.Core.Bool.{Bool, true, false, _&&_}
+use mathlib.Core.Bool.{true, false, _&&_}
 use mathlib.Core.List.{List}
 use native.Mathlib.Omega.{arith}
 use lib.Dec.{leb, eqb}
-use lib.ListN.{length, getD, replicate, length-replicate}
+use lib.ListN.{length, replicate, length-replicate}
 use lib.IntN.{ℤ}
 use borrow.Author.Tests.{lt-leb, le-leb, leb-true}
 use Rattle.lists.specs.Laws.Booleans.{and-left, and-right}
-use Rattle.refusals.specs.Outcome.{Outcome, refused, accepted, outcomes}
+use Rattle.refusals.specs.Outcome.{refused, accepted, outcomes}
 use Rattle.refusals.specs.Numbers.{badPool, badState}
 use Rattle.deck.specs.Deck.{Deck}
 use Rattle.deck.specs.declared.Deck as Counted
 use Rattle.graph.specs.Laws.Cycles.{Acyclic, no-cycle}
 use Rattle.graph.specs.Laws.Targets.{known-targets}
-use Rattle.charge.specs.Memo.{Memo, Ready}
+use Rattle.charge.specs.Memo.{Ready}
 use Rattle.pool.specs.Updates.{charge}
 use Rattle.pool.specs.Places.{capacity, updatesOf}
 use Rattle.pool.specs.States.{Memory, load, goodLength, good}
 use Rattle.pool.specs.Laws.Good.{fine-loaded, updates-length}
 use Rattle.pool.specs.Laws.Laid.{laid-good}
 use Rattle.states.specs.Answer.{Fresh, goodnessOf}
-use Rattle.states.specs.declared.Goodness.{Goodness}
-use Rattle.states.specs.declared.Goodness.the-variants.{Good, Bad}
 use Rattle.states.specs.Laws.Judged.{good-answer, bad-answer}
 use Rattle.states.specs.Laws.Shape.{shape-goodness}
 use Rattle.passing.specs.Check.{passing}
-use Rattle.passing.specs.Tabled.{layoutOf, deckOf, Tabled}
+use Rattle.passing.specs.Tabled.{layoutOf, deckOf}
 use Rattle.passing.specs.Judged as Judging
 use Rattle.passing.specs.Judged.{shape}
 use Rattle.passing.specs.Laws.Passing.{passing-clean}
-use Rattle.passing.specs.Laws.Judged.{zeros-table}
 use Rattle.index.specs.Index.{headsOf, Indexed, keys, Roomy}
 use Rattle.index.specs.Laws.Indexed.{keys-laid}
 use Rattle.steps.specs.Queue.{heldOf}
 use Rattle.steps.specs.Commits.{Stored}
 use Rattle.engine.specs.Calls.{tested}
-use Rattle.engine.specs.Answers.{memoryOf}
+use Rattle.engine.specs.Answers.{memoryAt}
 use Rattle.engine.specs.Tested.{Usable, TestsState, Passed, Tests}
 use Rattle.engine.specs.declared.Tested.{Tested}
 use Rattle.engine.specs.declared.Tested.the-variants.{Ready as Readied, Refused}
@@ -82,13 +79,21 @@ zeros-roomy most n a b c =
 zeros-fresh : (n m : ℕ) → Roomy (capacity n) (replicate m 0) → Fresh n (replicate m 0)
 zeros-fresh n m r = record { roomy = r; zeros = ap (λ k. replicate k 0) (sym (zeros-long m)) }
 
-pub usable-short : (n : ℕ) → n ≤ 10240 → Usable n (replicate 1536 0)
+pub usable-tiny : (n : ℕ) → n ≤ 640 → Usable n (replicate 96 0)
 unfolding capacity
-usable-short n h g = zeros-fresh n 1536 (zeros-roomy (n / 10) 1536 (omega arith) (omega arith) (omega (arith, h)))
+usable-tiny n h g = zeros-fresh n 96 (zeros-roomy (n / 10) 96 (omega arith) (omega arith) (omega (arith, h)))
 
-pub usable-middle : (n : ℕ) → n ≤ 81920 → Usable n (replicate 12288 0)
+pub usable-small : (n : ℕ) → n ≤ 2560 → Usable n (replicate 384 0)
 unfolding capacity
-usable-middle n h g = zeros-fresh n 12288 (zeros-roomy (n / 10) 12288 (omega arith) (omega arith) (omega (arith, h)))
+usable-small n h g = zeros-fresh n 384 (zeros-roomy (n / 10) 384 (omega arith) (omega arith) (omega (arith, h)))
+
+pub usable-short : (n : ℕ) → n ≤ 20480 → Usable n (replicate 3072 0)
+unfolding capacity
+usable-short n h g = zeros-fresh n 3072 (zeros-roomy (n / 10) 3072 (omega arith) (omega arith) (omega (arith, h)))
+
+pub usable-middle : (n : ℕ) → n ≤ 122880 → Usable n (replicate 18432 0)
+unfolding capacity
+usable-middle n h g = zeros-fresh n 18432 (zeros-roomy (n / 10) 18432 (omega arith) (omega arith) (omega (arith, h)))
 
 pub usable : (n : ℕ) → Usable n (replicate 98304 0)
 usable n g =
@@ -158,7 +163,7 @@ module _ (s rules parts charges : List ℕ) (k : Counted.Deck) (n : ℕ) (w : Ju
 
   module _ (memo index : List ℕ) (pool vs : List ℤ) (pending : ℕ) where
     abbrev m : Memory
-    m = memoryOf (record { values = vs; pending = pending }) pool
+    m = memoryAt vs pending pool
 
     pub state-passed : (c : Counted.Deck) (total : ℕ) → TestsState k rules parts memo index pool vs pending (Readied c total) → Passed s rules parts memo index m c total
     state-passed c total t =

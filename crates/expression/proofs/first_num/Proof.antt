@@ -4,7 +4,6 @@ use mir.Syntax.{w32}
 use mir.Val.{SFits}
 use mir.ValLaws.{toZ-ofZ}
 use borrow.Author.Needs.{needs}
-use borrow.Author.Tests.{not-false}
 use Rattle.expression.proofs.Evaluating.{NumHere, no-num, as-two, as-two-nothing}
 use Rattle.expression.proofs.first_num.Statement.{statement}
 use Rattle.expression.proofs.first_num.Tie as tie
@@ -15,11 +14,19 @@ here : (c : tie.After-num-op)
     NumHere (a .own .now) (a .far .now) (a .s .now) 0 (c .num-op .result)
 here c = record { inside = omega (arith, c .before .before .before .before .if1 .left); is = c .num-op .ensures }
 
-two-returns : tie.Need-returns-7
+nothing-returns : tie.Need-returns-4
+nothing-returns c =
+    let first = c .before .before in
+    let op = first .before .before in
+    as-two-nothing (here (op .before .before)) (op .op .given .1) (rw (c .enum-told .given .1) at (first .operand-at .ensures))
+
+two-returns : tie.Need-returns-5
 two-returns c =
-    let first = c .before .before .before .before .before in
+    let first = c .before .before .before in
+    let op = first .before .before .before .before in
     let f : SFits w32 (first .first .given .0 .0) = search needs in
-    as-two (here (c .before .before .before .before .before .before .before .before .before .before .before .before .before)) (c .before .before .before .before .before .before .before .before .before .before .before .op .given .1) (rw (first .first .given .1) at (c .before .before .before .before .before .before .before .leaf-at2 .ensures)) (c .before .leaf-at3 .ensures)
+    as-two (here (op .before .before)) (op .op .given .1) (rw (first .first .given .1) at (first .before .before .operand-at .ensures))
+    (c .before .operand-at2 .ensures)
     (rw (toZ-ofZ w32 _ f) at (c .calculate-at .ensures))
 
 pub first-num-spec : {M : Type 1} → statement M
@@ -36,15 +43,9 @@ first-num-spec =
     (λ c κs. search needs)
     (λ c. c .num-at .ensures)
     (λ c κs. search needs)
-    (λ c κs. search needs)
-    (λ c. c .num-at2 .ensures)
-    (λ c κs. c .before .is-leaf2 .ensures (not-false _ (c .if3 .left)))
     (λ c. search needs)
     (λ c. search needs)
-    (λ c. as-two-nothing (here (c .before .before .before .before .before .before .before .before)) (c .before .before .before .before .before .before .op .given .1) (rw (c .enum-told .given .1) at (c .before .before .leaf-at2 .ensures)))
+    nothing-returns
     (λ c κs. search needs)
-    (λ c κs. search needs)
-    (λ c. c .num-at3 .ensures)
-    (λ c κs. c .before .is-leaf3 .ensures (not-false _ (c .if4 .left)))
     (λ c κs. search needs)
     two-returns)

@@ -3,7 +3,6 @@ use mathlib.Core.Path.{refl}
 use lib.ListN.{getD}
 use native.Mathlib.Omega.{arith}
 use borrow.Author.Needs.{needs}
-use borrow.Author.Tests.{not-false}
 use Rattle.expression.specs.Reading.{numOp}
 use Rattle.expression.specs.Answers.{scope}
 use Rattle.expression.proofs.Checking.{Here, here, two-byte, no-num, as-two, as-two-nothing}
@@ -17,22 +16,17 @@ operator c =
     let a = c .before .before .args in
     here (scope (a .own) (a .far)) (a .s .now) 0 (omega (arith, c .if1 .left)) refl
 
--- a leaf stands at a place
-first-leaf : tie.Need-leaf-end-requires-2
-first-leaf c κs = let w = c .before .before .is-leaf .ensures (not-false _ (c .before .if4 .left)) in (w .0, refl, w .1)
+nothing-returns : tie.Need-returns-4
+nothing-returns c =
+    let test = c .before .before in
+    let k = two-byte _ (test .before .if2 .left) (test .if3 .left) in
+    as-two-nothing (operator (test .before .before .before)) (k .1) (c .before .first-end .ensures) (c .if4 .taken)
 
-second-leaf : tie.Need-leaf-end-requires-3
-second-leaf c κs = let w = c .before .before .is-leaf2 .ensures (not-false _ (c .before .if6 .left)) in (w .0, refl, w .1)
-
-returns-5 : tie.Need-returns-5
-returns-5 c =
-    let k = two-byte _ (c .before .before .before .before .before .before .if2 .left) (c .before .before .before .before .before .if3 .left) in
-    as-two-nothing (operator (c .before .before .before .before .before .before .before .before)) (k .1) (c .before .leaf-end2 .ensures) (c .if5 .taken)
-
-returns-7 : tie.Need-returns-7
-returns-7 c =
-    let k = two-byte _ (c .before .before .before .before .before .before .before .before .before .before .if2 .left) (c .before .before .before .before .before .before .before .before .before .if3 .left) in
-    as-two (operator (c .before .before .before .before .before .before .before .before .before .before .before .before)) (k .1) (c .before .before .before .before .before .leaf-end2 .ensures) (c .before .before .before .before .if5 .left) (c .leaf-end3 .ensures)
+two-returns : tie.Need-returns-5
+two-returns c =
+    let test = c .before .before .before in
+    let k = two-byte _ (test .before .if2 .left) (test .if3 .left) in
+    as-two (operator (test .before .before .before)) (k .1) (c .before .before .first-end .ensures) (c .before .if4 .left) (c .first-end2 .ensures)
 
 pub first-num-end-spec : {M : Type 1} → statement M
 first-num-end-spec =
@@ -45,14 +39,6 @@ first-num-end-spec =
     (λ c κs. search needs)
     (λ c. c .num-end .ensures)
     (λ c κs. search needs)
+    nothing-returns
     (λ c κs. search needs)
-    (λ c. c .num-end2 .ensures)
-    (λ c. c .before .before .is-leaf .ensures (not-false _ (c .before .if4 .left)) .0)
-    first-leaf
-    returns-5
-    (λ c κs. search needs)
-    (λ c κs. search needs)
-    (λ c. c .num-end3 .ensures)
-    (λ c. c .before .before .is-leaf2 .ensures (not-false _ (c .before .if6 .left)) .0)
-    second-leaf
-    returns-7)
+    two-returns)

@@ -1,7 +1,8 @@
 -- `graph::draw` meets its contract: the edges of the carried rules below `r` are drawn. Assumes nothing.
 use mathlib.Core.Path.{sym, _∙_}
-use Prim.Native.Nat.{_≤_, _-_}
+use Prim.Native.Nat.{_-_}
 use native.Mathlib.Omega.{arith}
+use Rattle.lists.specs.Laws.Walks.{Walk, walk-first, walk-on, walk-next}
 use Rattle.lists.specs.Laws.Through.{Through, through-next, through-here, through-all}
 use Rattle.graph.specs.Masks.{Drawn}
 use Rattle.graph.proofs.Drawing.{drawn-skip, drawn-more}
@@ -9,39 +10,40 @@ use Rattle.graph.proofs.draw.Statement.{statement}
 use Rattle.graph.proofs.draw.Tie as tie
 
 abbrev Inv-loop : tie.InvT-loop
-Inv-loop rules parts count parts-count edges₀ carried r₀ edges r =
-    (r ≤ 64) × Through carried count (λ k. Drawn rules parts parts-count k edges) r
+Inv-loop rules parts count parts-count edges₀ carried left₀ r₀ edges left r =
+    Walk carried left r × Through carried count (λ k. Drawn rules parts parts-count k edges) r
 
 abbrev μ-loop : tie.MeasureT-loop
-μ-loop rules parts count parts-count edges₀ carried r₀ edges r = 64 - r
+μ-loop rules parts count parts-count edges₀ carried left₀ r₀ edges left r = 64 - r
 
 loop-holds : tie.Need-loop-holds Inv-loop μ-loop
 loop-holds c =
-    let n = c .next-in .ensures in
+    let n = c .lowest .ensures in
     let all = c .before .carried-by-some .ensures in (
-      n .most,
+      walk-first n,
       through-next n (omega arith) (omega arith) (λ i a b f h. drawn-skip h (sym (all .each i) ∙ f))
           (c .before .before .before .before .before .pre .1),
     )
 
 loop-less : tie.Need-loop-less Inv-loop μ-loop
-loop-less c = omega (arith, c .next-in2 .ensures .on (omega arith), c .next-in2 .ensures .most)
+loop-less c =
+    let n = walk-on (c .before .before .before .before .before .before .before .before .before .before .loop .inv .0) (c .before .rest .ensures) (c .lowest2 .ensures) in
+    omega (arith, n .on (omega arith), n .most)
 
 loop-again : tie.Need-loop-again Inv-loop μ-loop
 loop-again c =
-    let w = c .before .before .before .add-edges .ensures in
-    let t = c .before .before .before .before .before .before .before .before in
+    let w = c .before .before .before .before .add-edges .ensures in
+    let t = c .before .before .before .before .before .before .before .before .before in
     let i = t .before .loop in
     let all = t .before .before .before .carried-by-some .ensures in
-    let n = c .next-in2 .ensures in (
-      n .most,
+    let n = walk-on (i .inv .0) (c .before .rest .ensures) (c .lowest2 .ensures) in (
+      walk-next (i .inv .0) (c .before .rest .ensures) (c .lowest2 .ensures),
       through-next n (omega arith) (omega arith) (λ i a b f h. drawn-skip h (sym (all .each i) ∙ f))
           (drawn-more (through-here (i .inv .1) (t .loop-test .taken)) (sym (all .each (i .r)) ∙ i .inv .1 .found (omega arith)) w),
     )
 
 same-length : tie.Need-same-length Inv-loop μ-loop
-same-length c =
-    c .before .loop .inv .1 .done .long ∙ sym (c .before .before .before .before .before .before .before .pre .1 .long)
+same-length c = c .before .loop .inv .1 .done .long ∙ sym (c .before .before .before .before .before .before .before .pre .1 .long)
 
 pub draw-spec : {M : Type 1} → statement M
 draw-spec =
@@ -64,7 +66,7 @@ draw-spec =
     (λ c. omega arith)
     (λ c. omega arith)
     (λ c κs. omega arith)
-    (λ c. omega arith)
+    (λ c κs. omega arith)
     (λ c κs. omega arith)
     loop-less
     loop-again

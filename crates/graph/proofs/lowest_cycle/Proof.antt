@@ -6,6 +6,7 @@ use mathlib.Core.Bool.{false}
 use Prim.Native.Nat.{ℕ, _≤_, _<_, _-_}
 use native.Mathlib.Omega.{arith}
 use borrow.Author.Count.{below-more}
+use Rattle.lists.specs.Laws.Bits.{bit-shifted}
 use Rattle.lists.specs.Laws.BitTests.{bit-yes, bit-no}
 use Rattle.graph.specs.Graph.{reachesItself}
 use Rattle.graph.specs.Masks.{edgeAt}
@@ -15,10 +16,10 @@ use Rattle.graph.proofs.lowest_cycle.Statement.{statement}
 use Rattle.graph.proofs.lowest_cycle.Tie as tie
 
 abbrev Inv-loop : tie.InvT-loop
-Inv-loop edges channels start seen₀ round₀ seen round = (round ≤ channels) × Searching channels edges start seen round
+Inv-loop edges channels start seen₀ fresh₀ round₀ seen fresh round = (round ≤ channels) × Searching channels edges start seen fresh round
 
 abbrev μ-loop : tie.MeasureT-loop
-μ-loop edges channels start seen₀ round₀ seen round = channels - round
+μ-loop edges channels start seen₀ fresh₀ round₀ seen fresh round = channels - round
 
 abbrev Inv-search : tie.InvT-search
 Inv-search edges channels start₀ start =
@@ -30,18 +31,19 @@ abbrev μ-search : tie.MeasureT-search
 loop-again : tie.Need-loop-again Inv-loop μ-loop Inv-search μ-search
 loop-again c = (
   omega arith,
-  searching-more (c .before .before .before .before .loop .inv .1) (c .before .before .spread .ensures)
+  searching-more (c .before .before .before .before .loop .inv .1) (c .before .before .before .before .before .search-test .taken) (c .before .before .spread .ensures)
       (bit-no _ _ (c .before .if1 .left)),
 )
 
 search-again : tie.Need-search-again Inv-loop μ-loop Inv-search μ-search
 search-again c =
-    let h = c .before .loop .inv .1 in (
+    let h = c .before .loop .inv .1 in
+    let l = c .before .before .search-test .taken in (
       omega arith,
       below-more _ _ (c .before .before .before .search .inv .1)
           (⊎-elim
-          (λ w. searching-miss h (omega arith))
-          (λ w. searching-closed h (w .1 .ensures) (w .3 .taken))
+          (λ w. searching-miss h l (omega arith))
+          (λ w. searching-closed h l (w .1 .ensures) (w .3 .taken))
           (c .loop-test .came)),
     )
 
@@ -64,7 +66,8 @@ lowest-cycle-spec =
     Inv-search
     μ-search
     (λ c. (omega arith, λ k l. absurd (omega arith)))
-    (λ c. (omega arith, searching-none _ _ _))
+    (λ c. omega arith)
+    (λ c. (omega arith, searching-none _ _ _ _ (bit-shifted 64 (c .before .search .start) (omega arith))))
     (λ c κs. omega arith)
     (λ c. omega arith)
     (λ c. omega arith)

@@ -2,19 +2,18 @@
 use Prim.Native.Nat.{ℕ, zero, suc, _*_, _/_, _%_, _^_, _<_, min, max}
 use mathlib.Core.Path.{_≡_, refl, sym, ap, ap₂, _∙_}
 use mathlib.Core.Logic.{_↔_}
-use mathlib.Core.Bool.{Bool, true, false, _&&_, _||_, or-assoc}
+use mathlib.Core.Bool.{Bool, true, false, not, cond, _&&_, _||_, or-assoc}
 use mathlib.Core.List.{List, [], _∷_, _++_}
 use native.Mathlib.Omega.{arith}
 use native.Mathlib.Nat.{div-div-eq-div-mul, pow-suc, mul-comm, one-mul, div-one, zero-div}
-use lib.Bits.{bitOr, bitAnd, or-shr, and-shr, or-step, and-step, or-lt}
-use lib.Pow.{pow-pos, pow-lt, shl-exact}
-use lib.Dec.{eqb, ltb, lit<, eqb·zero-suc, eqb·suc-zero, eqb·suc-suc}
-use borrow.Author.Tests.{ltb-true, eqb-false}
-use Rattle.lists.specs.Lists.{lists, all, any, member}
+use lib.Bits.{bitOr, bitAnd, bitXor, differ, or-shr, and-shr, xor-shr, or-step, and-step, xor-step}
+use lib.Pow.{pow-pos, shl-exact}
+use lib.Dec.{eqb, lit<, eqb·zero-suc, eqb·suc-zero, eqb·suc-suc}
+use borrow.Author.Tests.{eqb-false}
+use Rattle.lists.specs.Lists.{lists, any, member}
 use Rattle.lists.specs.Bits.{bit, maskFrom, maskOf}
 use Rattle.lists.specs.Laws.Booleans.{contradiction, not-true→false, and-both, and-left, and-right}
 use Rattle.lists.specs.Laws.Members.{member-head, any-intro}
-use Rattle.lists.specs.Laws.Alls.{all-head, all-tail}
 use Rattle.lists.specs.Laws.Anys.{any-fails}
 
 -- two digits
@@ -36,11 +35,30 @@ two-and (suc zero) (suc zero) l m = refl
 two-and (suc zero) (suc (suc y)) l m = absurd (omega arith)
 two-and (suc (suc x)) y l m = absurd (omega arith)
 
+two-xor : (x y : ℕ) → x < 2 → y < 2 → eqb (differ x y) 1 ≡ cond (eqb x 1) (not (eqb y 1)) (eqb y 1)
+two-xor zero zero l m = refl
+two-xor zero (suc zero) l m = refl
+two-xor zero (suc (suc y)) l m = absurd (omega arith)
+two-xor (suc zero) zero l m = refl
+two-xor (suc zero) (suc zero) l m = refl
+two-xor (suc zero) (suc (suc y)) l m = absurd (omega arith)
+two-xor (suc (suc x)) y l m = absurd (omega arith)
+
 or-digit : (a b : ℕ) → bitOr a b % 2 ≡ max (a % 2) (b % 2)
 or-digit a b = omega (arith, or-step a b)
 
 and-digit : (a b : ℕ) → bitAnd a b % 2 ≡ min (a % 2) (b % 2)
 and-digit a b = omega (arith, and-step a b)
+
+differ-low : (x y : ℕ) → x < 2 → y < 2 → differ x y < 2
+differ-low zero y l m = m
+differ-low (suc zero) zero l m = omega arith
+differ-low (suc zero) (suc zero) l m = omega arith
+differ-low (suc zero) (suc (suc y)) l m = absurd (omega arith)
+differ-low (suc (suc x)) y l m = absurd (omega arith)
+
+xor-digit : (a b : ℕ) → bitXor a b % 2 ≡ differ (a % 2) (b % 2)
+xor-digit a b = omega (arith, xor-step a b, differ-low (a % 2) (b % 2) (omega arith) (omega arith))
 
 -- ---- a bit
 
@@ -57,6 +75,13 @@ bit-and a b c =
     ap (λ x. eqb (x % 2) 1) (and-shr a b c)
     ∙ ap (λ x. eqb x 1) (and-digit (a / 2 ^ c) (b / 2 ^ c))
     ∙ two-and (a / 2 ^ c % 2) (b / 2 ^ c % 2) (omega arith) (omega arith)
+
+pub bit-xor : (a b c : ℕ) → bit (bitXor a b) c ≡ cond (bit a c) (not (bit b c)) (bit b c)
+unfolding bit
+bit-xor a b c =
+    ap (λ x. eqb (x % 2) 1) (xor-shr a b c)
+    ∙ ap (λ x. eqb x 1) (xor-digit (a / 2 ^ c) (b / 2 ^ c))
+    ∙ two-xor (a / 2 ^ c % 2) (b / 2 ^ c % 2) (omega arith) (omega arith)
 
 pub bit-zero : (c : ℕ) → bit 0 c ≡ false
 unfolding bit
@@ -124,18 +149,6 @@ mask-bit m (d ∷ cs) c =
 pub maskOf-bit : (cs : List ℕ) (c : ℕ) → bit (maskOf cs) c ≡ member c cs
 unfolding maskOf
 maskOf-bit cs c = mask-bit 0 cs c ∙ ap (λ x. x || member c cs) (bit-zero c)
-
--- of numbers below n it is below 2 ^ n
-from-below : (n m : ℕ) (cs : List ℕ) → m < 2 ^ n → all (λ c. ltb c n) cs ≡ true → maskFrom m cs < 2 ^ n
-unfolding maskFrom
-from-below n m [] l h = l
-from-below n m (d ∷ cs) l h =
-    let f : ℕ → Bool = λ c. ltb c n in
-    from-below n (bitOr m (2 ^ d)) cs (or-lt n m (2 ^ d) l (pow-lt (ltb-true d n (all-head f d cs h)))) (all-tail f d cs h)
-
-pub mask-below : (n : ℕ) (cs : List ℕ) → all (λ c. ltb c n) cs ≡ true → maskOf cs < 2 ^ n
-unfolding maskOf
-mask-below n cs h = from-below n 0 cs (pow-pos n) h
 
 -- it is 0 for the empty list alone
 pub mask-empty : (cs : List ℕ) → (maskOf cs ≡ 0) ↔ (cs ≡ [])

@@ -1,20 +1,17 @@
--- The lowest number of a set from one on, by the count of the zeros below a bit. Assumes nothing.
-use Prim.Native.Nat.{ℕ, zero, suc, _+_, _-_, _*_, _/_, _%_, _^_, _≤_, _<_}
-use mathlib.Core.Path.{_≡_, refl, sym, ap, _∙_, subst}
-use mathlib.Core.Logic.{_⊎_, ⊎-elim}
-use mathlib.Core.Bool.{true, false}
+-- The lowest number of a set, by the count of the zeros below a bit, and the set without it. Assumes nothing.
+use Prim.Native.Nat.{ℕ, zero, suc, _-_, _/_, _%_, _^_, _≤_, _<_}
+use mathlib.Core.Path.{_≡_, refl, sym, ap, _∙_}
+use mathlib.Core.Logic.{_⊎_, inl, inr}
+use mathlib.Core.Bool.{true, false, _&&_, and-self, and-false}
 use native.Mathlib.Omega.{arith}
-use native.Mathlib.Nat.{div-div-eq-div-mul, lt-of-not-le}
-use lib.Count.{trailingZeros, under}
-use lib.Pow.{pow-add, shr-lt}
-use lib.Dec.{eqb}
-use Rattle.lists.specs.Bits.{bit, NextIn}
-use Rattle.lists.specs.Laws.Bits.{bit-up, bit-low, bit-zero, no-bits}
-
--- a set without its numbers below f, each lowered by f
-bit-from : (m f i : ℕ) → bit (m / 2 ^ f) i ≡ bit m (f + i)
-unfolding bit
-bit-from m f i = ap (λ x. eqb (x % 2) 1) (div-div-eq-div-mul m (2 ^ f) (2 ^ i) ∙ ap (λ x. m / x) (sym (pow-add 2 f i)))
+use native.Mathlib.Nat.{lt-of-not-le}
+use lib.Count.{trailingZeros, trailing-le, under}
+use lib.Bits.{bitAnd}
+use lib.Dec.{eqb, ltb}
+use borrow.Author.Tests.{eqb-true, eqb-false, ltb-true, ltb-false}
+use Rattle.lists.specs.Bits.{bit, NextIn, RestOf}
+use Rattle.lists.specs.Laws.Booleans.{true-or-false}
+use Rattle.lists.specs.Laws.Bits.{bit-and, bit-up, bit-low, bit-zero, no-bits}
 
 -- the bit above the zeros is set
 zeros-end : (k m : ℕ) → trailingZeros k m < k → bit m (trailingZeros k m) ≡ true
@@ -39,55 +36,78 @@ zeros-below (suc k) m i h = go (m % 2) refl (trailingZeros k (m / 2)) (zeros-bel
     go zero e t ih (suc i) l = bit-up m i ∙ ih i (omega arith)
     go (suc r) e t ih i l = absurd (omega arith)
 
--- a number with a bit has it below its length
-zeros-few : (k j m : ℕ) → m < 2 ^ j → (m ≡ 0 → ⊥) → trailingZeros k m < j
-zeros-few k j m l n = go (trailingZeros k m) (zeros-below k m)
+pub lowest-of : (set : ℕ) → NextIn set 0 (trailingZeros 64 set)
+lowest-of set =
+    record { most = trailing-le 64 set; on = λ l. omega arith; found = zeros-end 64 set; passed = λ i l m. zeros-below 64 set i m }
+
+-- ---- the rest behind the lowest number
+
+odd-of : (m : ℕ) → bit m 0 ≡ true → m % 2 ≡ 1
+odd-of m e = eqb-true (m % 2) 1 (sym (bit-low m) ∙ e)
+
+even-of : (m : ℕ) → bit m 0 ≡ false → m % 2 ≡ 0
+even-of m e =
+    let n : m % 2 ≡ 1 → ⊥ = eqb-false (m % 2) 1 (sym (bit-low m) ∙ e) in
+    omega arith
+
+-- one less clears the lowest bit, and changes none above
+less-one : (l set i : ℕ) → ((c : ℕ) → c < l → bit set c ≡ false) → bit set l ≡ true
+    → (bit (set - 1) l ≡ false) × (l < i → bit (set - 1) i ≡ bit set i)
+less-one zero set i p f = (bit-low (set - 1) ∙ ap (λ x. eqb x 1) even, above i)
   where
-    go : (t : ℕ) → ((i : ℕ) → i < t → bit m i ≡ false) → t < j
-    go t h = lt-of-not-le (λ (g : j ≤ t). n (no-bits j m l (λ c w. h c (omega arith))))
+    odd : set % 2 ≡ 1
+    odd = odd-of set f
 
--- ---- the answers
+    even : (set - 1) % 2 ≡ 0
+    even = omega (arith, odd)
 
-pub lowest-none : (set from : ℕ) → 64 ≤ from → NextIn set from 64
-lowest-none set from h =
-    record { most = omega arith; on = λ l. omega arith; found = λ l. absurd (omega arith); passed = λ i l m. absurd (omega arith) }
-
-pub lowest-empty : (set from : ℕ) → from < 64 → set / 2 ^ from ≡ 0 → NextIn set from 64
-lowest-empty set from h e =
-    record {
-      most = omega arith;
-      on = λ l. omega arith;
-      found = λ l. absurd (omega arith);
-      passed = λ i l m. zero-from i l;
-    }
+    above : (i : ℕ) → 0 < i → bit (set - 1) i ≡ bit set i
+    above zero h = absurd (omega arith)
+    above (suc i) h =
+        let half : (set - 1) / 2 ≡ set / 2 = omega (arith, odd) in
+        bit-up (set - 1) i ∙ ap (λ x. bit x i) half ∙ sym (bit-up set i)
+less-one (suc l) set i p f = go i (λ j. less-one l (set / 2) j lower here)
   where
-    zero-from : (i : ℕ) → from ≤ i → bit set i ≡ false
-    zero-from i l =
-        let f : from + (i - from) ≡ i = omega arith in
-        ap (λ x. bit set x) (sym f) ∙ sym (bit-from set from (i - from)) ∙ ap (λ x. bit x (i - from)) e ∙ bit-zero (i - from)
+    here : bit (set / 2) l ≡ true
+    here = sym (bit-up set l) ∙ f
 
-pub lowest-found : (set from : ℕ) → from < 64 → set < 2 ^ 64 → (set / 2 ^ from ≡ 0 → ⊥)
-    → NextIn set from (from + trailingZeros 64 (set / 2 ^ from))
-lowest-found set from h l n = go (trailingZeros 64 rest) few (zeros-end 64 rest) (zeros-below 64 rest)
+    lower : (c : ℕ) → c < l → bit (set / 2) c ≡ false
+    lower c h = sym (bit-up set c) ∙ p (suc c) (omega arith)
+
+    half : (set - 1) / 2 ≡ set / 2 - 1
+    half = omega (arith, even-of set (p 0 (omega arith)))
+
+    up : (j : ℕ) → bit (set - 1) (suc j) ≡ bit (set / 2 - 1) j
+    up j = bit-up (set - 1) j ∙ ap (λ x. bit x j) half
+
+    go : (i : ℕ) → ((j : ℕ) → (bit (set / 2 - 1) l ≡ false) × (l < j → bit (set / 2 - 1) j ≡ bit (set / 2) j))
+        → (bit (set - 1) (suc l) ≡ false) × (suc l < i → bit (set - 1) i ≡ bit set i)
+    go zero ih = (up l ∙ ih 0 .0, λ h. absurd (omega arith))
+    go (suc i) ih = (up l ∙ ih i .0, λ h. up i ∙ ih i .1 (omega arith) ∙ sym (bit-up set i))
+
+pub rest-of : (set : ℕ) → set < 2 ^ 64 → (set ≡ 0 → ⊥) → RestOf set (bitAnd set (set - 1))
+rest-of set small n = record { each = λ l i h. bit-and set (set - 1) i ∙ go l i h (true-or-false (ltb l i)) }
   where
-    rest : ℕ
-    rest = set / 2 ^ from
+    inside : (l : ℕ) → NextIn set 0 l → l < 64
+    inside l h = lt-of-not-le (λ (g : 64 ≤ l). n (no-bits 64 set small (λ c w. h .passed c (omega arith) (omega arith))))
 
-    short : rest < 2 ^ (64 - from)
-    short =
-        let e : 64 ≡ 64 - from + from = omega arith in
-        shr-lt (64 - from) from (subst (λ (x : ℕ). set < 2 ^ x) e l)
+    less : (l i : ℕ) → NextIn set 0 l → (bit (set - 1) l ≡ false) × (l < i → bit (set - 1) i ≡ bit set i)
+    less l i h = less-one l set i (λ c w. h .passed c (omega arith) w) (h .found (inside l h))
 
-    few : trailingZeros 64 rest < 64 - from
-    few = zeros-few 64 (64 - from) rest short n
+    behind : (l i : ℕ) → NextIn set 0 l → (eqb i l ≡ true) ⊎ (eqb i l ≡ false) → i ≤ l → (bit set i && bit (set - 1) i) ≡ false
+    behind l i h (inr k) g =
+        let e : i < l = omega (arith, eqb-false i l k) in
+        ap (λ b. b && bit (set - 1) i) (h .passed i (omega arith) e)
+    behind l i h (inl k) g =
+        let e : i ≡ l = eqb-true i l k in
+        ap (λ b. bit set i && b) (ap (λ x. bit (set - 1) x) e ∙ less l i h .0) ∙ and-false (bit set i)
 
-    go : (t : ℕ) → t < 64 - from → (t < 64 → bit rest t ≡ true) → ((i : ℕ) → i < t → bit rest i ≡ false) → NextIn set from (from + t)
-    go t b e p =
-        record {
-          most = omega arith;
-          on = λ k. omega arith;
-          found = λ k. sym (bit-from set from t) ∙ e (omega arith);
-          passed = λ i k j.
-              let f : from + (i - from) ≡ i = omega arith in
-              ap (λ x. bit set x) (sym f) ∙ sym (bit-from set from (i - from)) ∙ p (i - from) (omega arith);
-        }
+    go : (l i : ℕ) → NextIn set 0 l → (ltb l i ≡ true) ⊎ (ltb l i ≡ false) → (bit set i && bit (set - 1) i) ≡ (ltb l i && bit set i)
+    go l i h (inl k) =
+        ap (λ b. bit set i && b) (less l i h .1 (ltb-true l i k)) ∙ and-self (bit set i) ∙ sym (ap (λ b. b && bit set i) k)
+    go l i h (inr k) =
+        behind l i h (true-or-false (eqb i l)) (ltb-false l i k) ∙ sym (ap (λ b. b && bit set i) k)
+
+pub rest-none : (set : ℕ) → set ≡ 0 → RestOf set 0
+rest-none set e =
+    record { each = λ l i h. bit-zero i ∙ sym (ap (λ b. ltb l i && b) (ap (λ x. bit x i) e ∙ bit-zero i) ∙ and-false (ltb l i)) }

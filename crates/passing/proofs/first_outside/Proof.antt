@@ -1,50 +1,51 @@
--- `passing::first_outside` meets its contract. The loop's invariant: the parts before p are within their limits. Assumes nothing.
-use Prim.Native.Nat.{ℕ, _+_, _-_, _≤_, _<_}
+-- `passing::first_outside` meets its contract. The loop's invariant: the parts before p open within their limits. Assumes nothing.
+use Prim.Native.Nat.{ℕ, _-_, _≤_, _<_}
 use mathlib.Core.Path.{_≡_, sym, ap, _∙_}
-use mathlib.Core.Bool.{true, false, not}
+use mathlib.Core.Bool.{Bool, true, false, not}
 use native.Mathlib.Omega.{arith}
 use borrow.Author.Count.{below-more}
 use borrow.Author.Needs.{needs}
-use Rattle.deck.specs.Deck.{N}
+use Rattle.deck.specs.Deck.{Deck, N}
 use Rattle.lists.specs.Laws.First.{first-is}
-use Rattle.passing.specs.Check.{within}
+use Rattle.passing.specs.Check.{within, openingValues, outside}
 use Rattle.passing.specs.Tabled.{deckOf}
 use Rattle.passing.proofs.first_outside.Statement.{statement}
 use Rattle.passing.proofs.first_outside.Tie as tie
 
+abbrev opens : Deck → ℕ → Bool
+opens d p = within d p (openingValues d)
+
 abbrev Inv-loop : tie.InvT-loop
-Inv-loop deck counts parts values n p₀ p =
-    (p ≤ n) × ((k : ℕ) → k < p → not (within (deckOf deck) k values) ≡ false)
+Inv-loop deck counts parts n p₀ p = (p ≤ n) × ((k : ℕ) → k < p → not (opens (deckOf deck) k) ≡ false)
 
 abbrev μ-loop : tie.MeasureT-loop
-μ-loop deck counts parts values n p₀ p = n - p
+μ-loop deck counts parts n p₀ p = n - p
 
 loop-again : tie.Need-loop-again Inv-loop μ-loop
 loop-again c =
     let l = c .before .before .before in
-    let a = l .before .before .before .args in
-    let holds : within (deckOf (a .deck .now)) (l .loop .p) (a .values .now) ≡ true = sym (c .before .within .ensures) ∙ c .if1 .taken in
-    (omega arith, below-more (λ k. not (within (deckOf (a .deck .now)) k (a .values .now)) ≡ false) _ (l .loop .inv .1) (ap not holds))
+    let d = deckOf (l .before .before .before .args .deck .now) in
+    let holds : opens d (l .loop .p) ≡ true = sym (c .before .opens-within .ensures) ∙ c .if1 .taken in
+    (omega arith, below-more (λ k. not (opens d k) ≡ false) _ (l .loop .inv .1) (ap not holds))
 
 returns : tie.Need-returns Inv-loop μ-loop
+unfolding outside
 returns c =
     let l = c .before .before .before in
     let s = l .before .before .before in
-    let a = s .args in
-    let d = deckOf (a .deck .now) in
-    let n = s .pre .0 .counts .parts in
-    first-is (λ p. not (within d p (a .values .now))) (N d) (l .loop .p) (omega (arith, n))
-    (λ _. ap not (sym (c .before .within .ensures) ∙ c .if1 .left))
+    let d = deckOf (s .args .deck .now) in
+    first-is (λ p. not (opens d p)) (N d) (l .loop .p) (omega (arith, s .pre .counts .parts))
+    (λ _. ap not (sym (c .before .opens-within .ensures) ∙ c .if1 .left))
     (l .loop .inv .1)
 
 returns-2 : tie.Need-returns-2 Inv-loop μ-loop
+unfolding outside
 returns-2 c =
     let l = c .before in
     let s = l .before .before .before in
-    let a = s .args in
-    let d = deckOf (a .deck .now) in
-    let n = s .pre .0 .counts .parts in
-    first-is (λ p. not (within d p (a .values .now))) (N d) (a .counts .parts) (omega (arith, n))
+    let d = deckOf (s .args .deck .now) in
+    let n = s .pre .counts .parts in
+    first-is (λ p. not (opens d p)) (N d) (s .args .counts .parts) (omega (arith, n))
     (λ h. absurd (omega (arith, n)))
     (λ k h. l .loop .inv .1 k (omega (arith, c .loop-test .left)))
 

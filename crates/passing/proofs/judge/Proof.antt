@@ -1,12 +1,11 @@
 -- `passing::judge` meets its contract: the pass, and then the other tests. Assumes nothing.
-use Prim.Native.Nat.{ℕ, _≤_}
-use mathlib.Core.Path.{_≡_, refl, sym, ap, _∙_, subst}
-use mathlib.Core.List.{List}
+use Prim.Native.Nat.{ℕ}
+use mathlib.Core.Path.{ap, _∙_}
 use native.Mathlib.Omega.{arith}
 use borrow.Author.Needs.{needs}
-use lib.ListN.{length, replicate, length-replicate}
+use lib.ListN.{length, length-replicate}
 use Rattle.passing.specs.Laws.Passing.{passing-reads}
-use Rattle.passing.specs.Laws.Judged.{loaded-tabled, loaded-wrong, wrong-place, bytes-known}
+use Rattle.passing.specs.Laws.Judged.{rules-fit, loaded-tabled, loaded-memo, loaded-wrong, wrong-place, bytes-known}
 use Rattle.passing.proofs.judge.Statement.{statement}
 use Rattle.passing.proofs.judge.Tie as tie
 
@@ -14,30 +13,29 @@ read-requires : tie.Need-read-requires
 read-requires c κs =
     let s = c .before .before .before .before .before .before in
     let none : ℕ = 0 in
-    let rules = ap length (s .pre .0) ∙ length-replicate 512 none in
     let parts = ap length (s .pre .1) ∙ length-replicate 64 none in
-    (omega (arith, rules), omega (arith, parts))
+    (rules-fit (s .pre .0), omega (arith, parts))
 
 refused-requires : tie.Need-refused-requires
 refused-requires c κs =
     let r = c .before .before .before .before .before .before .before in
     let s = r .before .before .before .before .before .before .before in
-    let w = rw (s .pre .0, s .pre .1, c .before .loaded .given .1) at (r .read .ensures) in
+    let w = rw (s .pre .1, c .before .loaded .given .1) at (r .read .ensures) in
     wrong-place (s .args .deck .now) _ _ (loaded-wrong (s .args .deck .now) _ _ w)
 
 returns : tie.Need-returns
 returns c =
     let r = c .before .before .before .before .before .before .before .before in
     let s = r .before .before .before .before .before .before .before in
-    let w = rw (s .pre .0, s .pre .1, c .before .before .loaded .given .1) at (r .read .ensures) in
+    let w = rw (s .pre .1, c .before .before .loaded .given .1) at (r .read .ensures) in
     rw (c .refused .ensures) (passing-reads (s .args .deck .now) _ _ (loaded-wrong (s .args .deck .now) _ _ w))
 
 judge-whole-requires : tie.Need-judge-whole-requires
 judge-whole-requires c κs =
     let r = c .before .before .before .before .before .before .before .before .before .before in
     let s = r .before .before .before .before .before .before .before in
-    let w = rw (s .pre .0, s .pre .1, c .before .before .before .before .loaded2 .given .1) at (r .read .ensures) in
-    (loaded-tabled (s .args .deck .now) _ _ _ w (bytes-known (s .args .deck .now) (r .before .before .before .before .before .before .shared-slice-known .given)), s .pre .2)
+    let w = rw (s .pre .1, c .before .before .before .before .loaded2 .given .1) at (r .read .ensures) in
+    (loaded-tabled (s .args .deck .now) _ _ _ _ (s .pre .0) w (bytes-known (s .args .deck .now) (r .before .before .before .before .before .before .shared-slice-known .given)), loaded-memo (s .args .deck .now) _ _ _ _ w (s .pre .2))
 
 pub judge-spec : {M : Type 1} → statement M
 judge-spec =

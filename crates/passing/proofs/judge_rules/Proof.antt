@@ -1,12 +1,9 @@
 -- `passing::judge_rules` meets its contract. Assumes nothing.
-use mathlib.Core.Path.{refl, sym, _∙_, subst}
+use mathlib.Core.Path.{refl, sym, _∙_}
 use mathlib.Core.Logic.{inl, inr}
 use native.Mathlib.Omega.{arith}
 use borrow.Author.Needs.{needs}
-use Rattle.charge.specs.Memo.{Memo}
-use Rattle.charge.specs.Laws.Tables.{memo-new}
-use Rattle.passing.specs.Judged.{shape}
-use Rattle.passing.specs.Laws.Judged.{above-place, acyclic-tables, cycle-none, memo-length}
+use Rattle.passing.specs.Laws.Judged.{above-place, acyclic-tables, cycle-none, memo-zeros, memo-length}
 use Rattle.passing.proofs.judge_rules.Statement.{statement}
 use Rattle.passing.proofs.judge_rules.Tie as tie
 
@@ -26,7 +23,7 @@ first-above-requires c κs =
     record {
       tables = acyclic-tables (s .args .rules .now) (s .args .parts .now) (s .args .counts) (s .pre .0)
           (cycle-none (s .args .rules .now) (s .args .parts .now) (s .args .counts) (s .pre .0) _ (f .first-cycle .ensures) (c .before .if1 .left));
-      memo = subst (Memo (shape (s .args .rules .now) (s .args .parts .now) (s .args .counts))) (sym (s .pre .1)) (memo-new _);
+      memo = memo-zeros (s .args .rules .now) (s .args .parts .now) (s .args .counts) (s .pre .1);
     }
 
 refused-requires-2 : tie.Need-refused-requires-2
@@ -35,6 +32,12 @@ refused-requires-2 c κs =
     let s = a .before .before .before .before .before .before .before .before in
     above-place (s .args .rules .now) (s .args .parts .now) (s .args .counts) (s .pre .0) _
     (sym (a .first-above .ensures .0) ∙ c .before .bound .given .1)
+
+same-length : tie.Need-same-length
+same-length c =
+    let a = c .before .before .before .before .before .before in
+    let s = a .before .before .before .before .before .before .before .before in
+    memo-length (s .args .rules .now) (s .args .parts .now) (s .args .counts) (s .pre .1) (a .first-above .ensures .1)
 
 returns-2 : tie.Need-returns-2
 returns-2 c =
@@ -47,6 +50,12 @@ returns-2 c =
       cycle-none (s .args .rules .now) (s .args .parts .now) (s .args .counts) (s .pre .0) _ (f .first-cycle .ensures) (a .before .before .if1 .left),
       sym (a .first-above .ensures .0) ∙ c .before .before .bound .given .1,
     ))
+
+same-length-2 : tie.Need-same-length-2
+same-length-2 c =
+    let a = c .before .before .before .before .before in
+    let s = a .before .before .before .before .before .before .before .before in
+    memo-length (s .args .rules .now) (s .args .parts .now) (s .args .counts) (s .pre .1) (a .first-above .ensures .1)
 
 returns-3 : tie.Need-returns-3
 returns-3 c =
@@ -72,7 +81,7 @@ judge-rules-spec =
     (λ c. search needs)
     refused-requires-2
     (λ c. search needs)
-    (λ c. memo-length (c .before .before .before .before .before .before .first-above .ensures .1) (c .before .before .before .before .before .before .before .before .before .before .before .before .before .before .pre .1))
+    same-length
     returns-2
-    (λ c. memo-length (c .before .before .before .before .before .first-above .ensures .1) (c .before .before .before .before .before .before .before .before .before .before .before .before .before .pre .1))
+    same-length-2
     returns-3)

@@ -1,56 +1,36 @@
 -- `passing::judge_whole` meets its contract: 6, and then 7 and 8. Assumes nothing.
-use mathlib.Core.Path.{refl, sym, ap, _∙_}
 use native.Mathlib.Omega.{arith}
 use borrow.Author.Needs.{needs}
-use lib.ListN.{length}
-use Rattle.pool.specs.Places.{zeros}
 use Rattle.passing.specs.Tabled.{deckOf}
-use Rattle.passing.specs.Laws.Opening.{opening-long}
 use Rattle.passing.specs.Laws.Tabled.{tabled-kept}
 use Rattle.passing.specs.Laws.Judged.{parts-known, rules-sized, rules-known, outside-found, outside-none, outside-refused, rules-judged}
 use Rattle.passing.proofs.judge_whole.Statement.{statement}
 use Rattle.passing.proofs.judge_whole.Tie as tie
 
-open-parts-requires : tie.Need-open-parts-requires
-unfolding zeros
-open-parts-requires c κs = let s = c .before .before .before .before .before in (parts-known _ _ _ _ (s .pre .0 .tabled), refl)
-
-lent-values : tie.Need-slice-aggregate-first-outside
-lent-values c =
-    let o = c .before .before in
-    let s = o .before .before .before .before .before .before in
-    sym (ap length (o .open-parts .ensures) ∙ opening-long (deckOf (s .args .deck .now)) (s .pre .0 .tabled .counts .formed))
-
-first-outside-requires : tie.Need-first-outside-requires
-first-outside-requires c κs =
-    let o = c .before .before in
-    let s = o .before .before .before .before .before .before in
-    (parts-known _ _ _ _ (s .pre .0 .tabled), ap length (o .open-parts .ensures) ∙ opening-long (deckOf (s .args .deck .now)) (s .pre .0 .tabled .counts .formed))
-
 refused-requires : tie.Need-refused-requires
 refused-requires c κs =
-    let s = c .before .before .before .before .before .before .before .before .before .before .before in
+    let s = c .before .before .before .before .before .before .before in
     omega (arith, c .if1 .taken, s .pre .0 .tabled .counts .parts, s .pre .0 .tabled .counts .formed .parts)
 
 returns : tie.Need-returns
 returns c =
     let f = c .before .before .before in
-    let o = f .before .before .before in
-    let s = o .before .before .before .before .before .before in
+    let s = f .before .before .before .before .before in
     let a = s .args in
-    let p = outside-found (deckOf (a .deck .now)) _ (f .first-outside .result) (o .open-parts .ensures) (f .first-outside .ensures) in
+    let p = outside-found (deckOf (a .deck .now)) (f .first-outside .result) (f .first-outside .ensures) in
     rw (c .refused .ensures)
     (outside-refused (a .deck .now) (a .rules .now) (a .parts .now) (a .counts) (s .pre .0 .tabled) (s .pre .0 .read) _ p (c .before .if1 .taken))
 
 note-listeners-requires : tie.Need-note-listeners-requires
 note-listeners-requires c κs =
-    let w = rules-sized _ _ _ _ (c .before .before .before .before .before .before .before .before .before .before .before .before .pre .0 .tabled) in
-    (w .longRules, w .longParts, w .fewRules, w .fewParts)
+    let t = c .before .before .before .before .before .before .before .before .pre .0 .tabled in
+    let w = rules-sized _ _ _ _ t in
+    (t .ruleTable .long, w .longRules, w .longParts, w .fewRules, w .fewParts)
 
 judge-rules-requires : tie.Need-judge-rules-requires
 judge-rules-requires c κs =
     let n = c .before .before .before .before in
-    let s = n .before .before .before .before .before .before .before .before .before .before .before .before .before in
+    let s = n .before .before .before .before .before .before .before .before .before in
     (rules-known _ _ _ _ (tabled-kept (n .note-listeners .ensures .0) (s .pre .0 .tabled)) (n .note-listeners .ensures .1), s .pre .1)
 
 returns-2 : tie.Need-returns-2
@@ -58,11 +38,10 @@ returns-2 c =
     let j = c .before .before in
     let n = j .before .before .before .before .before in
     let f = n .before .before .before .before in
-    let o = f .before .before .before in
-    let s = o .before .before .before .before .before .before in
+    let s = f .before .before .before .before .before in
     let a = s .args in
     let t = tabled-kept (n .note-listeners .ensures .0) (s .pre .0 .tabled) in
-    let p = outside-found (deckOf (a .deck .now)) _ (f .first-outside .result) (o .open-parts .ensures) (f .first-outside .ensures) in
+    let p = outside-found (deckOf (a .deck .now)) (f .first-outside .result) (f .first-outside .ensures) in
     let six = outside-none (a .deck .now) _ (a .parts .now) (a .counts) t (s .pre .0 .read) _ p (n .before .before .if1 .left) in
     rules-judged (a .deck .now) _ (a .parts .now) (a .counts) t (s .pre .0 .read) six _ (s .pre .0 .bytes) (j .judge-rules .result)
     (j .judge-rules .ensures)
@@ -71,10 +50,7 @@ pub judge-whole-spec : {M : Type 1} → statement M
 judge-whole-spec =
     tie.close
     (tie.spec
-    (λ c. refl)
-    open-parts-requires
-    lent-values
-    first-outside-requires
+    (λ c κs. parts-known _ _ _ _ (c .before .before .before .before .pre .0 .tabled))
     refused-requires
     returns
     note-listeners-requires

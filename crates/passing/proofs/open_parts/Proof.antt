@@ -1,17 +1,15 @@
 -- `passing::open_parts` meets its contract. The loop's invariant: the first p parts have their opening values. Assumes nothing.
-use Prim.Native.Nat.{ℕ, suc, _+_, _*_, _-_, _≤_, _<_}
+use Prim.Native.Nat.{ℕ, _+_, _*_, _-_, _≤_, _<_}
 use mathlib.Core.Path.{_≡_, refl, sym, ap, ap₂, _∙_}
 use mathlib.Core.List.{List, _++_}
 use native.Mathlib.Omega.{arith}
 use borrow.Author.Needs.{needs}
-use lib.ListN.{length, getD, take, drop, length-take, length-drop}
+use lib.ListN.{length, take, drop, length-take, length-drop}
 use lib.IntN.{ℤ}
-use Rattle.deck.specs.Deck.{Deck, R, N, partAt}
+use Rattle.deck.specs.Deck.{N}
 use Rattle.pool.specs.Places.{zeros}
-use Rattle.passing.specs.Stands.{valuesFrom}
 use Rattle.passing.specs.Tabled.{deckOf, PartsKnown}
-use Rattle.passing.specs.Laws.Stands.{values-stand}
-use Rattle.passing.specs.Laws.Opening.{zeros-length, openTo, open-none, open-length, open-next, open-all}
+use Rattle.passing.specs.Laws.Opening.{zeros-length, openTo, open-none, open-length, open-next, open-all, known-part, opening-stands}
 use Rattle.deck.specs.declared.Deck as Counted
 use Rattle.deck.specs.Laws.Formed.{Formed}
 use Rattle.passing.proofs.open_parts.Statement.{statement}
@@ -32,17 +30,6 @@ read-at c =
     let s = c .before .before .before .before .before in
     let k = s .pre .0 in
     omega (arith, c .before .loop-test .taken, k .table .long, k .counts .formed .parts, k .counts .parts)
-
--- part p's values are there, and they fit behind the parts before it
-module _ (s : List ℕ) (k : Counted.Deck) (parts : List ℕ) (w : PartsKnown s k parts) (p : ℕ) (h : p < k .parts) where
-  known-part : p < N (deckOf s)
-  known-part = omega (arith, w .counts .parts)
-
-  opening-stands : (partAt (deckOf s) p .opening ≡ valuesFrom s (getD parts (4 * p + 1) 0) (k .channels))
-      × (getD parts (4 * p + 1) 0 + 4 * k .channels ≤ length s)
-  opening-stands =
-      rw (w .counts .channels)
-      (values-stand s (R (deckOf s)) (getD parts (4 * p + 1) 0) (partAt (deckOf s) p .opening) (w .counts .some) (w .table .opening p known-part))
 
 -- a part's stretch lies in the table
 part-fits : (s : List ℕ) (k : Counted.Deck) (parts : List ℕ) (w : PartsKnown s k parts) (p : ℕ) → p < k .parts → 32 * p + k .channels ≤ 512

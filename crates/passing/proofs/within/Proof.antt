@@ -7,7 +7,7 @@ use borrow.Author.Needs.{needs}
 use lib.ListN.{length}
 use Rattle.deck.specs.Deck.{R, N, partAt}
 use Rattle.passing.specs.Tabled.{deckOf}
-use Rattle.passing.specs.Laws.Limits.{limit-value, limit-stands}
+use Rattle.passing.specs.Laws.Limits.{stretchOf, stretch-length, limit-value, limit-stands}
 use Rattle.passing.proofs.within.Statement.{statement}
 use Rattle.passing.proofs.within.Tie as tie
 
@@ -23,7 +23,7 @@ truth-from-requires c κs =
       omega arith,
       (
         partAt d (a .p) .limit,
-        rw (add-sub-cancel-left, k .channels) (limit-stands d (a .p) (a .values .now) (k .scoped) fits (a .deck .now) (a .parts .now) (s .pre .0 .table) lp),
+        rw (add-sub-cancel-left, k .channels) (limit-stands (a .deck .now) (a .parts .now) d (a .p) (s .pre .0 .table) lp (stretchOf (R d) (a .p) (a .values .now)) (stretch-length (R d) (a .p) (a .values .now) fits)),
       ),
     )
 
@@ -36,7 +36,7 @@ returns c =
     let fits : 32 * a .p + R d ≤ length (a .values .now) = omega (arith, k .channels, k .parts, k .formed .channels, k .formed .parts, s .pre .2, s .pre .1) in
     let lp : a .p < N d = omega (arith, k .parts, s .pre .2) in
     let value = rw (add-sub-cancel-left, k .channels) at (c .truth-from .ensures) in
-    value (partAt d (a .p) .limit) (limit-stands d (a .p) (a .values .now) (k .scoped) fits (a .deck .now) (a .parts .now) (s .pre .0 .table) lp)
+    value (partAt d (a .p) .limit) (limit-stands (a .deck .now) (a .parts .now) d (a .p) (s .pre .0 .table) lp (stretchOf (R d) (a .p) (a .values .now)) (stretch-length (R d) (a .p) (a .values .now) fits))
     ∙ limit-value d (a .p) (a .values .now) (k .scoped) fits
 
 pub within-spec : {M : Type 1} → statement M

@@ -7,7 +7,6 @@ use mathlib.Core.List.{List, [], _∷_, _++_}
 use native.Mathlib.Omega.{arith}
 use native.Mathlib.Decide.{decLt}
 use lib.ListN.{length, getD, replicate, length-replicate, getD-replicate, List·getD-eq-default}
-use lib.IntN.{ℤ}
 use mir.Syntax.{w8}
 use mir.Val.{Fits}
 use borrow.Author.Tests.{lt-ltb}
@@ -20,7 +19,7 @@ use Rattle.expression.specs.Laws.Bytes.{Bytes}
 use Rattle.deck.specs.Deck.{Deck, R, M, N}
 use Rattle.deck.specs.Layout.{read, valueOf}
 use Rattle.deck.specs.Shape.{shapeOf}
-use Rattle.deck.specs.Marks.{markedSections, unmarked, Loads}
+use Rattle.deck.specs.Marks.{RulesFit, markedSections, unmarked, Loads}
 use Rattle.deck.specs.declared.Deck as Counted
 use Rattle.deck.specs.declared.Loaded.the-variants.{Whole}
 use Rattle.deck.specs.Laws.Marks.{mapGot, read-marked}
@@ -35,14 +34,15 @@ use Rattle.graph.specs.Laws.Targets.{known-targets}
 use Rattle.graph.specs.Laws.Same.{same-first, same-known}
 use Rattle.graph.specs.Laws.FirstCycle.{first-acyclic}
 use Rattle.charge.specs.Charge.{carriedCharges, aboveBound, largestCharge}
-use Rattle.charge.specs.Memo.{Noted, AcyclicTables, Memo}
+use Rattle.charge.specs.Memo.{Noted, AcyclicTables, memoSize, Memo}
 use Rattle.charge.specs.Answer.{boundOf}
 use Rattle.charge.specs.declared.Bound.the-variants.{Within, Above}
 use Rattle.charge.specs.Laws.Bound.{first-above}
 use Rattle.charge.specs.Laws.Shape.{shape-bound}
+use Rattle.charge.specs.Laws.Tables.{memo-new, memo-long}
 use Rattle.passing.specs.Check.{within, openingValues, outside, passing}
 use Rattle.passing.specs.Tabled.{layoutOf, deckOf, TablesIn, Tabled, PartsKnown}
-use Rattle.passing.specs.Judged.{shape, RulesKnown, JudgesRules, WholeKnown, Passed, Judges}
+use Rattle.passing.specs.Judged.{shape, RulesKnown, JudgesRules, ZeroRules, ZeroMemo, WholeKnown, Passed, Judges}
 use Rattle.passing.specs.declared.Judged.{Judged}
 use Rattle.passing.specs.declared.Judged.the-variants.{Passing, Refused}
 use Rattle.passing.specs.Laws.Passing.{passing-reads}
@@ -63,18 +63,35 @@ zeros-table n i = go (decLt i n)
     go (yes h) = getD-replicate n i none none h
     go (no h) = List·getD-eq-default (replicate n none) none (omega (arith, length-replicate n none))
 
-module _ (s rules parts : List ℕ) where
-  pub loaded-tabled : (k : Counted.Deck) → Loads s rules (replicate 512 0) parts (replicate 64 0) (Whole k) → Bytes s
+-- the table of rules as the pass takes it
+module _ {s rules : List ℕ} (z : ZeroRules s rules) where
+  size : length rules ≡ z .size
+  size = let none : ℕ = 0 in ap length (z .zeros) ∙ length-replicate (z .size) none
+
+  long : 256 ≤ length rules
+  long = omega (arith, size, z .long)
+
+  pub rules-fit : RulesFit s (length rules)
+  rules-fit h = omega (arith, size, z .fits h)
+
+module _ (s rules parts rules₀ : List ℕ) where
+  pub loaded-tabled : (k : Counted.Deck) → ZeroRules s rules₀ → Loads s rules rules₀ parts (replicate 64 0) (Whole k) → Bytes s
       → WholeKnown s k rules parts
-  loaded-tabled k w b =
+  loaded-tabled k z w b =
       let m = w .0 in
       let none : ℕ = 0 in
-      let t = tabled s m (w .1) (replicate 512 0) (replicate 64 0) (zeros-table 512) (zeros-table 64) b (length-replicate 512 none) (length-replicate 64 none) in
+      let blank : Zeros rules₀ = subst Zeros (sym (z .zeros)) (zeros-table (z .size)) in
+      let t = tabled s m (w .1) rules₀ (replicate 64 0) blank (zeros-table 64) b (long z) (rules-fit z) (length-replicate 64 none) in
       record {
         tabled = rw (w .2, w .3, w .4) t;
         read = marked-read s m (w .1) ∙ ap accepted (sym (marked-layout s m (w .1)));
         bytes = b;
       }
+
+  -- the memo is as long as the deck that was read needs it
+  pub loaded-memo : (k : Counted.Deck) {memo : List ℕ} → Loads s rules rules₀ parts (replicate 64 0) (Whole k) → ZeroMemo s memo
+      → memo ≡ replicate (memoSize (k .rules)) 0
+  loaded-memo k w z = z (w .0) (w .1) ∙ ap (λ (c : Counted.Deck). replicate (memoSize (c .rules)) 0) (sym (w .2))
 
 pub loaded-wrong : (s : List ℕ) (n p : ℕ) → markedSections s 0 ≡ refused n p → read s ≡ refused n p
 unfolding valueOf
@@ -125,7 +142,8 @@ module _ (rules parts : List ℕ) (k : Counted.Deck) (w : RulesKnown rules parts
   unfolding firstCycle
   acyclic-tables e =
       record {
-        rules-long = w .sized .longRules;
+        rules-long = w .long;
+        rules-room = w .sized .longRules;
         parts-long = w .sized .longParts;
         few-rules = w .sized .fewRules;
         few-parts = w .sized .fewParts;
@@ -134,9 +152,18 @@ module _ (rules parts : List ℕ) (k : Counted.Deck) (w : RulesKnown rules parts
         noted = w .noted;
       }
 
--- a memo keeps its length
-pub memo-length : {d : Deck} {m m₀ : List ℕ} → Memo d m → m₀ ≡ replicate 1024 0 → length m ≡ length m₀
-memo-length w e = let none : ℕ = 0 in w .long ∙ sym (ap length e ∙ length-replicate 1024 none)
+-- a memo of zeros for the count of rules in the tables, and one that keeps its length
+module _ (rules parts : List ℕ) (k : Counted.Deck) {m₀ : List ℕ} (e : m₀ ≡ replicate (memoSize (k .rules)) 0) where
+  pub memo-zeros : Memo (shape rules parts k) m₀
+  memo-zeros =
+      subst (Memo (shape rules parts k))
+      (ap (λ n. replicate (memoSize n) 0) (shape-M rules parts (k .channels) (k .rules) (k .parts)) ∙ sym e)
+      (memo-new (shape rules parts k))
+
+  pub memo-length : {m : List ℕ} → Memo (shape rules parts k) m → length m ≡ length m₀
+  memo-length w =
+      let none : ℕ = 0 in
+      memo-long rules parts (k .channels) (k .rules) (k .parts) w ∙ sym (ap length e ∙ length-replicate (memoSize (k .rules)) none)
 
 -- ---- the deck and the shape of its tables
 
@@ -156,7 +183,7 @@ module _ (s rules parts : List ℕ) (k : Counted.Deck) (t : Tabled s k rules par
   pub rules-sized : Sized rules parts (k .rules) (k .parts)
   rules-sized =
       record {
-        longRules = omega (arith, t .ruleTable .long);
+        longRules = omega (arith, t .counts .rules, t .ruleTable .room);
         longParts = omega (arith, t .partTable .long);
         fewRules = omega (arith, t .counts .rules, t .counts .formed .rules);
         fewParts = omega (arith, t .counts .parts, t .counts .formed .parts);
@@ -166,6 +193,7 @@ module _ (s rules parts : List ℕ) (k : Counted.Deck) (t : Tabled s k rules par
   rules-known noted =
       record {
         sized = rules-sized;
+        long = t .ruleTable .long;
         few = omega (arith, t .counts .channels, t .counts .formed .channels);
         known = same-known same (known-targets whole (t .counts .formed));
         noted = noted;
@@ -213,8 +241,7 @@ unfolding lists
 bytes-known [] h = refl
 bytes-known (b ∷ s) h = and-both (lt-ltb b 256 (h 0 .fits)) (bytes-known s (λ i. h (suc i)))
 
--- the search for a part outside its limit, on the table that was filled
-pub outside-found : (d : Deck) (values : List ℤ) (p : ℕ) → values ≡ openingValues d
-    → p ≡ firstOr (N d) (filter (λ p. not (within d p values)) (below (N d))) → p ≡ firstOutside d
-unfolding firstOutside outside
-outside-found d values p v e = e ∙ ap (λ v. firstOr (N d) (filter (λ p. not (within d p v)) (below (N d)))) v
+-- the search for a part outside its limit
+pub outside-found : (d : Deck) (p : ℕ) → p ≡ firstOr (N d) (outside d) → p ≡ firstOutside d
+unfolding firstOutside
+outside-found d p e = e

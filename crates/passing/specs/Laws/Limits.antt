@@ -1,22 +1,24 @@
 -- A part's limit, evaluated on the stretch of its channels. Assumes nothing.
 use Prim.Native.Nat.{ℕ, _+_, _*_, _≤_, _<_}
-use mathlib.Core.Path.{_≡_, refl, sym, ap, ap₂, _∙_, subst}
+use mathlib.Core.Path.{_≡_, sym, ap, _∙_, subst}
 use mathlib.Core.List.{List, []}
 use native.Mathlib.Omega.{arith}
 use lib.ListN.{length, getD, take, drop, length-take, length-drop}
 use lib.Seq.{getD-take, getD-drop}
 use lib.IntN.{ℤ, pos}
-use Rattle.expression.specs.Reading.{Scope, wholeTruth}
+use Rattle.expression.specs.Reading.{wholeTruth}
 use Rattle.expression.specs.Answers.{scope, valueIn, truthIn}
 use Rattle.expression.specs.Laws.Agreement.{truth-agree}
 use Rattle.deck.specs.Deck.{Deck, R, N, partAt}
 use Rattle.deck.specs.Layout.{ownOnly}
+use Rattle.deck.specs.Laws.Formed.{Formed}
 use Rattle.deck.specs.Laws.Scoped.{Scoped}
 use Rattle.pool.specs.Updates.{indexOf, valueAt}
-use Rattle.passing.specs.Check.{within}
+use Rattle.passing.specs.Check.{within, openingValues}
 use Rattle.passing.specs.Stands.{Stands}
 use Rattle.passing.specs.Tabled.{PartTable}
 use Rattle.passing.specs.Laws.Stands.{stands}
+use Rattle.passing.specs.Laws.Opening.{opening-long, opened-part}
 
 -- the channels of a part, of n channels, as a stretch of the table
 abbrev pub stretchOf : ℕ → ℕ → List ℤ → List ℤ
@@ -40,9 +42,17 @@ module _ (d : Deck) (p : ℕ) (values : List ℤ) (known : Scoped d) (fits : 32 
       (partAt d p .limit)
       (known .limit p)
 
-  pub limit-stands : (s parts : List ℕ) → PartTable s d parts → p < N d
-      → Stands (wholeTruth (scope (length (stretchOf (R d) p values)) 0)) s (getD parts (4 * p + 2) 0) (partAt d p .limit)
-  unfolding ownOnly
-  limit-stands s parts t h =
-      subst (λ n. Stands (wholeTruth (scope n 0)) s (getD parts (4 * p + 2) 0) (partAt d p .limit)) (sym (stretch-length (R d) p values fits))
-      (stands (wholeTruth (ownOnly (R d))) s (getD parts (4 * p + 2) 0) (partAt d p .limit) (t .limit p h))
+-- the limit stands at its offset, for values of all channels
+pub limit-stands : (s parts : List ℕ) (d : Deck) (p : ℕ) → PartTable s d parts → p < N d → (own : List ℤ) → length own ≡ R d
+    → Stands (wholeTruth (scope (length own) 0)) s (getD parts (4 * p + 2) 0) (partAt d p .limit)
+unfolding ownOnly
+limit-stands s parts d p t h own e =
+    subst (λ n. Stands (wholeTruth (scope n 0)) s (getD parts (4 * p + 2) 0) (partAt d p .limit)) (sym e)
+    (stands (wholeTruth (ownOnly (R d))) s (getD parts (4 * p + 2) 0) (partAt d p .limit) (t .limit p h))
+
+-- a part opens within its limit where its opening values alone do
+pub opens-value : (d : Deck) (p : ℕ) → Scoped d → Formed d → p < N d
+    → truthIn (partAt d p .opening) [] (partAt d p .limit) ≡ within d p (openingValues d)
+opens-value d p known f h =
+    ap (λ l. truthIn l [] (partAt d p .limit)) (sym (opened-part d f p h))
+    ∙ limit-value d p (openingValues d) known (omega (arith, opening-long d f, f .channels, f .parts, h))

@@ -1,4 +1,4 @@
--- A table of zeros that is filled with the opening values part by part. Assumes nothing.
+-- A table of zeros that is filled with the opening values part by part, and a row of them alone. Assumes nothing.
 use Prim.Native.Nat.{ℕ, zero, suc, _+_, _*_, _-_, _≤_, _<_}
 use mathlib.Core.Path.{_≡_, refl, sym, ap, ap₂, _∙_}
 use mathlib.Core.Bool.{true}
@@ -7,7 +7,7 @@ use native.Mathlib.Omega.{arith}
 use native.Mathlib.Numerals.{add-one}
 use lib.Dec.{eqb}
 use lib.ListN.{length, getD, take, drop, replicate, length-append, length-drop, length-replicate, replicate-append-replicate, drop-of-length-le}
-use lib.Seq.{take-suc, take-at, take-all, take-length, drop-at, drop-append-add}
+use lib.Seq.{take-suc, take-at, take-all, take-length, drop-at, split-at}
 use lib.IntN.{ℤ, pos}
 use borrow.Author.Tests.{eqb-true}
 use Rattle.lists.specs.Lists.{flatMap, all, lists}
@@ -16,7 +16,17 @@ use Rattle.deck.specs.Deck.{Deck, Part, R, N, partAt}
 use Rattle.deck.specs.Laws.Formed.{Formed}
 use Rattle.deck.specs.Laws.Rows.{flatMap-add}
 use Rattle.pool.specs.Places.{zeros}
+use Rattle.deck.specs.declared.Deck as Counted
 use Rattle.passing.specs.Check.{openingValues}
+use Rattle.passing.specs.Stands.{stretch, valuesFrom}
+use Rattle.passing.specs.Tabled.{deckOf, PartsKnown}
+use Rattle.passing.specs.Laws.Stands.{values-length, values-stand}
+
+-- the rows of two lists, one behind the other
+flatMap-append : {A B : Type 0} (f : A → List B) (l m : List A) → flatMap f (l ++ m) ≡ flatMap f l ++ flatMap f m
+unfolding lists
+flatMap-append f [] m = refl
+flatMap-append f (x ∷ l) m = ap (λ n. f x ++ n) (flatMap-append f l m) ∙ sym (append-assoc (f x) (flatMap f l) (flatMap f m))
 
 pub zeros-length : (n : ℕ) → length (zeros n) ≡ n
 unfolding zeros
@@ -134,3 +144,57 @@ module _ (d : Deck) (f : Formed d) where
 
   pub opening-long : length (openingValues d) ≡ 512
   opening-long = ap length (sym open-all) ∙ open-length (N d) (omega arith)
+
+  -- a part's stretch of the table holds its opening values
+  pub opened-part : (p : ℕ) → p < N d → take (R d) (drop (32 * p) (openingValues d)) ≡ partAt d p .opening
+  unfolding openingValues partAt N lists
+  opened-part p h =
+      let part = partAt d p in
+      let front = flatMap row (take p (d .parts)) in
+      let more = flatMap row (drop (suc p) (d .parts)) in
+      let blank = zeros (512 - 32 * N d) in
+      let behind = zeros (32 - R d) ++ (more ++ blank) in
+      let parted : flatMap row (d .parts) ++ blank ≡ front ++ (part .opening ++ behind)
+      = ap (λ l. flatMap row l ++ blank) (split-at (d .parts) p _ h)
+      ∙ ap (λ l. l ++ blank) (flatMap-append row (take p (d .parts)) (part ∷ drop (suc p) (d .parts)))
+      ∙ append-assoc front (row part ++ more) blank
+      ∙ ap (λ l. front ++ l) (append-assoc (row part) more blank ∙ append-assoc (part .opening) (zeros (32 - R d)) (more ++ blank)) in
+      ap (λ l. take (R d) (drop (32 * p) l)) parted
+      ∙ ap (take (R d)) (drop-at front (part .opening ++ behind) (32 * p) (front-length p (omega arith)))
+      ∙ take-at (part .opening) behind (R d) (opening-length p h)
+
+-- part p's opening values are there, one for each channel
+module _ (s : List ℕ) (k : Counted.Deck) (parts : List ℕ) (w : PartsKnown s k parts) (p : ℕ) (h : p < k .parts) where
+  pub known-part : p < N (deckOf s)
+  known-part = omega (arith, w .counts .parts)
+
+  pub opening-stands : (partAt (deckOf s) p .opening ≡ valuesFrom s (getD parts (4 * p + 1) 0) (k .channels))
+      × (getD parts (4 * p + 1) 0 + 4 * k .channels ≤ length s)
+  opening-stands =
+      rw (w .counts .channels)
+      (values-stand s (R (deckOf s)) (getD parts (4 * p + 1) 0) (partAt (deckOf s) p .opening) (w .counts .some) (w .table .opening p known-part))
+
+  -- a row of their own, of 32 numbers, with these values at its front
+  module _ (old alone : List ℤ) (long : length old ≡ 32)
+      (e : alone ≡ valuesFrom s (getD parts (4 * p + 1) 0) (k .channels) ++ drop (k .channels) old) where
+    pub alone-length : length alone ≡ 32
+    alone-length =
+        let values = valuesFrom s (getD parts (4 * p + 1) 0) (k .channels) in
+        omega (
+          arith,
+          ap length e,
+          length-append values (drop (k .channels) old),
+          values-length s (getD parts (4 * p + 1) 0) (k .channels),
+          length-drop (k .channels) old,
+          w .counts .channels,
+          w .counts .formed .channels,
+        )
+
+    pub alone-opening : stretch alone 0 (k .channels) ≡ partAt (deckOf s) p .opening
+    alone-opening =
+        let values = valuesFrom s (getD parts (4 * p + 1) 0) (k .channels) in
+        let n : 0 + k .channels - 0 ≡ k .channels = omega arith in
+        ap (λ j. take j alone) n
+        ∙ ap (take (k .channels)) e
+        ∙ take-at values (drop (k .channels) old) (k .channels) (values-length s (getD parts (4 * p + 1) 0) (k .channels))
+        ∙ sym (opening-stands .0)

@@ -16,13 +16,14 @@ use Rattle.deck.specs.Deck.{Deck, R, M, N, ruleAt, partAt}
 use Rattle.deck.specs.Reader.{Got, Reader, times, value}
 use Rattle.deck.specs.Layout.{Layout, expression, ownOnly, taskScope, action, valueOf, read}
 use Rattle.deck.specs.Encoding.{inRange, goodRule, goodPart, wellFormed}
-use Rattle.deck.specs.Marks.{MarkedTask, MarkedRule, MarkedPart, Marked, markedSections, unmarked, ruleOf, ruleRow, partRow, Loads}
+use Rattle.deck.specs.Marks.{rulesAt, RulesFit, MarkedTask, MarkedRule, MarkedPart, Marked, markedSections, unmarked, ruleOf, ruleRow, partRow, Loads}
 use Rattle.deck.specs.declared.Deck as Counted
 use Rattle.deck.specs.declared.Loaded.the-variants.{Whole, Wrong}
 use Rattle.deck.specs.Laws.Marks.{mapGot, read-marked}
 use Rattle.deck.specs.Laws.Points.{ReadsAt, RulePoints, PartPoints}
 use Rattle.deck.specs.Laws.DeckPoints.{Each, deck-points}
 use Rattle.deck.specs.Laws.TablesRead.{Zeros, zeros-drop, column, noRule, noPart, rule-width, part-width, rule-read, part-read, tables-read, counts-read, ranged-marked}
+use Rattle.deck.specs.Laws.RuleCount.{rule-count}
 use Rattle.deck.specs.Laws.Reading.{reads-exactly}
 use Rattle.deck.specs.Laws.Formed.{formed}
 use Rattle.deck.specs.Laws.Scoped.{scoped}
@@ -123,12 +124,11 @@ module _ (s : List ℕ) (m : Marked) (e : markedSections s 0 ≡ accepted (recor
     part-column j p h z =
         column partRow 4 j part-width h noPart z (drop (4 * m .count) parts₀) (zeros-drop (4 * m .count) parts₀ zp) (m .parts) p
 
-    rules-long : length rules₀ ≡ 512 → M d ≤ 64 → length rules ≡ 512
-    rules-long h k =
+    rules-long : 8 * M d ≤ length rules₀ → length rules ≡ length rules₀
+    rules-long h =
         omega (
           arith,
           h,
-          k,
           rules-count,
           counts .0,
           length-append (flatMap ruleRow (m .front .rules)) (drop (8 * m .front .count) rules₀),
@@ -150,11 +150,12 @@ module _ (s : List ℕ) (m : Marked) (e : markedSections s 0 ≡ accepted (recor
         )
 
     -- what stands at the offsets
-    rule-table : length rules₀ ≡ 512 → M d ≤ 64 → RuleTable s d rules
+    rule-table : 256 ≤ length rules₀ → 8 * M d ≤ length rules₀ → RuleTable s d rules
     unfolding ruleRow ruleOf
-    rule-table h few =
+    rule-table h room =
         record {
-          long = rules-long h few;
+          long = omega (arith, h, rules-long room);
+          room = omega (arith, room, rules-long room);
           default = λ r k.
               subst (λ a. ReadsAt s (action (ownOnly (R d))) (getD rules (8 * r + 4) 0) (a .default)) (sym (rule-read m r))
               (subst (λ at. ReadsAt s (action (ownOnly (R d))) at (getD (m .front .rules) r noRule .default)) (sym (rule-column 4 r (omega arith) refl))
@@ -197,12 +198,13 @@ module _ (s : List ℕ) (m : Marked) (e : markedSections s 0 ≡ accepted (recor
         record { channels = m .front .channels; rules = m .front .count; parts = m .count; second = m .front .rulesAt; third = m .partsAt }
 
     -- all of it, for numbers that are bytes
-    pub tabled : Bytes s → length rules₀ ≡ 512 → length parts₀ ≡ 64
+    pub tabled : Bytes s → 256 ≤ length rules₀ → RulesFit s (length rules₀) → length parts₀ ≡ 64
         → Tabled s kept rules parts
     unfolding unmarked
-    tabled b hr hp =
+    tabled b hr fits hp =
         let well = reads-exactly s b d .reads (unmarked m, marked-read, refl) .0 in
         let f = formed d well in
+        let told : M d ≡ rulesAt s = rules-count ∙ rule-count s (record { value = m; rest = []; at = length s }) e .1 in
         subst (λ l. TablesIn s l kept rules parts) (sym marked-layout)
         (record {
           counts = record {
@@ -215,7 +217,7 @@ module _ (s : List ℕ) (m : Marked) (e : markedSections s 0 ≡ accepted (recor
             formed = f;
             scoped = scoped d well;
           };
-          ruleTable = rule-table hr (f .rules);
+          ruleTable = rule-table hr (omega (arith, told, fits (omega (arith, told, f .rules))));
           partTable = part-table hp (f .parts);
           sets = tables-read m rules₀ parts₀ zr zp;
           ranged = ranged-marked s (record { value = m; rest = []; at = length s }) e;
@@ -230,7 +232,8 @@ tabled-kept {s} {rules₀} {rules} {parts} {l} o t =
     record {
       counts = t .counts;
       ruleTable = record {
-        long = o .long ∙ t .ruleTable .long;
+        long = omega (arith, o .long, t .ruleTable .long);
+        room = omega (arith, o .long, t .ruleTable .room);
         default = λ r h.
             subst (λ at. ReadsAt s (action (ownOnly (R (l .deck)))) at (ruleAt (l .deck) r .default)) (kept 4 r (omega arith)) (t .ruleTable .default r h);
         condition = λ r h.

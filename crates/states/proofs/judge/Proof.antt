@@ -1,7 +1,6 @@
--- `states::judge` meets its contract: the frame, the places with their charge, equal ones, and the comparison. Assumes nothing.
-use Prim.Native.Nat.{ℕ}
+-- `states::judge` meets its contract: the frame, the places with their charge, and the comparison. Assumes nothing.
 use mathlib.Core.Path.{_≡_, refl, sym, _∙_}
-use mathlib.Core.Bool.{true}
+use mathlib.Core.Bool.{true, _&&_}
 use native.Mathlib.Omega.{arith}
 use borrow.Author.Needs.{needs}
 use borrow.Author.Tests.{not-true, not-false}
@@ -13,10 +12,9 @@ use Rattle.pool.specs.Updates.{allDifferent, charge}
 use Rattle.pool.specs.Places.{updatesOf}
 use Rattle.pool.specs.States.{Memory}
 use Rattle.states.specs.Answer.{memoryOf, allFit, framed, uncharged}
-use Rattle.states.specs.Laws.Judged.{Framed, framed-tests, no-frame, no-fit, fit-written, not-different, all-but-charge}
+use Rattle.states.specs.Laws.Judged.{Framed, framed-tests, no-frame, not-sound, all-but-charge}
 use Rattle.states.specs.Laws.Judged.{weight-good, weight-bad, judged-bad, judged-above, judged-good}
-use Rattle.states.specs.Laws.Indexing.{few-places, fresh-roomy, index-made}
-use Rattle.states.specs.declared.Goodness.the-variants.{Good, Bad}
+use Rattle.states.specs.Laws.Indexing.{few-places, fresh-roomy, index-none}
 use Rattle.states.proofs.judge.Statement.{statement}
 use Rattle.states.proofs.judge.Tie as tie
 
@@ -27,18 +25,15 @@ deckOf s = shapeOf (s .args .rules .now) (s .args .parts .now) (s .args .channel
 abbrev lentTo : tie.Start → Memory
 lentTo s = memoryOf (s .args .values .now) (s .args .pending) (s .args .pool .now)
 
--- from the test of the frame, of the places, and of equal ones back to the start
+-- from the test of the frame and of the places back to the start
 abbrev start-of : tie.After-state-fits → tie.Start
 start-of c = c .before .before .before .before .before
 
 abbrev framed-of : tie.After-weigh → tie.Else1
-framed-of c = c .before .before
+framed-of c = c .before .before .before
 
 abbrev weigh-of : tie.After-weighed → tie.After-weigh
-weigh-of c = c .before .before .before .before
-
-abbrev weighed-of : tie.After-all-different → tie.After-weighed
-weighed-of c = c .before .before .before
+weigh-of c = c .before .before .before .before .before .before
 
 abbrev begin : tie.After-weigh → tie.Start
 begin c = start-of (framed-of c .before)
@@ -57,33 +52,21 @@ in-frame c = sym (learnt (c .before)) ∙ not-false _ (c .if1 .left)
 frame : (c : tie.Else1) → Framed (deckOf (start-of (c .before))) (lentTo (start-of (c .before)))
 frame c = framed-tests (deckOf (start-of (c .before))) (lentTo (start-of (c .before))) (in-frame c)
 
--- where the places are weighed, all fit
-fitting : (c : tie.After-weighed)
+-- where the places are weighed, all fit and no two are equal
+sound : (c : tie.After-weighed)
     → let s = begin (weigh-of c) in
-    (allFit (deckOf s) (s .args .pending) (s .args .pool .now) ≡ true)
-    × (c .weighed .given .0 .0 ≡ capped (charge (deckOf s) (updatesOf (s .args .pending) (s .args .pool .now))))
-fitting c =
+    let us = updatesOf (s .args .pending) (s .args .pool .now) in
+    ((allFit (deckOf s) (s .args .pending) (s .args .pool .now) && allDifferent us) ≡ true)
+    × (c .weighed .given .0 .0 ≡ capped (charge (deckOf s) us))
+sound c =
     let s = begin (weigh-of c) in
     weight-good (deckOf s) (lentTo s) (c .weighed .given .1) (weigh-of c .weigh .ensures .answer)
 
--- what the test for equal ones says of these places
-different : (c : tie.After-all-different)
-    → let s = begin (weigh-of (weighed-of c)) in
-    c .all-different .result ≡ allDifferent (updatesOf (s .args .pending) (s .args .pool .now))
-different c =
-    let s = begin (weigh-of (weighed-of c)) in
-    c .all-different .ensures .0 (fit-written (deckOf s) (lentTo s) (fitting (weighed-of c) .0))
-
-passed : (c : tie.After-all-different) → c .all-different .result ≡ true
-    → let s = begin (weigh-of (weighed-of c)) in uncharged (deckOf s) (lentTo s) ≡ true
-passed c e =
-    let w = weigh-of (weighed-of c) in
+passed : (c : tie.After-weighed) → let s = begin (weigh-of c) in uncharged (deckOf s) (lentTo s) ≡ true
+passed c =
+    let w = weigh-of c in
     let s = begin w in
-    all-but-charge (deckOf s) (lentTo s) (in-frame (framed-of w)) (fitting (weighed-of c) .0) (sym (different c) ∙ e)
-
--- `Bad` is no `Good`
-not-good : {total : ℕ} {A : Type 0} → Bad ≡ Good total → A
-not-good e = let q : _≡_ {A = ℕ} 0 1 = cc in absurd (omega arith)
+    all-but-charge (deckOf s) (lentTo s) (in-frame (framed-of w)) (sound c .0)
 
 state-fits-requires : tie.Need-state-fits-requires
 state-fits-requires c κs =
@@ -96,19 +79,16 @@ returns c =
     record {
       answer = judged-bad (deckOf s) (lentTo s) (no-frame (deckOf s) (lentTo s) (sym (learnt (c .before)) ∙ not-true _ (c .if1 .taken)));
       memo = s .pre .0 .memo;
-      indexes = index-made (λ g. not-good (g .1)) refl;
+      indexes = index-none refl;
     }
 
 weigh-requires : tie.Need-weigh-requires
 weigh-requires c κs =
-    let s = start-of (c .before .before) in
-    (s .pre .0, s .pre .1, omega (arith, frame (c .before) .few))
-
-all-different-requires : tie.Need-all-different-requires
-all-different-requires c κs =
-    let w = weigh-of (c .before .before) in
-    let s = begin w in
-    let few = frame (framed-of w) .few in (
+    let f = c .before .before in
+    let s = start-of (f .before) in
+    let few = frame f .few in (
+      s .pre .0,
+      s .pre .1,
       omega (arith, few),
       omega (arith, few, few-places _ (s .pre .2)),
       fresh-roomy (s .pre .3) (s .args .pending) few,
@@ -117,47 +97,38 @@ all-different-requires c κs =
 
 returns-2 : tie.Need-returns-2
 returns-2 c =
-    let a = c .before .before .before in
-    let w = weigh-of (weighed-of a) in
+    let e = c .before .before in
+    let w = weigh-of e in
     let s = begin w in
     record {
-      answer = judged-bad (deckOf s) (lentTo s) (not-different (deckOf s) (lentTo s) (sym (different a) ∙ not-true _ (c .if2 .taken)));
+      answer = judged-above (deckOf s) (lentTo s) (passed e) (sound e .1) (c .if2 .taken);
       memo = w .weigh .ensures .memo;
-      indexes = index-made (λ g. not-good (g .1)) (a .all-different .ensures .2);
+      indexes = index-none (w .weigh .ensures .indexes .long);
     }
 
 returns-3 : tie.Need-returns-3
 returns-3 c =
-    let a = c .before .before .before .before in
-    let w = weigh-of (weighed-of a) in
+    let w = c .before .before .before .before .before .before in
     let s = begin w in
+    let unsound = weight-bad (deckOf s) (lentTo s) (c .enum-told .given .1) (w .weigh .ensures .answer) in
     record {
-      answer = judged-above (deckOf s) (lentTo s) (passed a (not-false _ (c .before .if2 .left))) (fitting (weighed-of a) .1) (c .if3 .taken);
+      answer = judged-bad (deckOf s) (lentTo s) (not-sound (deckOf s) (lentTo s) unsound);
       memo = w .weigh .ensures .memo;
-      indexes = index-made (λ g. not-good (g .1)) (a .all-different .ensures .2);
+      indexes = index-none (w .weigh .ensures .indexes .long);
     }
 
 returns-4 : tie.Need-returns-4
 returns-4 c =
-    let w = c .before .before .before .before in
+    let e = c .before .before in
+    let w = weigh-of e in
     let s = begin w in
-    let unfit = weight-bad (deckOf s) (lentTo s) (c .enum-told .given .1) (w .weigh .ensures .answer) in
     record {
-      answer = judged-bad (deckOf s) (lentTo s) (no-fit (deckOf s) (lentTo s) unfit);
+      answer = judged-good (deckOf s) (lentTo s) (passed e) (sound e .1) (s .pre .2) (c .if2 .left);
       memo = w .weigh .ensures .memo;
-      indexes = index-made (λ g. not-good (g .1)) refl;
-    }
-
-returns-5 : tie.Need-returns-5
-returns-5 c =
-    let a = c .before .before .before .before in
-    let w = weigh-of (weighed-of a) in
-    let s = begin w in
-    let all = not-false _ (c .before .if2 .left) in
-    record {
-      answer = judged-good (deckOf s) (lentTo s) (passed a all) (fitting (weighed-of a) .1) (s .pre .2) (c .if3 .left);
-      memo = w .weigh .ensures .memo;
-      indexes = index-made (λ g. a .all-different .ensures .1 all) (a .all-different .ensures .2);
+      indexes = record {
+        indexed = λ _. w .weigh .ensures .indexes .indexed (_, e .weighed .given .1);
+        long = w .weigh .ensures .indexes .long;
+      };
     }
 
 pub judge-spec : {M : Type 1} → statement M
@@ -169,16 +140,13 @@ judge-spec =
     weigh-requires
     (λ c. search needs)
     (λ c. search needs)
-    all-different-requires
+    (λ c. search needs)
     (λ c. search needs)
     (λ c. search needs)
     returns-2
     (λ c. search needs)
     (λ c. search needs)
-    (λ c. search needs)
     returns-3
     (λ c. search needs)
-    returns-4
     (λ c. search needs)
-    (λ c. search needs)
-    returns-5)
+    returns-4)

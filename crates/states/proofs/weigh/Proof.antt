@@ -1,43 +1,72 @@
--- `states::weigh` meets its contract. The loop's invariant: the places from k on fit exactly if all do, with the charge of
--- their updates the total is that of all, and the memo is right. Assumes nothing.
-use Prim.Native.Nat.{_-_, _≤_}
-use mathlib.Core.Path.{_≡_, sym, _∙_}
+-- `states::weigh` meets its contract. The loop's invariant: the first k places fit and are different, the total is the charge of
+-- their updates, the memo is right, and the index has them. Assumes nothing.
+use Prim.Native.Nat.{ℕ, _-_, _<_, _≤_}
+use mathlib.Core.Path.{_≡_, sym, ap, _∙_}
 use mathlib.Core.Bool.{true, _&&_}
+use mathlib.Core.List.{List}
 use native.Mathlib.Omega.{arith}
 use lib.ListN.{length}
+use lib.IntN.{ℤ}
 use Rattle.lists.specs.Bits.{maskOf}
 use Rattle.deck.specs.Deck.{Deck, R}
-use Rattle.deck.specs.Shape.{shapeOf}
+use Rattle.deck.specs.Shape.{shapeOf, bitsOf}
 use Rattle.deck.specs.Laws.Shape.{shape-R, shape-N}
+use Rattle.charge.specs.Charge.{updateCharge}
+use Rattle.charge.specs.Memo.{Answered}
 use Rattle.pool.specs.Updates.{channels}
 use Rattle.pool.specs.Places.{updateOf, wellWritten}
 use Rattle.pool.specs.States.{known}
-use Rattle.states.specs.Answer.{IfFit, Holds}
+use Rattle.index.specs.Hash.{bucketOf}
+use Rattle.index.specs.Index.{headsOf}
+use Rattle.index.specs.Laws.Entering.{roomy-heads}
+use Rattle.states.specs.Answer.{IfFit, Holds, PlaceGives}
 use Rattle.states.specs.Laws.Charges.{holds-part, holds-charge}
-use Rattle.states.proofs.Adding.{Adding, lent, lent-length, adding-none, adding-stop, adding-place, adding-more, adding-all}
+use Rattle.states.proofs.Adding.{Adding, lent, lent-length, adding-none, adding-unfit, adding-place, adding-heads, adding-room}
+use Rattle.states.proofs.Adding.{adding-twice, adding-more, adding-all}
 use Rattle.states.proofs.weigh.Statement.{statement}
 use Rattle.states.proofs.weigh.Tie as tie
 
 abbrev Inv-loop : tie.InvT-loop
-Inv-loop rules parts memo₀ channels count parts-count pool pending total₀ k₀ memo total k =
-    Adding (shapeOf rules parts channels count parts-count) pending pool memo total k
+Inv-loop rules parts memo₀ channels count parts-count pool pending index₀ heads total₀ k₀ memo index total k =
+    Adding (shapeOf rules parts channels count parts-count) pending pool index₀ memo index total k
 
 abbrev μ-loop : tie.MeasureT-loop
-μ-loop rules parts memo₀ channels count parts-count pool pending total₀ k₀ memo total k = pending - k
+μ-loop rules parts memo₀ channels count parts-count pool pending index₀ heads total₀ k₀ memo index total k = pending - k
 
--- the deck by its tables, and the place at hand
+-- the deck by its tables, and the way back to the place at hand and to the start
 abbrev deckOf : tie.Start Inv-loop μ-loop → Deck
 deckOf s = shapeOf (s .args .rules .now) (s .args .parts .now) (s .args .channels) (s .args .count) (s .args .parts-count)
+
+abbrev start-of : tie.At-loop Inv-loop μ-loop → tie.Start Inv-loop μ-loop
+start-of c = c .before .before .before .before .before
 
 abbrev loop-of : tie.After-place-fits Inv-loop μ-loop → tie.At-loop Inv-loop μ-loop
 loop-of c = c .before .before .before
 
-abbrev start-of : tie.At-loop Inv-loop μ-loop → tie.Start Inv-loop μ-loop
-start-of c = c .before .before .before .before
+abbrev fit-of : tie.After-update-charge Inv-loop μ-loop → tie.Else1 Inv-loop μ-loop
+fit-of c = c .before .before .before .before
+
+abbrev charge-of : tie.After-capped-sum Inv-loop μ-loop → tie.After-update-charge Inv-loop μ-loop
+charge-of c = c .before .before .before
+
+abbrev turn-of : tie.After-capped-sum Inv-loop μ-loop → tie.At-loop Inv-loop μ-loop
+turn-of c = loop-of (fit-of (charge-of c) .before)
+
+abbrev sum-of : tie.After-bucket Inv-loop μ-loop → tie.After-capped-sum Inv-loop μ-loop
+sum-of c = c .before .before
+
+abbrev bucket-of : tie.After-find Inv-loop μ-loop → tie.After-bucket Inv-loop μ-loop
+bucket-of c = c .before .before .before
+
+abbrev lent-at : tie.At-loop Inv-loop μ-loop → List ℤ
+lent-at c = lent (c .loop .k) (start-of c .args .pool .now)
+
+inside : (c : tie.After-place-fits Inv-loop μ-loop) → loop-of c .loop .k < start-of (loop-of c) .args .pending
+inside c = c .before .before .loop-test .taken
 
 -- what the test says of the place at hand, for this deck
 learnt : (c : tie.After-place-fits Inv-loop μ-loop)
-    → let l = lent (loop-of c .loop .k) (start-of (loop-of c) .args .pool .now) in
+    → let l = lent-at (loop-of c) in
     IfFit (wellWritten l && known (deckOf (start-of (loop-of c))) (updateOf l)) (channels (updateOf l)) (c .place-fits .result)
 learnt c =
     let a = start-of (loop-of c) .args in
@@ -47,22 +76,45 @@ learnt c =
 
 -- the place holds a known update, and the set has its channels
 fitting : (c : tie.Else1 Inv-loop μ-loop)
-    → let l = lent (loop-of (c .before) .loop .k) (start-of (loop-of (c .before)) .args .pool .now) in
+    → let l = lent-at (loop-of (c .before)) in
     ((wellWritten l && known (deckOf (start-of (loop-of (c .before)))) (updateOf l)) ≡ true)
     × (c .before .place-fits .result ≡ maskOf (channels (updateOf l)))
 fitting c = learnt (c .before) .some (c .if1 .left)
 
-holds : (c : tie.Else1 Inv-loop μ-loop)
-    → Holds (deckOf (start-of (loop-of (c .before)))) (lent (loop-of (c .before) .loop .k) (start-of (loop-of (c .before)) .args .pool .now))
+holds : (c : tie.Else1 Inv-loop μ-loop) → Holds (deckOf (start-of (loop-of (c .before)))) (lent-at (loop-of (c .before)))
 holds c =
     let t = loop-of (c .before) in
     let s = start-of t in
-    adding-place _ (s .args .pending) (s .args .pool .now) (t .loop .inv) (omega arith) (s .pre .2) (fitting c .0)
+    adding-place _ (s .args .pending) (s .args .pool .now) (t .loop .inv) (inside (c .before)) (s .pre .2) (fitting c .0)
+
+-- its charge
+charged : (c : tie.After-update-charge Inv-loop μ-loop) {m : List ℕ} {x : ℕ}
+    → let s = start-of (loop-of (fit-of c .before)) in
+    Answered (deckOf s) (updateCharge (deckOf s) (c .before .before .number-at .result) (bitsOf 32 (fit-of c .before .place-fits .result))) m x
+    → PlaceGives (deckOf s) (lent-at (loop-of (fit-of c .before))) m x
+charged c =
+    let f = fit-of c in
+    let s = start-of (loop-of (f .before)) in
+    let a = s .args in
+    let few : R (deckOf s) ≤ 32 = omega (arith, shape-R (a .rules .now) (a .parts .now) (a .channels) (a .count) (a .parts-count), s .pre .1) in
+    holds-charge (deckOf s) (a .parts-count) (shape-N (a .rules .now) (a .parts .now) (a .channels) (a .count) (a .parts-count)) _ (holds f)
+    few (c .before .before .number-at .ensures) (fitting f .1)
+
+-- its bucket
+bucketed : (c : tie.After-bucket Inv-loop μ-loop)
+    → let t = turn-of (sum-of c) in
+    (c .bucket .result < headsOf (t .loop .index)) × (c .bucket .result ≡ bucketOf (headsOf (t .loop .index)) (lent-at t))
+unfolding headsOf
+bucketed c =
+    let t = turn-of (sum-of c) in
+    let s = start-of t in
+    let e = adding-heads _ (s .args .pending) (s .args .pool .now) (t .loop .inv) in
+    (omega (arith, c .bucket .ensures .1, e), c .bucket .ensures .0 ∙ ap (λ n. bucketOf n (lent-at t)) (sym e))
 
 loop-holds : tie.Need-loop-holds Inv-loop μ-loop
 loop-holds c =
-    let s = c .before .before .before in
-    adding-none _ (s .args .pending) (s .args .pool .now) (s .pre .0 .memo)
+    let s = c .before .before .before .before in
+    adding-none _ (s .args .pending) (s .args .pool .now) (s .pre .0 .memo) (s .pre .4) (s .pre .5)
 
 place-fits-requires : tie.Need-place-fits-requires Inv-loop μ-loop
 place-fits-requires c κs =
@@ -74,7 +126,7 @@ returns : tie.Need-returns Inv-loop μ-loop
 returns c =
     let t = loop-of (c .before) in
     let s = start-of t in
-    adding-stop _ (s .args .pending) (s .args .pool .now) (t .loop .inv) (omega arith) (learnt (c .before) .none (c .if1 .taken))
+    adding-unfit _ (s .args .pending) (s .args .pool .now) (t .loop .inv) (inside (c .before)) (learnt (c .before) .none (c .if1 .taken))
 
 number-at-requires : tie.Need-number-at-requires Inv-loop μ-loop
 number-at-requires c κs = omega (arith, holds (c .before) .long)
@@ -93,26 +145,75 @@ update-charge-requires c κs =
 capped-sum-requires : tie.Need-capped-sum-requires Inv-loop μ-loop
 capped-sum-requires c κs =
     let u = c .before .before in
-    (loop-of (u .before .before .before .before .before) .loop .inv .small, omega (arith, u .update-charge .ensures .value))
+    (omega (arith, loop-of (fit-of u .before) .loop .inv .same), omega (arith, u .update-charge .ensures .value))
+
+bucket-requires : tie.Need-bucket-requires Inv-loop μ-loop
+unfolding headsOf
+bucket-requires c κs =
+    let f = fit-of (charge-of (c .before)) in
+    let r = roomy-heads (start-of (loop-of (f .before)) .pre .4) in
+    (holds f .long, r .0, r .1)
+
+find-requires : tie.Need-find-requires Inv-loop μ-loop
+find-requires c κs =
+    let b = c .before .before in
+    let f = fit-of (charge-of (sum-of b)) in
+    let t = loop-of (f .before) in
+    (holds f .long, omega (arith, start-of t .pre .2), bucketed b .0, bucketed b .1, t .loop .inv .indexed)
+
+returns-2 : tie.Need-returns-2 Inv-loop μ-loop
+returns-2 c =
+    let u = charge-of (sum-of (bucket-of (c .before))) in
+    let f = fit-of u in
+    let t = loop-of (f .before) in
+    let s = start-of t in
+    adding-twice _ (s .args .pending) (s .args .pool .now) (t .loop .inv) (inside (f .before)) (fitting f .0) (charged u (u .update-charge .ensures))
+    (c .before .find .ensures)
+    (c .if2 .taken)
+
+note-requires : tie.Need-note-requires Inv-loop μ-loop
+note-requires c κs =
+    let b = bucket-of (c .before .before) in
+    let f = fit-of (charge-of (sum-of b)) .before in
+    let t = loop-of f in
+    let s = start-of t in (
+      bucketed b .0,
+      adding-room _ (s .args .pending) (s .args .pool .now) (t .loop .inv) (inside f) (s .pre .4),
+      omega (arith, inside f, s .pre .3),
+    )
+
+add-k : tie.Need-add-k Inv-loop μ-loop
+add-k c =
+    let f = fit-of (charge-of (sum-of (bucket-of (c .before .before .before .before .before)))) .before in
+    omega (arith, inside f, start-of (loop-of f) .pre .3)
+
+loop-less : tie.Need-loop-less Inv-loop μ-loop
+loop-less c = omega (arith, inside (fit-of (charge-of (sum-of (bucket-of (c .before .before .before .before .before)))) .before))
 
 loop-again : tie.Need-loop-again Inv-loop μ-loop
 loop-again c =
-    let u = c .before .before .before in
-    let f = u .before .before .before .before in
+    let n = c .before .before in
+    let i = n .before .before in
+    let b = bucket-of (i .before) in
+    let u = charge-of (sum-of b) in
+    let f = fit-of u in
     let t = loop-of (f .before) in
     let s = start-of t in
-    let a = s .args in
-    let few : R (deckOf s) ≤ 32 = omega (arith, shape-R (a .rules .now) (a .parts .now) (a .channels) (a .count) (a .parts-count), s .pre .1) in
-    let charge = holds-charge (deckOf s) (a .parts-count) (shape-N (a .rules .now) (a .parts .now) (a .channels) (a .count) (a .parts-count)) _ (holds f)
-    few (u .before .before .number-at .ensures) (fitting f .1) (u .update-charge .ensures) in
-    adding-more _ (a .pending) (a .pool .now) (t .loop .inv) (omega arith) (fitting f .0) charge (c .capped-sum .ensures)
+    rw (n .note .ensures)
+    (adding-more _ (s .args .pending) (s .args .pool .now) (t .loop .inv) (inside (f .before)) (fitting f .0) (charged u (u .update-charge .ensures))
+    (i .before .find .ensures) (sum-of b .capped-sum .ensures) (i .if2 .left) (bucketed b .0) (s .pre .4) (bucketed b .1))
 
 -- the memo keeps its length
 same-length : (c : tie.At-loop Inv-loop μ-loop) → length (c .loop .memo) ≡ length (start-of c .args .memo .now)
 same-length c = c .loop .inv .memo .long ∙ sym (start-of c .pre .0 .memo .long)
 
-returns-2 : tie.Need-returns-2 Inv-loop μ-loop
-returns-2 c =
+same-length-3 : tie.Need-same-length-3 Inv-loop μ-loop
+same-length-3 c =
+    let u = charge-of (sum-of (bucket-of (c .before))) in
+    u .update-charge .ensures .memo .long ∙ sym (start-of (loop-of (fit-of u .before)) .pre .0 .memo .long)
+
+returns-3 : tie.Need-returns-3 Inv-loop μ-loop
+returns-3 c =
     let t = c .before in
     let s = start-of t in
     adding-all _ (s .args .pending) (s .args .pool .now) (t .loop .inv) (omega arith)
@@ -132,6 +233,7 @@ weigh-spec =
     (λ c. omega (arith, start-of (c .before) .pre .2))
     place-fits-requires
     (λ c. same-length (loop-of (c .before)))
+    (λ c. loop-of (c .before) .loop .inv .long)
     returns
     (λ c. omega (arith, start-of (loop-of (c .before)) .pre .2))
     (λ c. omega arith)
@@ -140,8 +242,23 @@ weigh-spec =
     number-at-requires
     update-charge-requires
     capped-sum-requires
+    (λ c. omega (arith, start-of (turn-of c) .pre .2))
     (λ c. omega arith)
+    (λ c. omega (arith, start-of (turn-of c) .pre .2))
+    (λ c. omega (arith, start-of (turn-of c) .pre .2))
+    bucket-requires
+    (λ c. omega (arith, start-of (turn-of (sum-of (c .before))) .pre .2))
     (λ c. omega arith)
+    (λ c. omega (arith, start-of (turn-of (sum-of (c .before))) .pre .2))
+    (λ c. omega (arith, start-of (turn-of (sum-of (c .before))) .pre .2))
+    find-requires
+    same-length-3
+    (λ c. turn-of (sum-of (bucket-of (c .before))) .loop .inv .long)
+    returns-2
+    note-requires
+    add-k
+    loop-less
     loop-again
     (λ c. same-length (c .before))
-    returns-2)
+    (λ c. c .before .loop .inv .long)
+    returns-3)

@@ -11,8 +11,9 @@ use borrow.Author.Tests.{leb-true}
 use Rattle.lists.specs.Laws.Booleans.{and-left, and-right}
 use Rattle.pool.specs.Places.{capacity}
 use Rattle.pool.specs.States.{goodLength}
-use Rattle.index.specs.Index.{headsOf, Indexed, keys, Roomy}
+use Rattle.index.specs.Index.{headsOf, Roomy}
 use Rattle.states.specs.Answer.{Fresh, IndexedIf}
+use Rattle.states.specs.declared.Goodness.the-variants.{Good, Bad}
 
 -- at most 65,535 places
 pub few-places : (n : ℕ) → goodLength n ≡ true → n / 10 ≤ 65535
@@ -28,15 +29,13 @@ fresh-roomy f pending h =
     let r = f .roomy in
     record { some = r .some; few = r .few; links = omega (arith, r .links, h) }
 
-pub index-made : {pending : ℕ} {pool : List ℤ} {index₀ index : List ℕ} {passed : Type 0}
-    → (passed → Indexed 0 (keys (headsOf index₀) pending pool) index) → length index ≡ length index₀
-    → IndexedIf pending pool index₀ index passed
-unfolding headsOf
-index-made {pending} {pool} {index₀} {index} f e =
-    record {
-      indexed = λ p. rw e (f p);
-      long = e;
-    }
+-- where the answer is `Bad`, of the index its length
+pub index-none : {pending : ℕ} {pool : List ℤ} {index₀ index : List ℕ} → length index ≡ length index₀
+    → IndexedIf pending pool index₀ index ((total : ℕ) × (Bad ≡ Good total))
+index-none e = record { indexed = λ g. not-good (g .1); long = e }
+  where
+    not-good : {total : ℕ} {A : Type 0} → Bad ≡ Good total → A
+    not-good e = let q : _≡_ {A = ℕ} 0 1 = cc in absurd (omega arith)
 
 -- room is a matter of length
 pub roomy-same : {n : ℕ} {a b : List ℕ} → length b ≡ length a → Roomy n a → Roomy n b

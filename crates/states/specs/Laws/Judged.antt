@@ -1,7 +1,7 @@
 -- A good state by the code's tests in their order: the frame, the places, equal ones, the charge. Assumes nothing.
 use Prim.Native.Nat.{ℕ, _*_, _/_, _%_, _<_, _≤_}
 use mathlib.Core.Path.{_≡_, refl, sym, ap, _∙_}
-use mathlib.Core.Bool.{Bool, true, false, _&&_, cond, and-false}
+use mathlib.Core.Bool.{Bool, true, false, _&&_, cond, and-assoc, and-false}
 use mathlib.Core.List.{List}
 use native.Mathlib.Omega.{arith}
 use lib.Dec.{leb, eqb}
@@ -70,25 +70,20 @@ module _ (d : Deck) (m : Memory) where
 
   -- ---- all tests but the charge
 
-  pub fit-written : allFit d n (m .pool) ≡ true → all wellWritten (places n (m .pool)) ≡ true
-  unfolding allFit
-  fit-written h = and-left (all wellWritten (places n (m .pool))) (all (known d) us) h
-
   pub no-frame : framed d m ≡ false → uncharged d m ≡ false
   unfolding uncharged
   no-frame h = ap (λ x. x && allFit d n (m .pool) && allDifferent us) h
 
-  pub no-fit : allFit d n (m .pool) ≡ false → uncharged d m ≡ false
-  unfolding uncharged
-  no-fit h = rw (h, and-false) refl
+  abbrev sound : Bool
+  sound = allFit d n (m .pool) && allDifferent us
 
-  pub not-different : allDifferent us ≡ false → uncharged d m ≡ false
+  pub not-sound : sound ≡ false → uncharged d m ≡ false
   unfolding uncharged
-  not-different h = rw (h, and-false) refl
+  not-sound h = and-assoc (framed d m) (allFit d n (m .pool)) (allDifferent us) ∙ ap (λ x. framed d m && x) h ∙ and-false (framed d m)
 
-  pub all-but-charge : framed d m ≡ true → allFit d n (m .pool) ≡ true → allDifferent us ≡ true → uncharged d m ≡ true
+  pub all-but-charge : framed d m ≡ true → sound ≡ true → uncharged d m ≡ true
   unfolding uncharged
-  all-but-charge f w u = and-both (and-both f w) u
+  all-but-charge f h = and-assoc (framed d m) (allFit d n (m .pool)) (allDifferent us) ∙ and-both f h
 
   -- ---- with the charge
 
@@ -128,12 +123,11 @@ module _ (d : Deck) (m : Memory) where
 
   -- ---- what an answer says
 
-  pub weight-good : {r : Goodness} {s : ℕ} → r ≡ Good s → r ≡ weightOf d n (m .pool)
-      → (allFit d n (m .pool) ≡ true) × (s ≡ capped (charge d us))
-  weight-good q e = said-good (allFit d n (m .pool)) (capped (charge d us)) (sym q ∙ e)
+  pub weight-good : {r : Goodness} {s : ℕ} → r ≡ Good s → r ≡ weightOf d n (m .pool) → (sound ≡ true) × (s ≡ capped (charge d us))
+  weight-good q e = said-good sound (capped (charge d us)) (sym q ∙ e)
 
-  pub weight-bad : {r : Goodness} → r ≡ Bad → r ≡ weightOf d n (m .pool) → allFit d n (m .pool) ≡ false
-  weight-bad q e = said-bad (allFit d n (m .pool)) (capped (charge d us)) (sym q ∙ e)
+  pub weight-bad : {r : Goodness} → r ≡ Bad → r ≡ weightOf d n (m .pool) → sound ≡ false
+  weight-bad q e = said-bad sound (capped (charge d us)) (sym q ∙ e)
 
   pub good-answer : {s : ℕ} → Good s ≡ goodnessOf d m → (good d m ≡ true) × (s ≡ charge d us)
   good-answer e = said-good (good d m) (charge d us) e

@@ -11,7 +11,7 @@ use lib.IntN.{ℤ, pos, natAbs}
 use borrow.Author.Tests.{ltb-true, lt-ltb}
 use Rattle.lists.specs.Lists.{lists, all, flatMap, distinct, isEmpty, eqZ, eqList}
 use Rattle.lists.specs.Bits.{bit}
-use Rattle.lists.specs.Laws.Booleans.{and-both, and-left, and-right, four, from-four, five, from-five}
+use Rattle.lists.specs.Laws.Booleans.{and-both, and-left, and-right, four, from-four}
 use Rattle.lists.specs.Laws.Statements.{same-test}
 use Rattle.lists.specs.Laws.Alls.{all-head, all-tail, all-every, all-replicate}
 use Rattle.lists.specs.Laws.Equalities.{eqZ-true, eqZ-refl, eqList-true, eqList-refl}
@@ -20,7 +20,7 @@ use Rattle.deck.specs.Deck.{Deck, R, N}
 use Rattle.pool.specs.Updates.{Pair, channels}
 use Rattle.pool.specs.Places.{zeros, isZero, place, pairsOf, updateOf, wellWritten}
 use Rattle.pool.specs.States.{known}
-use Rattle.states.specs.Fits.{within, channelsOf, channelsFit, fits}
+use Rattle.states.specs.Fits.{within, channelsOf, channelsFit, pairsFit, fits}
 use Rattle.states.specs.Laws.Fits.{within-below, within-pos, numbers, Known, known-fit, fit-known}
 
 pairs-length : (n : ℕ) (t : List ℤ) → 2 * n ≤ length t → length (take n (pairsOf t)) ≡ n
@@ -101,18 +101,19 @@ module _ (a b : ℤ) (t : List ℤ) (long : length t ≡ 8) where
 
   module _ (d : Deck) where
     fits-known : fits (R d) (N d) l ≡ true → (wellWritten l ≡ true) × (known d (updateOf l) ≡ true)
-    unfolding fits wellWritten known updateOf place channels
+    unfolding fits pairsFit wellWritten known updateOf place channels
     fits-known h =
         let p = within (N d) a in
-        let tests = five (ltb p (N d)) (ltb 0 n) (ltb n 5) (channelsFit (R d) 0 n t) (all isZero (drop (2 + 2 * n) l)) h in
-        let few = ltb-true n 5 (tests .2) in
-        let first : a ≡ pos p = within-below (N d) a (ltb-true p (N d) (tests .0)) in
+        let part = and-left (ltb p (N d)) (pairsFit (R d) l) h in
+        let tests = four (ltb 0 n) (ltb n 5) (channelsFit (R d) 0 n t) (all isZero (drop (2 + 2 * n) l)) (and-right (ltb p (N d)) (pairsFit (R d) l) h) in
+        let few = ltb-true n 5 (tests .1) in
+        let first : a ≡ pos p = within-below (N d) a (ltb-true p (N d) part) in
         let second : b ≡ pos n = within-below 5 b few in
-        let k = fit-known (R d) 0 n t (tests .3) in
+        let k = fit-known (R d) 0 n t (tests .2) in
         let pairs : ps ≡ take n (pairsOf t) = ap (λ z. take (natAbs z) (pairsOf t)) second in
         let count : length ps ≡ n = ap length pairs ∙ pairs-length n t (omega arith) in
         let left : 2 * (4 - length ps) ≡ length (drop (2 * n) t) = omega (arith, count, length-drop (2 * n) t) in
-        let rest = ap (all isZero) (sym (two-on n)) ∙ tests .4 in
+        let rest = ap (all isZero) (sym (two-on n)) ∙ tests .3 in
         let behind : zeros (2 * (4 - length ps)) ≡ drop (2 * n) t = ap zeros left ∙ zeros-of (drop (2 * n) t) rest in
         let back : flatMap numbers ps ++ zeros (2 * (4 - length ps)) ≡ t = ap₂ (λ x y. flatMap numbers x ++ y) pairs behind ∙ k .1 in
         let written : place (updateOf l) ≡ l = λ i. (ap pos (ap natAbs first) ∙ sym first) i ∷ (ap pos count ∙ sym second) i ∷ back i in
@@ -120,15 +121,15 @@ module _ (a b : ℤ) (t : List ℤ) (long : length t ≡ 8) where
         let same : cs ≡ channelsOf n t = ap (map (λ x. x .channel)) pairs in (
           ap (λ m. eqList eqZ m l) written ∙ eqList-refl eqZ eqZ-refl l,
           from-four (ltb (natAbs a) (N d)) (not (isEmpty ps)) (all (λ c. ltb c (R d)) cs) (distinct cs) (
-            ap (λ z. ltb (natAbs z) (N d)) first ∙ tests .0,
-            some ps (omega (arith, count, ltb-true 0 n (tests .1))),
+            ap (λ z. ltb (natAbs z) (N d)) first ∙ part,
+            some ps (omega (arith, count, ltb-true 0 n (tests .0))),
             ap (all (λ c. ltb c (R d))) same ∙ k .0 .ranged,
             ap distinct same ∙ k .0 .different,
           ),
         )
 
     known-fits : Written → known d (updateOf l) ≡ true → fits (R d) (N d) l ≡ true
-    unfolding fits known updateOf channels
+    unfolding fits pairsFit known updateOf channels
     known-fits w h =
         let cs = map (λ (x : Pair). x .channel) ps in
         let tests = four (ltb (natAbs a) (N d)) (not (isEmpty ps)) (all (λ c. ltb c (R d)) cs) (distinct cs) h in
@@ -143,13 +144,13 @@ module _ (a b : ℤ) (t : List ℤ) (long : length t ≡ 8) where
         let taken = take n (pairsOf t) in
         let two = numbers-length taken ∙ ap (λ k. 2 * k) (pairs-length n t (omega (arith, w .few))) in
         let rest : drop (2 * n) t ≡ zs = sym (ap (drop (2 * n)) (w .back)) ∙ drop-at (flatMap numbers taken) zs (2 * n) two in
-        from-five (ltb (within (N d) a) (N d)) (ltb 0 n) (ltb n 5) (channelsFit (R d) 0 n t) (all isZero (drop (2 + 2 * n) l)) (
-          ap (λ x. ltb x (N d)) part ∙ tests .0,
+        and-both (ap (λ x. ltb x (N d)) part ∙ tests .0)
+        (from-four (ltb 0 n) (ltb n 5) (channelsFit (R d) 0 n t) (all isZero (drop (2 + 2 * n) l)) (
           lt-ltb 0 n (omega (arith, w .count, not-none ps (tests .1))),
           lt-ltb n 5 (w .few),
           known-fit (R d) 0 n t zs (omega (arith, w .few)) (w .back) k,
           ap (all isZero) (two-on n ∙ rest) ∙ zeros-zero (2 * (4 - n)),
-        )
+        ))
 
 -- the tests of ten numbers
 pub fits-same : (d : Deck) (l : List ℤ) → length l ≡ 10 → fits (R d) (N d) l ≡ (wellWritten l && known d (updateOf l))

@@ -1,9 +1,8 @@
--- `steps::finish` meets its contract: with the update applied the part's limit decides, and the other table follows. Assumes
--- nothing.
-use mathlib.Core.Path.{_≡_, sym, _∙_}
+-- `steps::finish` meets its contract: with the update applied the part's limit decides. Assumes nothing.
+use mathlib.Core.Path.{sym, _∙_}
 use native.Mathlib.Omega.{arith}
 use borrow.Author.Needs.{needs}
-use Rattle.steps.specs.Laws.Committing.{part-known, part-low, after-long, before-long, finish-reacting, finish-discarded, finish-applied}
+use Rattle.steps.specs.Laws.Committing.{part-known, part-low, after-long, finish-reacting, finish-discarded, finish-applied}
 use Rattle.steps.proofs.finish.Statement.{statement}
 use Rattle.steps.proofs.finish.Tie as tie
 
@@ -11,27 +10,27 @@ within-requires : tie.Need-within-requires
 within-requires c κs =
     let s = c .before .before .before .before .before .before in (
       record { counts = s .pre .tabled .counts; table = s .pre .tabled .partTable },
-      omega (arith, before-long (s .pre), after-long (s .pre)),
+      omega (arith, after-long (s .pre)),
       part-known (s .pre),
     )
 
 react-requires : tie.Need-react-requires
 react-requires c κs =
-    let s = c .before .before .before .before .before .before .before .before .before .before .before .before .before in
-    (finish-reacting (s .pre), before-long (s .pre), after-long (s .pre), part-known (s .pre))
+    let s = c .before .before .before .before .before .before .before .before .before .before .before .before in
+    (finish-reacting (s .pre), after-long (s .pre), part-known (s .pre))
 
 returns : tie.Need-returns
 returns c =
-    let r = c .before .before .before .before .before .before .before .before .before in
-    let i = r .before .before .before .before .before .before in
+    let r = c .before .before .before .before .before in
+    let i = r .before .before .before .before .before in
     let s = i .before .before .before .before .before .before .before .before in
-    finish-applied (s .pre) (sym (i .before .within .ensures) ∙ i .if1 .taken) (r .react .ensures) (c .before .copy-part .ensures)
+    finish-applied (s .pre) (sym (i .before .within .ensures) ∙ i .if1 .taken) (r .react .ensures)
 
 returns-2 : tie.Need-returns-2
 returns-2 c =
-    let i = c .before .before .before .before in
+    let i = c .before .before .before in
     let s = i .before .before .before .before .before .before .before .before in
-    finish-discarded (s .pre) (sym (i .before .within .ensures) ∙ i .if1 .left) (c .before .copy-part2 .ensures)
+    finish-discarded (s .pre) (sym (i .before .within .ensures) ∙ i .if1 .left) (c .before .assign-pairs .ensures)
 
 pub finish-spec : {M : Type 1} → statement M
 finish-spec =
@@ -39,14 +38,11 @@ finish-spec =
     (tie.spec
     within-requires
     react-requires
-    (λ c κs. let s = c .before .before .before .before .before .before .before .before .before .before .before .before .before .before .before .before .before .before .before .before .before in (before-long (s .pre), after-long (s .pre), part-low (s .pre)))
-    (λ c. search needs)
     (λ c. search needs)
     (λ c. search needs)
     (λ c. search needs)
     (λ c. search needs)
     returns
-    (λ c κs. let s = c .before .before .before .before .before .before .before .before .before .before in (after-long (s .pre), before-long (s .pre), part-low (s .pre)))
-    (λ c. search needs)
+    (λ c κs. let s = c .before .before .before .before .before .before .before .before .before in (after-long (s .pre), part-low (s .pre), s .pre .assignable))
     (λ c. search needs)
     returns-2)

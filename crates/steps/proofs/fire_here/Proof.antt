@@ -74,7 +74,7 @@ truth-from-requires c κs =
 row-inside : (s : tie.Start) → 8 * s .args .r + 8 ≤ length (s .args .rules .now)
 row-inside s =
     let t = s .pre .0 in
-    omega (arith, s .pre .4, t .counts .rules, t .counts .formed .rules, t .ruleTable .long)
+    omega (arith, s .pre .4, t .counts .rules, t .ruleTable .room)
 
 row-low : (s : tie.Start) → s .args .r < 64
 row-low s = omega (arith, s .pre .4, s .pre .0 .counts .rules, s .pre .0 .counts .formed .rules)

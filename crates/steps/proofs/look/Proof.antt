@@ -1,25 +1,100 @@
 -- `steps::look` meets its contract. Assumes nothing.
+use Prim.Native.Nat.{_*_, _≤_, _<_}
+use mathlib.Core.Path.{_≡_, sym, subst}
+use mathlib.Core.List.{List}
 use native.Mathlib.Omega.{arith}
 use native.Mathlib.Nat.{add-sub-cancel-left}
+use lib.ListN.{length, getD, take, drop}
+use lib.IntN.{ℤ, pos}
 use borrow.Author.Needs.{needs}
-use Rattle.steps.specs.Laws.Looking.{looking-holds, looking-appliable, looks}
+use Rattle.deck.specs.Deck.{Deck, R, N}
+use Rattle.deck.specs.Laws.Shape.{shape-R, shape-N}
+use Rattle.pool.specs.Places.{updateOf}
+use Rattle.states.specs.Fits.{within}
+use Rattle.states.specs.Answer.{Holds}
+use Rattle.states.specs.Laws.Held.{known-low}
+use Rattle.states.specs.Laws.Charges.{holds-part, holds-charge}
+use Rattle.passing.specs.Judged.{shape}
+use Rattle.firing.specs.Evaluated.{Assignable}
+use Rattle.steps.specs.Laws.Looking.{looking-holds, looking-part, looking-low, looking-count, looking-pairs, looks}
 use Rattle.steps.proofs.look.Statement.{statement}
 use Rattle.steps.proofs.look.Tie as tie
 
-place-charge-requires : tie.Need-place-charge-requires
-place-charge-requires c κs =
-    let s = c .before .before .before .before .before in
-    (s .pre .0 .ready, s .pre .0 .few, rw add-sub-cancel-left (looking-holds (s .pre .0)))
+-- the place, and the part and the number of pairs that it holds
+module _ (c : tie.After-number-at2) where
+  abbrev s : tie.Start
+  s = c .before .before .before .before .before .before
 
-apply-requires : tie.Need-apply-requires
-apply-requires c κs = let s = c .before .before .before .before .before .before .before .before .before .before in (rw add-sub-cancel-left (looking-appliable (s .pre .0)), s .pre .1)
+  abbrev numbers : List ℤ
+  numbers = take 10 (drop (10 * s .args .k) (s .args .pool .now))
+
+  abbrev e : Deck
+  e = shape (s .args .rules .now) (s .args .parts .now) (s .args .counts)
+
+  holds : Holds e numbers
+  holds = looking-holds (s .pre .0)
+
+  channels-few : R e ≤ 32
+  channels-few =
+      let k = s .args .counts in
+      omega (arith, shape-R (s .args .rules .now) (s .args .parts .now) (k .channels) (k .rules) (k .parts), s .pre .0 .few)
+
+  parts-are : N e ≡ s .args .counts .parts
+  parts-are = let k = s .args .counts in shape-N (s .args .rules .now) (s .args .parts .now) (k .channels) (k .rules) (k .parts)
+
+  part-is : c .before .number-at .result ≡ within (s .args .counts .parts) (getD numbers 0 (pos 0))
+  part-is = rw add-sub-cancel-left at (c .before .number-at .ensures)
+
+  count-is : c .number-at2 .result ≡ within 5 (getD numbers 1 (pos 0))
+  count-is = rw add-sub-cancel-left at (c .number-at2 .ensures)
+
+  few : c .number-at2 .result < 5
+  few = omega (arith, count-is, looking-count (s .pre .0))
+
+  low : c .before .number-at .result < 16
+  low = omega (arith, part-is, looking-part (s .pre .0), looking-low (s .pre .0))
+
+  pairs : Assignable (take (2 * c .number-at2 .result) (drop 2 numbers))
+      × (length (take (2 * c .number-at2 .result) (drop 2 numbers)) ≡ 2 * c .number-at2 .result)
+  pairs =
+      subst (λ n. Assignable (take (2 * n) (drop 2 numbers)) × (length (take (2 * n) (drop 2 numbers)) ≡ 2 * n)) (sym count-is)
+      (looking-pairs (s .pre .0))
+
+channels-of-requires : tie.Need-channels-of-requires
+channels-of-requires c κs =
+    let h = holds c in
+    rw add-sub-cancel-left (h .long, h .written, known-low (e c) (updateOf (numbers c)) (h .known) (channels-few c))
+
+update-charge-requires : tie.Need-update-charge-requires
+update-charge-requires c κs =
+    let n = c .before .before in
+    (s n .pre .0 .ready, holds-part (e n) _ (parts-are n) (numbers n) (holds n) (part-is n))
+
+compare-requires : tie.Need-compare-requires
+compare-requires c κs =
+    let n = c .before .before .before .before .before .before .before .before in
+    let h = pairs n in (
+      s n .pre .1,
+      low n,
+      rw (add-sub-cancel-left, add-sub-cancel-left) (h .0),
+      rw (add-sub-cancel-left, add-sub-cancel-left, h .1) (omega arith),
+      rw (add-sub-cancel-left, add-sub-cancel-left, h .1) (omega (arith, few n, s n .pre .2)),
+    )
+
+assign-requires : tie.Need-assign-pairs-requires
+assign-requires c κs = let n = c .before .before .before .before .before .before .before .before .before .before .before in (s n .pre .1, low n, rw (add-sub-cancel-left, add-sub-cancel-left) (pairs n .0))
 
 returns : tie.Need-returns
 returns c =
-    let a = c .before in
-    let p = a .before .before .before .before .before in
-    let s = p .before .before .before .before .before .before in
-    looks (s .pre .0) (s .args .values .now) (rw add-sub-cancel-left at (p .place-charge .ensures)) (rw add-sub-cancel-left at (a .apply .ensures))
+    let m = c .before .before .before .before .before .before .before .before .before .before .before .before in
+    let n = m .before in
+    looks (s n .pre .0) (s n .args .values .now) (s n .pre .1)
+    (holds-charge (e n) _ (parts-are n) (numbers n) (holds n) (channels-few n) (part-is n)
+    (rw add-sub-cancel-left at (m .channels-of .ensures))
+    (c .before .before .before .before .before .before .before .before .before .before .update-charge .ensures))
+    (part-is n) (count-is n)
+    (rw (add-sub-cancel-left, add-sub-cancel-left) at (c .before .before .before .before .compare .ensures))
+    (rw (add-sub-cancel-left, add-sub-cancel-left) at (c .before .assign-pairs .ensures))
 
 pub look-spec : {M : Type 1} → statement M
 look-spec =
@@ -31,12 +106,18 @@ look-spec =
     (λ c. search needs)
     (λ c. search needs)
     (λ c. search needs)
-    place-charge-requires
+    (λ c κs. search needs)
+    (λ c κs. search needs)
+    channels-of-requires
+    update-charge-requires
+    (λ c. omega (arith, few (c .before .before .before .before .before)))
+    (λ c. omega (arith, few (c .before .before .before .before .before)))
     (λ c. search needs)
     (λ c. search needs)
+    (λ c. omega (arith, few (c .before .before .before .before .before)))
+    compare-requires
+    assign-requires
     (λ c. search needs)
-    (λ c. search needs)
-    apply-requires
     (λ c. search needs)
     (λ c. search needs)
     returns)

@@ -1,40 +1,29 @@
--- The pairs of the update that a place holds, as numbers of the place. Assumes nothing.
-use Prim.Native.Nat.{ℕ, zero, suc, _+_, _*_, _-_, _<_, _≤_}
-use mathlib.Core.Path.{_≡_, refl, sym, ap, _∙_, subst}
+-- The pairs of the update that a place holds, as numbers of the place, and what they change. Assumes nothing.
+use Prim.Native.Nat.{ℕ, _*_, _-_, _<_, _≤_}
+use mathlib.Core.Path.{_≡_, sym, ap, _∙_, subst}
 use mathlib.Core.Bool.{true}
-use mathlib.Core.List.{List, [], _∷_, _++_, map}
+use mathlib.Core.List.{List}
 use native.Mathlib.Omega.{arith}
-use lib.Dec.{ltb, leb}
-use lib.ListN.{length, getD, take, drop}
+use lib.ListN.{length, getD, take, drop, length-take, length-drop}
 use lib.Seq.{take-at}
 use lib.IntN.{ℤ, pos}
-use borrow.Author.Tests.{ltb-true, leb-true}
-use Rattle.lists.specs.Lists.{all, flatMap, lists}
-use Rattle.lists.specs.Laws.Alls.{all-head, all-tail}
+use borrow.Author.Tests.{leb-true}
+use Rattle.lists.specs.Lists.{flatMap}
+use Rattle.lists.specs.Bits.{maskOf}
 use Rattle.deck.specs.Deck.{Deck, R, N}
-use Rattle.pool.specs.Updates.{Pair, Update, channels}
+use Rattle.pool.specs.Updates.{Update, channels, assign}
 use Rattle.pool.specs.Places.{zeros, place, pairsOf, updateOf, pools}
 use Rattle.pool.specs.Laws.Places.{short, numbers-length}
 use Rattle.pool.specs.Laws.Good.{written-same, place-short}
 use Rattle.states.specs.Answer.{Holds}
 use Rattle.states.specs.Fits.{within}
-use Rattle.states.specs.Laws.Fits.{within-pos, numbers}
+use Rattle.states.specs.Laws.Fits.{within-pos}
 use Rattle.states.specs.Laws.Held.{known-low}
-use Rattle.firing.specs.Evaluated.{Assignable}
-
-pub pairs-numbers : (l : List Pair) → pairsOf (flatMap numbers l) ≡ l
-unfolding lists pools
-pairs-numbers [] = refl
-pairs-numbers (a ∷ l) = ap (λ m. a ∷ m) (pairs-numbers l)
-
-pub numbers-assignable : (l : List Pair) → all (λ c. ltb c 32) (map (λ a. a .channel) l) ≡ true → Assignable (flatMap numbers l)
-unfolding lists
-numbers-assignable [] h i k = absurd (omega arith)
-numbers-assignable (a ∷ l) h zero k = (a .channel, refl, ltb-true (a .channel) 32 (all-head (λ c. ltb c 32) (a .channel) (map (λ a. a .channel) l) h))
-numbers-assignable (a ∷ l) h (suc i) k =
-    let e : 2 * suc i ≡ suc (suc (2 * i)) = omega arith in
-    let x = numbers-assignable l (all-tail (λ c. ltb c 32) (a .channel) (map (λ a. a .channel) l) h) i (omega arith) in
-    (x .0, ap (λ j. getD (pos (a .channel) ∷ a .value ∷ flatMap numbers l) j (pos 0)) e ∙ x .1, x .2)
+use Rattle.firing.specs.Firing.{changed}
+use Rattle.firing.specs.Evaluated.{Assignable, heldPairs, channelsSet, Compared}
+use Rattle.firing.specs.Laws.Commits.{Known, known-has}
+use Rattle.firing.specs.Laws.Pairs.{numbers, pairs-numbers, numbers-assignable}
+use Rattle.firing.specs.Laws.Setting.{set-back, compared-changed}
 
 -- the first numbers of a place, and the pairs behind them
 module _ (u : Update) (s : short u ≡ true) where
@@ -77,5 +66,33 @@ module _ (d : Deck) (l : List ℤ) (h : Holds d l) where
   unfolding channels
   held-assignable r = subst Assignable (sym held-pairs) (numbers-assignable (u .pairs) (known-low d u (h .known) r))
 
+  pub held-long : length (take (2 * n) (drop 2 l)) ≡ 2 * n
+  held-long = omega (arith, length-take (2 * n) (drop 2 l), length-drop 2 l, h .long, held-few)
+
   pub held-update : pairsOf (take (2 * n) (drop 2 l)) ≡ u .pairs
   held-update = ap pairsOf held-pairs ∙ pairs-numbers (u .pairs)
+
+  -- the table with the update applied, when its pairs were compared with the one before
+  module _ (low : R d ≤ 32) (vs : List ℤ) {back : List ℤ} {mask : ℕ} (c : Compared (u .part) (take (2 * n) (drop 2 l)) vs back mask) where
+    abbrev after : List ℤ
+    after = assign (u .part) (u .pairs) vs
+
+    abbrev known-so : Known d u
+    known-so = known-has d u (h .known)
+
+    pub held-back : Assignable (take (2 * n) back)
+    held-back = subst (λ k. Assignable (take k back)) held-long (c .assignable)
+
+    pub held-undone : assign (u .part) (pairsOf (take (2 * n) back)) after ≡ vs
+    unfolding channels
+    held-undone =
+        ap (λ b. assign (u .part) b after)
+        (ap (λ k. pairsOf (take k back)) (sym held-long) ∙ c .held ∙ ap (heldPairs (u .part) vs) held-update)
+        ∙ set-back (u .part) (u .pairs) vs (known-so .different)
+
+    pub held-changes : N d ≤ 16 → length vs ≡ 512 → mask ≡ maskOf (changed d (u .part) vs after)
+    unfolding channels
+    held-changes parts long =
+        c .mask
+        ∙ ap (λ m. maskOf (channelsSet (u .part) vs m)) held-update
+        ∙ compared-changed d (u .part) (u .pairs) vs low (omega (arith, known-so .part)) long (known-so .inside) (known-so .different)

@@ -1,39 +1,35 @@
 -- The commit of one place: what the code is lent, and what it leaves. Assumes nothing.
 use Prim.Native.Nat.{ℕ, suc, _+_, _*_, _-_, _<_, _≤_}
 use mathlib.Core.Path.{_≡_, refl, sym, ap, ap₂, _∙_, subst}
-use mathlib.Core.Bool.{Bool, true, false, cond}
-use mathlib.Core.List.{List, [], _∷_, _++_, map}
+use mathlib.Core.Bool.{Bool, true, false, not}
+use mathlib.Core.List.{List, _++_}
 use native.Mathlib.Omega.{arith}
-use lib.Dec.{ltb}
 use lib.ListN.{length, take, drop, length-append, length-take, length-drop}
 use lib.IntN.{ℤ}
-use Rattle.lists.specs.Lists.{all}
-use Rattle.lists.specs.Laws.Alls.{all-weaken, all-at}
-use Rattle.deck.specs.Deck.{Deck, R, M, N}
-use Rattle.deck.specs.Shape.{shapeOf}
+use Rattle.lists.specs.Lists.{all, filter, below, eqZ}
+use Rattle.lists.specs.Bits.{maskOf}
+use Rattle.lists.specs.Laws.Alls.{all-weaken}
+use Rattle.deck.specs.Deck.{Deck}
 use Rattle.deck.specs.declared.Deck as Counted
-use Rattle.deck.specs.Laws.Formed.{Formed}
 use Rattle.deck.specs.Laws.Shape.{shape-R, shape-N}
-use Rattle.graph.specs.Laws.Cycles.{Acyclic}
-use Rattle.charge.specs.Memo.{Memo, Ready}
 use Rattle.charge.specs.Laws.Equations.{update-at-least-one}
-use Rattle.pool.specs.Updates.{Update, channels, assign, charge}
+use Rattle.pool.specs.Updates.{Update, channels, valueAt, assign, charge}
+use Rattle.pool.specs.Places.{pairsOf}
 use Rattle.pool.specs.States.{Machine, known}
 use Rattle.pool.specs.Moves.{removed}
 use Rattle.pool.specs.Laws.Values.{assign-length}
 use Rattle.pool.specs.Laws.Good.{Fine, count-bounded}
-use Rattle.states.specs.Laws.Held.{known-low}
 use Rattle.states.specs.Laws.Shape.{same-known, shape-charge}
 use Rattle.passing.specs.Check.{within}
-use Rattle.passing.specs.Tabled.{deckOf, Tabled, PartsKnown}
+use Rattle.passing.specs.Tabled.{deckOf, Tabled}
 use Rattle.passing.specs.Judged.{shape}
-use Rattle.firing.specs.Firing.{Commit, fired, changed, enqueue, setAndFire, pick, without, committed}
+use Rattle.firing.specs.Firing.{fired, changed, enqueue, setAndFire, pick, without, committed}
 use Rattle.firing.specs.Laws.Commits.{Known, pick-known, commit-falls, commit-fine, without-charge}
 use Rattle.index.specs.Index.{headsOf, Roomy, forgotten}
 use Rattle.steps.specs.Queue.{Held, heldOf, Kept, Room, SameSize, Grown}
-use Rattle.steps.specs.Commits.{Reacting, Reacts, partCopied, Looking, Looks, Stored, Without, Finishing, Finishes, Committing, Commits, CommitsFront}
+use Rattle.steps.specs.Commits.{Reacting, Reacted, Reacts, Looking, Looks, Stored, Without, Finishing, Finishes, Committing, Commits, CommitsFront}
 use Rattle.steps.specs.Laws.Queue.{same-size, size-then, room-same}
-use Rattle.steps.specs.Laws.Parts.{copied-on, copied-back}
+use Rattle.steps.specs.Laws.Reacting.{changed-low}
 use Rattle.steps.specs.Laws.Looking.{taken-charge, without-kept, without-size, front-kept}
 use Rattle.steps.specs.declared.Queue.{Queue}
 
@@ -74,6 +70,12 @@ module _ (s rules parts : List ℕ) (k : Counted.Deck) (t : Tabled s k rules par
   charge-same us =
       rw (t .counts .channels, t .counts .rules, t .counts .parts) (shape-charge (t .sets) (t .ranged) us)
 
+  pub changed-same : (p : ℕ) (before after : List ℤ) → changed (shape rules parts k) p before after ≡ changed (deckOf s) p before after
+  unfolding changed
+  changed-same p before after =
+      ap (λ n. filter (λ c. not (eqZ (valueAt before p c) (valueAt after p c))) (below n))
+      (shape-R rules parts (k .channels) (k .rules) (k .parts) ∙ t .counts .channels)
+
   pub known-same : (us : List Update) → all (known (deckOf s)) us ≡ true → all (known (shape rules parts k)) us ≡ true
   known-same us h =
       all-weaken (known (shape rules parts k)) (known (deckOf s))
@@ -110,18 +112,15 @@ fine-narrower f E h =
 
 -- ---- the rest of a commit, when the update is out
 
-module _ {s : List ℕ} {k : Counted.Deck} {rules parts memo : List ℕ} {held : Held} {C : ℕ} {vs : List ℤ} {part : ℕ} {now : List ℤ} {pending total : ℕ}
-    (w : Finishing s k rules parts memo held C vs part now pending total) where
+module _ {s : List ℕ} {k : Counted.Deck} {rules parts memo : List ℕ} {held : Held} {C : ℕ} {back now : List ℤ} {part mask pending total : ℕ}
+    (w : Finishing s k rules parts memo held C back now part mask pending total) where
   abbrev d : Deck
   d = deckOf s
 
   abbrev e : Deck
   e = shape rules parts k
 
-  module _ (j : ℕ) (x : Machine) (t : Without d C j x vs part now pending total held) where
-    same-after : now ≡ after d j x
-    same-after = t .after-is ∙ ap (assign (pick j (x .pending) .part) (pick j (x .pending) .pairs)) (t .values)
-
+  module _ (j : ℕ) (x : Machine) (t : Without d C j x back now part mask pending total held) where
     known-update : Known d (pick j (x .pending))
     known-update = pick-known d (C + 1) x j (t .fine) (t .inside)
 
@@ -145,10 +144,7 @@ module _ {s : List ℕ} {k : Counted.Deck} {rules parts memo : List ℕ} {held :
   pub after-long : length now ≡ 512
   after-long =
       let x = w .machine in
-      ap length (same-after (w .place) x (w .taken)) ∙ assign-length _ _ (x .values) ∙ w .taken .fine .long
-
-  pub before-long : length vs ≡ 512
-  before-long = ap length (w .taken .values) ∙ w .taken .fine .long
+      ap length (w .taken .after-is) ∙ assign-length _ _ (x .values) ∙ w .taken .fine .long
 
   left-low : total ≤ C
   left-low =
@@ -177,57 +173,38 @@ module _ {s : List ℕ} {k : Counted.Deck} {rules parts memo : List ℕ} {held :
         within = left-low;
       }
 
-  -- the values differ in the part of the update alone
-  low-channels : all (λ c. ltb c 32) (map (λ a. a .channel) (pick (w .place) (w .machine .pending) .pairs)) ≡ true
-  unfolding channels pick
-  low-channels =
-      let t = w .taken in
-      let x = w .machine in
-      known-low d (pick (w .place) (x .pending)) (all-at (known d) (x .pending) (w .place) _ (t .fine .known) (t .inside))
-      (w .tabled .counts .formed .channels)
-
-  part-back : partCopied part vs now ≡ vs
-  part-back =
-      let t = w .taken in
-      ap₂ (λ p v. partCopied p vs v) (t .part-is) (t .after-is)
-      ∙ copied-back (pick (w .place) (w .machine .pending) .part) (pick (w .place) (w .machine .pending) .pairs) vs low-channels
-
-  part-on : partCopied part now vs ≡ now
-  part-on =
-      let t = w .taken in
-      ap₂ (λ p v. partCopied p v vs) (t .part-is) (t .after-is)
-      ∙ copied-on (pick (w .place) (w .machine .pending) .part) (pick (w .place) (w .machine .pending) .pairs) vs low-channels
-      ∙ sym (t .after-is)
-
   -- the update is discarded
-  pub finish-discarded : {back : List ℤ} → within d part now ≡ false → back ≡ partCopied part vs now
-      → Finishes d e C vs part now pending total held memo held vs back pending total false
-  finish-discarded {back} f b = record { result = discarded; memo = w .ready .memo; size = same-size; same = sym (b ∙ part-back) }
+  pub finish-discarded : {values : List ℤ} → within d part now ≡ false → values ≡ assign part (pairsOf back) now
+      → Finishes d e C back now part mask pending total held memo held values pending total false
+  finish-discarded {values} f b = record { result = discarded; memo = w .ready .memo; size = same-size }
     where
-      discarded : (j : ℕ) (x : Machine) → Without d C j x vs part now pending total held
-          → Stored d C (committed d j x .machine) back pending total held × (false ≡ committed d j x .applied)
+      discarded : (j : ℕ) (x : Machine) → Without d C j x back now part mask pending total held
+          → Stored d C (committed d j x .machine) values pending total held × (false ≡ committed d j x .applied)
       discarded j x t =
-          let c = discarded-machine d j x (sym (ap₂ (within d) (t .part-is) (same-after j x t)) ∙ f) in (
-            subst (λ y. Fine d C (y .machine) → Stored d C (y .machine) back pending total held) (sym c)
-                (λ f. record { fine = f; values = b ∙ part-back ∙ t .values; count = t .count; kept = t .kept; charged = t .charged })
+          let c = discarded-machine d j x (sym (ap₂ (within d) (t .part-is) (t .after-is)) ∙ f) in (
+            subst (λ y. Fine d C (y .machine) → Stored d C (y .machine) values pending total held) (sym c)
+                (λ f. record { fine = f; values = b ∙ t .undone; count = t .count; kept = t .kept; charged = t .charged })
                 (fine-after j x t),
             ap (λ y. y .applied) (sym c),
           )
 
   -- it is applied, and the firing follows
   module _ {m : List ℕ} {held₂ : Held} {q : Queue} (yes : within d part now ≡ true)
-      (r : Reacts d e C pending total vs now part held m held₂ q) where
-    module _ (j : ℕ) (x : Machine) (t : Without d C j x vs part now pending total held) where
+      (r : Reacts d e C pending total now part mask held m held₂ q) where
+    module _ (j : ℕ) (x : Machine) (t : Without d C j x back now part mask pending total held) where
+      followed : Reacted d e C pending total now part (changed d part (x .values) now) held m held₂ q
+      followed =
+          r (changed d part (x .values) now) (changed-low d part (x .values) now (w .tabled .counts .formed .channels)) (t .changes)
+
       grown-out : Grown e C (rest d j x) (new d j x) held₂ q
       grown-out =
-          let g = r .grown (rest d j x) (t .kept) (t .count) (t .charged ∙ sym (charge-same s rules parts k (w .tabled) (rest d j x))) in
-          let fresh : fired d now part (changed d part vs now) ≡ new d j x
-          = ap₂ (λ p a. fired d a p (changed d p vs a)) (t .part-is) (same-after j x t)
-          ∙ ap (λ v. fired d (after d j x) (u d j x .part) (changed d (u d j x .part) v (after d j x))) (t .values) in
+          let g = followed .grown (rest d j x) (t .kept) (t .count) (t .charged ∙ sym (charge-same s rules parts k (w .tabled) (rest d j x))) in
+          let fresh : fired d now part (changed d part (x .values) now) ≡ new d j x
+          = ap₂ (λ p a. fired d a p (changed d p (x .values) a)) (t .part-is) (t .after-is) in
           subst (λ l. Grown e C (rest d j x) l held₂ q) fresh g
 
       applied-is : committed d j x ≡ record { applied = true; machine = record { values = after d j x; pending = enqueue (rest d j x) (new d j x) } }
-      applied-is = applied-machine d j x (sym (ap₂ (within d) (t .part-is) (same-after j x t)) ∙ yes)
+      applied-is = applied-machine d j x (sym (ap₂ (within d) (t .part-is) (t .after-is)) ∙ yes)
 
       same-charge : charge e (enqueue (rest d j x) (new d j x)) ≡ charge d (committed d j x .machine .pending)
       same-charge =
@@ -249,11 +226,12 @@ module _ {s : List ℕ} {k : Counted.Deck} {rules parts memo : List ℕ} {held :
         let room = g .room (not-full j x (w .taken)) in
         omega (arith, g .pending, count-bounded e (rest d j x ++ g .extra), room .1, room .2, w .room .bounded)
 
-    pub finish-applied : {on : List ℤ} → on ≡ partCopied part now vs
-        → Finishes d e C vs part now pending total held m held₂ on now (q .pending) (q .charge) true
-    finish-applied o = record { result = done; memo = r .memo; size = r .size; same = o ∙ part-on }
+    pub finish-applied : Finishes d e C back now part mask pending total held m held₂ now (q .pending) (q .charge) true
+    finish-applied =
+        let f = followed (w .place) (w .machine) (w .taken) in
+        record { result = done; memo = f .memo; size = f .size }
       where
-        done : (j : ℕ) (x : Machine) → Without d C j x vs part now pending total held
+        done : (j : ℕ) (x : Machine) → Without d C j x back now part mask pending total held
             → Stored d C (committed d j x .machine) now (q .pending) (q .charge) held₂ × (true ≡ committed d j x .applied)
         done j x t =
             let c = applied-is j x t in
@@ -263,7 +241,7 @@ module _ {s : List ℕ} {k : Counted.Deck} {rules parts memo : List ℕ} {held :
                   (λ f.
                   record {
                     fine = f;
-                    values = same-after j x t;
+                    values = t .after-is;
                     count = g .pending ∙ ap length (room .0);
                     kept = subst (Kept held₂) (room .0) (g .kept);
                     charged = room .1 ∙ ap (charge e) (room .0) ∙ charge-same s rules parts k (w .tabled) (enqueue (rest d j x) (new d j x));
@@ -302,7 +280,7 @@ module _ {s : List ℕ} {k : Counted.Deck} {rules parts memo : List ℕ} {held :
         place = h;
       }
 
-  module _ {m : List ℕ} {part : ℕ} {now : List ℤ} {c : ℕ} (l : Looks (shape rules parts k) j vs (held .pool) m part now c) where
+  module _ {m : List ℕ} {now back : List ℤ} {part n c mask : ℕ} (l : Looks (shape rules parts k) j vs (held .pool) m now back part n c mask) where
     module _ (x : Machine) (st : Stored (deckOf s) C x vs pending total held) where
       inside : j < length (x .pending)
       inside = omega (arith, h, st .count)
@@ -318,15 +296,16 @@ module _ {s : List ℕ} {k : Counted.Deck} {rules parts memo : List ℕ} {held :
 
       -- what is left without it, wherever that is held
       without-of : {held₁ : Held} (E : ℕ) → C ≤ E + 1 → Kept held₁ (without j (x .pending))
-          → Without (deckOf s) E j x vs part now (pending - 1) (total - c) held₁
+          → Without (deckOf s) E j x (take (2 * n) back) now part mask (pending - 1) (total - c) held₁
       without-of E wide kept =
           let o = l .result (x .pending) (st .kept .laid) inside in
           record {
             fine = fine-wider (st .fine) (E + 1) wide;
             inside = inside;
-            values = st .values;
             part-is = o .0;
-            after-is = o .1;
+            after-is = o .1 ∙ ap (assign (pick j (x .pending) .part) (pick j (x .pending) .pairs)) (st .values);
+            undone = l .undone ∙ st .values;
+            changes = l .changes ∙ ap maskOf (ap (λ v. changed (shape rules parts k) part v now) (st .values) ∙ changed-same s rules parts k (w .tabled) part (x .values) now);
             count = omega (arith, rest-length j (x .pending) inside, st .count);
             kept = kept;
             charged = left .1;
@@ -337,13 +316,14 @@ module _ {s : List ℕ} {k : Counted.Deck} {rules parts memo : List ℕ} {held :
 
     pub finishing-of : {held₁ : Held} (E : ℕ) → C ≤ E + 1 → Room E held₁
         → ((us : List Update) → pending ≡ length us → Kept held us → Kept held₁ (without j us))
-        → Finishing s k rules parts m held₁ E vs part now (pending - 1) (total - c)
+        → Finishing s k rules parts m held₁ E (take (2 * n) back) now part mask (pending - 1) (total - c)
     finishing-of E wide room keeps =
         record {
           tabled = w .tabled;
           ready = record { tables = w .ready .tables; memo = l .memo };
           acyclic = w .acyclic;
           room = room;
+          assignable = l .assignable;
           place = j;
           machine = w .machine;
           taken = without-of (w .machine) (w .stored) E wide (keeps (w .machine .pending) (w .stored .count) (w .stored .kept));
@@ -368,13 +348,13 @@ module _ {s : List ℕ} {k : Counted.Deck} {rules parts memo index : List ℕ} {
       subst (λ n. Kept (heldOf 0 (forgotten index n j) (removed pool n j)) (without j us)) (sym n)
       (without-kept index pool us x j (omega (arith, h, n)))
 
-  module _ {m : List ℕ} {part : ℕ} {now : List ℤ} {c : ℕ} (l : Looks (shape rules parts k) j vs pool m part now c) where
-    pub commit-finishing : Finishing s k rules parts m out C vs part now (pending - 1) (total - c)
+  module _ {m : List ℕ} {now back : List ℤ} {part n c mask : ℕ} (l : Looks (shape rules parts k) j vs pool m now back part n c mask) where
+    pub commit-finishing : Finishing s k rules parts m out C (take (2 * n) back) now part mask (pending - 1) (total - c)
     commit-finishing = finishing-of w j h l C (omega arith) (room-same out-size (w .room)) out-kept
 
-    pub commit-done : {m₂ : List ℕ} {held₂ : Held} {before values : List ℤ} {n t : ℕ} {b : Bool}
-        → Finishes (deckOf s) (shape rules parts k) C vs part now (pending - 1) (total - c) out m₂ held₂ before values n t b
-        → Commits (deckOf s) (shape rules parts k) C j (heldOf 0 index pool) vs pending total m₂ held₂ values n t b
+    pub commit-done : {m₂ : List ℕ} {held₂ : Held} {values : List ℤ} {left t : ℕ} {b : Bool}
+        → Finishes (deckOf s) (shape rules parts k) C (take (2 * n) back) now part mask (pending - 1) (total - c) out m₂ held₂ values left t b
+        → Commits (deckOf s) (shape rules parts k) C j (heldOf 0 index pool) vs pending total m₂ held₂ values left t b
     commit-done f =
         record {
           result = λ x st. f .result j x (without-of w j h l x st C (omega arith) (out-kept (x .pending) (st .count) (st .kept)));
@@ -410,14 +390,14 @@ module _ {s : List ℕ} {k : Counted.Deck} {rules parts memo : List ℕ} {gone :
       → Kept (heldOf (gone + 1) index (drop 10 pool)) (without 0 us)
   front-of us n x = front-kept gone index pool us x (omega (arith, h, n))
 
-  module _ {m : List ℕ} {part : ℕ} {now : List ℤ} {c : ℕ} (l : Looks (shape rules parts k) 0 vs pool m part now c) where
-    pub front-finishing : Finishing s k rules parts m (heldOf (gone + 1) index (drop 10 pool)) (C - 1) vs part now (pending - 1) (total - c)
+  module _ {m : List ℕ} {now back : List ℤ} {part n c mask : ℕ} (l : Looks (shape rules parts k) 0 vs pool m now back part n c mask) where
+    pub front-finishing : Finishing s k rules parts m (heldOf (gone + 1) index (drop 10 pool)) (C - 1) (take (2 * n) back) now part mask (pending - 1) (total - c)
     front-finishing = finishing-of w 0 h l (C - 1) (omega (arith, some-room)) front-room front-of
 
-    pub front-done : {m₂ : List ℕ} {index₂ : List ℕ} {pool₂ : List ℤ} {before values : List ℤ} {n t : ℕ} {b : Bool}
-        → Finishes (deckOf s) (shape rules parts k) (C - 1) vs part now (pending - 1) (total - c) (heldOf (gone + 1) index (drop 10 pool)) m₂
-        (heldOf (gone + 1) index₂ pool₂) before values n t b
-        → CommitsFront (deckOf s) (shape rules parts k) C (heldOf gone index pool) vs pending total m₂ (heldOf (gone + 1) index₂ pool₂) values n t b
+    pub front-done : {m₂ : List ℕ} {index₂ : List ℕ} {pool₂ values : List ℤ} {left t : ℕ} {b : Bool}
+        → Finishes (deckOf s) (shape rules parts k) (C - 1) (take (2 * n) back) now part mask (pending - 1) (total - c) (heldOf (gone + 1) index (drop 10 pool)) m₂
+        (heldOf (gone + 1) index₂ pool₂) values left t b
+        → CommitsFront (deckOf s) (shape rules parts k) C (heldOf gone index pool) vs pending total m₂ (heldOf (gone + 1) index₂ pool₂) values left t b
     front-done f =
         record {
           result = λ x st. f .result 0 x (without-of w 0 h l x st (C - 1) (omega (arith, some-room)) (front-of (x .pending) (st .count) (st .kept)));

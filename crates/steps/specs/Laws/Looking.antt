@@ -1,28 +1,31 @@
 -- An update of the pool: what stands at its place, and what is left without it. Assumes nothing.
 use Prim.Native.Nat.{ℕ, suc, _+_, _*_, _-_, _/_, _<_, _≤_}
-use mathlib.Core.Path.{_≡_, refl, sym, ap, _∙_, subst}
+use mathlib.Core.Path.{_≡_, refl, sym, ap, ap₂, _∙_, subst}
 use mathlib.Core.Bool.{true}
 use mathlib.Core.List.{List, [], _∷_, _++_, append-nil}
 use native.Mathlib.Omega.{arith}
 use native.Mathlib.Nat.{le-refl}
-use lib.ListN.{length, take, drop, length-take, length-drop, drop-of-length-le}
+use lib.ListN.{length, getD, take, drop, length-take, length-drop, drop-of-length-le}
 use lib.Seq.{take-all, drop-at}
-use lib.IntN.{ℤ}
+use lib.IntN.{ℤ, pos}
 use Rattle.lists.specs.Lists.{all}
 use Rattle.lists.specs.Laws.Alls.{all-at}
-use Rattle.deck.specs.Deck.{Deck}
+use Rattle.deck.specs.Deck.{Deck, R, N}
 use Rattle.charge.specs.Charge.{updateCharge}
-use Rattle.charge.specs.Memo.{Answered, capped}
+use Rattle.charge.specs.Memo.{capped}
 use Rattle.deck.specs.declared.Deck as Counted
 use Rattle.deck.specs.Laws.Shape.{shape-R, shape-N}
 use Rattle.pool.specs.Updates.{Update, channels, assign, charge}
-use Rattle.pool.specs.Places.{place, updateOf, wellWritten}
+use Rattle.pool.specs.Places.{place, pairsOf, updateOf}
 use Rattle.pool.specs.States.{known}
 use Rattle.pool.specs.Moves.{removed, Laid}
 use Rattle.pool.specs.Laws.Places.{short, update-back, place-length, place-well}
 use Rattle.pool.specs.Laws.Laid.{laid-removed, removed-length, laid-pick, laid-front}
 use Rattle.states.specs.Answer.{Holds, PlaceGives}
+use Rattle.states.specs.Fits.{within}
+use Rattle.states.specs.Laws.Held.{held-part, known-part}
 use Rattle.firing.specs.Firing.{pick, without}
+use Rattle.firing.specs.Evaluated.{Assignable, Compared}
 use Rattle.firing.specs.Laws.Commits.{without-charge}
 use Rattle.passing.specs.Judged.{shape}
 use Rattle.index.specs.Hash.{bucketOf}
@@ -30,7 +33,8 @@ use Rattle.index.specs.Index.{headsOf, Indexed, keysOf, forgotten}
 use Rattle.index.specs.Laws.Indexed.{indexed-front, indexed-forgotten, forgotten-length}
 use Rattle.index.specs.Laws.Keys.{keys-length, keys-without}
 use Rattle.steps.specs.Queue.{heldOf, Kept, SameSize}
-use Rattle.steps.specs.Commits.{Appliable, Looking, Looks}
+use Rattle.steps.specs.Commits.{Looking, Looks}
+use Rattle.steps.specs.Laws.Applying.{held-few, held-assignable, held-long, held-update, held-back, held-undone, held-changes}
 
 module _ (e : Deck) (pool : List ℤ) (us : List Update) (l : Laid pool us) (j : ℕ) (h : j < length us) where
   -- the numbers of place j
@@ -79,23 +83,56 @@ module _ {k : Counted.Deck} {rules parts memo : List ℕ} {pool : List ℤ} {pen
   pub looking-holds : Holds e numbers
   looking-holds = taken-holds e pool (w .us) (w .laid) j inside (w .known)
 
-  pub looking-appliable : Appliable numbers (k .parts)
-  looking-appliable =
+  looking-few : (N e ≤ 16) × (R e ≤ 32)
+  looking-few =
       let parts-same = shape-N rules parts (k .channels) (k .rules) (k .parts) in
       let channels-same = shape-R rules parts (k .channels) (k .rules) (k .parts) in
-      (e, looking-holds, parts-same, omega (arith, parts-same, w .ready .tables .few-parts), omega (arith, channels-same, w .few))
+      (omega (arith, parts-same, w .ready .tables .few-parts), omega (arith, channels-same, w .few))
 
-  pub looks : (vs : List ℤ) {c : ℕ} {m : List ℕ} {after : List ℤ} {part : ℕ} → PlaceGives e numbers m c
-      → (part ≡ updateOf numbers .part) × (after ≡ assign (updateOf numbers .part) (updateOf numbers .pairs) vs)
-      → Looks e j vs pool m part after c
-  looks vs {c} {m} g a =
+  -- the part, the pairs and their number
+  pub looking-part : within (k .parts) (getD numbers 0 (pos 0)) ≡ updateOf numbers .part
+  looking-part =
+      let h = looking-holds in
+      let low = known-part e (updateOf numbers) (h .known) in
+      held-part (k .parts) numbers (h .long) (h .written) (omega (arith, low, shape-N rules parts (k .channels) (k .rules) (k .parts)))
+
+  pub looking-low : updateOf numbers .part < 16
+  looking-low = omega (arith, known-part e (updateOf numbers) (looking-holds .known), looking-few .0)
+
+  pub looking-count : within 5 (getD numbers 1 (pos 0)) < 5
+  looking-count = held-few e numbers looking-holds
+
+  abbrev pairs : List ℤ
+  pairs = take (2 * within 5 (getD numbers 1 (pos 0))) (drop 2 numbers)
+
+  pub looking-pairs : Assignable pairs × (length pairs ≡ 2 * within 5 (getD numbers 1 (pos 0)))
+  looking-pairs = (held-assignable e numbers looking-holds (looking-few .1), held-long e numbers looking-holds)
+
+  pub looks : (vs : List ℤ) {c mask part count : ℕ} {m : List ℕ} {after back : List ℤ} → length vs ≡ 512 → PlaceGives e numbers m c
+      → part ≡ within (k .parts) (getD numbers 0 (pos 0))
+      → count ≡ within 5 (getD numbers 1 (pos 0))
+      → Compared part (take (2 * count) (drop 2 numbers)) vs back mask
+      → after ≡ assign part (pairsOf (take (2 * count) (drop 2 numbers))) vs
+      → Looks e j vs pool m after back part count c mask
+  looks vs {c} {mask} {part} {count} {m} {after} {back} long g p n f a =
+      let h = looking-holds in
+      let part-is : part ≡ updateOf numbers .part = p ∙ looking-part in
+      let few = looking-few in
+      let found : Compared (updateOf numbers .part) pairs vs back mask = rw (n, part-is) at f in
+      let after-is : after ≡ assign (updateOf numbers .part) (updateOf numbers .pairs) vs =
+      a ∙ ap₂ (λ q k. assign q (pairsOf (take (2 * k) (drop 2 numbers))) vs) part-is n
+      ∙ ap (λ l. assign (updateOf numbers .part) l vs) (held-update e numbers h) in
       record {
-        result = λ us l h.
-            let u = taken-update e pool us l j h in (
-              a .0 ∙ ap (λ u. u .part) u,
-              a .1 ∙ ap (λ u. assign (u .part) (u .pairs) vs) u,
+        result = λ us l i.
+            let u = taken-update e pool us l j i in (
+              part-is ∙ ap (λ u. u .part) u,
+              after-is ∙ ap (λ u. assign (u .part) (u .pairs) vs) u,
               g .value ∙ ap (λ u. capped (updateCharge e (u .part) (channels u))) u,
             );
+        few = omega (arith, n, looking-count);
+        assignable = rw n (held-back e numbers h (few .1) vs found);
+        undone = rw (n, part-is, after-is) (held-undone e numbers h (few .1) vs found);
+        changes = rw (part-is, after-is) (held-changes e numbers h (few .1) vs found (few .0) long);
         memo = g .memo;
       }
 

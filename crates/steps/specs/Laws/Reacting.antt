@@ -1,23 +1,21 @@
 -- The firing begins with the updates that the pool holds. Assumes nothing.
-use Prim.Native.Nat.{ℕ, _*_, _<_, _≤_}
-use mathlib.Core.Path.{_≡_, refl, sym, ap, _∙_, subst}
-use mathlib.Core.Bool.{Bool, true, false, not, false≢true}
-use mathlib.Core.List.{List, [], _++_, append-nil}
+use Prim.Native.Nat.{ℕ, _<_, _≤_}
+use mathlib.Core.Path.{_≡_, sym, ap, _∙_, subst}
+use mathlib.Core.Bool.{true, false, not, false≢true}
+use mathlib.Core.List.{List, [], append-nil}
 use native.Mathlib.Omega.{arith}
 use lib.ListN.{length}
 use lib.IntN.{ℤ}
-use Rattle.lists.specs.Lists.{filter, below, member, eqZ}
-use Rattle.lists.specs.Bits.{maskOf}
+use Rattle.lists.specs.Lists.{member, eqZ}
 use Rattle.lists.specs.Laws.Below.{filter-below}
 use Rattle.deck.specs.Deck.{Deck, R}
 use Rattle.deck.specs.declared.Deck as Counted
-use Rattle.charge.specs.Memo.{Memo}
 use Rattle.pool.specs.Updates.{Update, charge, valueAt}
 use Rattle.passing.specs.Tabled.{deckOf}
 use Rattle.passing.specs.Judged.{shape}
-use Rattle.firing.specs.Firing.{changed, fired}
+use Rattle.firing.specs.Firing.{changed}
 use Rattle.firing.specs.Laws.Enqueue.{enqueue-none}
-use Rattle.steps.specs.Queue.{Held, Kept, Grown, Offering, Offered, Fires}
+use Rattle.steps.specs.Queue.{Held, Kept, Grown, Offering, Fires}
 use Rattle.steps.specs.Commits.{Reacting, Reacts}
 use Rattle.steps.specs.declared.Queue.{Queue}
 
@@ -50,21 +48,19 @@ module _ {s : List ℕ} {k : Counted.Deck} {rules parts memo : List ℕ} {held :
       }
 
 -- the changed channels are channels
-changed-low : (d : Deck) (p : ℕ) (before after : List ℤ) → R d ≤ 32 → (c : ℕ) → member c (changed d p before after) ≡ true → c < 32
+pub changed-low : (d : Deck) (p : ℕ) (before after : List ℤ) → R d ≤ 32 → (c : ℕ) → member c (changed d p before after) ≡ true → c < 32
 unfolding changed
 changed-low d p before after few c m =
     omega (arith, few, filter-below (λ c. not (eqZ (valueAt before p c) (valueAt after p c))) (R d) c .0 m .0)
 
-module _ (s : List ℕ) (k : Counted.Deck) (rules parts : List ℕ) {memo : List ℕ} {held₀ : Held} {C pending total : ℕ}
-    (w : Reacting s k rules parts memo held₀ C pending total) (before after : List ℤ) (p : ℕ) where
-  pub reacted : {mask : ℕ} {m : List ℕ} {held : Held} {q : Queue} → mask ≡ maskOf (changed (deckOf s) p before after)
-      → Fires (deckOf s) after p mask (shape rules parts k) C held₀ (first pending total) m held q
-      → Reacts (deckOf s) (shape rules parts k) C pending total before after p held₀ m held q
-  reacted e f =
-      let d = deckOf s in
-      let x = f (changed d p before after) (changed-low d p before after (w .tabled .counts .formed .channels)) e in
-      record {
-        grown = λ us l n t. x .grows us [] (grown-first (shape rules parts k) C us held₀ pending total l n t (w .within));
-        memo = x .memo;
-        size = x .size;
-      }
+pub reacted : (s : List ℕ) (k : Counted.Deck) (rules parts : List ℕ) {memo : List ℕ} {held₀ : Held} {C pending total : ℕ}
+    → Reacting s k rules parts memo held₀ C pending total → (values : List ℤ) (p mask : ℕ) {m : List ℕ} {held : Held} {q : Queue}
+    → Fires (deckOf s) values p mask (shape rules parts k) C held₀ (first pending total) m held q
+    → Reacts (deckOf s) (shape rules parts k) C pending total values p mask held₀ m held q
+reacted s k rules parts {held₀ = held₀} {C} {pending} {total} w values p mask f cs low e =
+    let x = f cs low e in
+    record {
+      grown = λ us l n t. x .grows us [] (grown-first (shape rules parts k) C us held₀ pending total l n t (w .within));
+      memo = x .memo;
+      size = x .size;
+    }
