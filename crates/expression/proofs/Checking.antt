@@ -11,7 +11,6 @@ use Rattle.expression.specs.Reading.{Read, got, nothing, literalAt, chan
 use Rattle.expression.specs.Reading.{Scope, numOperands, truthOperands}
 use Rattle.expression.specs.Answers.{mapRead, Answers, endOf, numEnd, truthEnd, ofEnd}
 use Rattle.expression.specs.declared.Arith.{Arith}
-use Rattle.expression.specs.declared.Arith.the-variants.{Sum, Difference, Product}
 use Rattle.expression.specs.declared.Join.{Join}
 use Rattle.expression.specs.declared.Compare.{Compare}
 use Rattle.expression.specs.declared.NumOp.{NumOp}
@@ -99,16 +98,6 @@ pub record Here {Op : Type 0} (of : ℕ → Op) (sc : Scope) (s : List ℕ) (at 
 
 pub here : (sc : Scope) (s : List ℕ) (at : ℕ) → at < length s → {b : ℕ} → b ≡ getD s at 0 → Here numOp sc s at (numOp b)
 here sc s at inside e = record { inside = inside; is = ap numOp e }
-
--- sum, difference and product
-pub two-byte : (b : ℕ) → 3 ≤ b → b ≤ 5 → (k : Arith) × (numOp b ≡ OfNum.Two k)
-two-byte zero l u = absurd (omega arith)
-two-byte (suc zero) l u = absurd (omega arith)
-two-byte (suc (suc zero)) l u = absurd (omega arith)
-two-byte (suc (suc (suc zero))) l u = (Sum, refl)
-two-byte (suc (suc (suc (suc zero)))) l u = (Difference, refl)
-two-byte (suc (suc (suc (suc (suc zero))))) l u = (Product, refl)
-two-byte (suc (suc (suc (suc (suc (suc b)))))) l u = absurd (omega arith)
 
 module _ {sc : Scope} {s : List ℕ} {at : ℕ} {op : NumOp} (h : Here numOp sc s at op) where
   step-num : (op′ : NumOp) → op ≡ op′ → (g : ℕ) → numEnd sc (suc g) s at ≡ numStep sc op′ s (at + 1) (λ n. numEnd sc g s n)

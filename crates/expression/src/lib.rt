@@ -3,13 +3,13 @@
 
 ghost use mathlib.Core.Path.{_≡_};
 ghost use mathlib.Core.Bool.{true, not};
-ghost use Prim.Native.Nat.{_-_, _<_, _≤_};
+ghost use Prim.Native.Nat.{_+_, _-_, _<_, _≤_};
 ghost use lib.ListN.{length, getD};
 ghost use Rattle.clamped.specs.Clamp.{negated};
 ghost use Rattle.expression.specs.Values.{arith, join, compare};
 ghost use Rattle.expression.specs.Reading.{numOp, truthOp, word, signed, literalAt, channelAt, wholeNum, wholeTruth};
-ghost use Rattle.expression.specs.Answers.{mapRead, Answers, scope, valueIn, numAt, truthAt, numEnd, truthEnd};
-ghost use Rattle.expression.specs.Answers.{ofNum, ofTruth, ofEnd, endsAt, isGot, wholeNumValue, wholeTruthValue};
+ghost use Rattle.expression.specs.Answers.{mapRead, Answers, scope, valueIn, numAt, truthAt, truthEnd};
+ghost use Rattle.expression.specs.Answers.{ofNum, ofTruth, ofEnd, formOf, NumsEnd, endsAt, isGot, wholeNumValue, wholeTruthValue};
 
 // What two numbers make a number.
 pub enum Arith {
@@ -293,62 +293,47 @@ pub fn truth_at(s: &[u8], at: usize, own: &[i32], far: &[i32]) -> TruthAt
 
 // It answers the place after an expression, and 0 where there is none.
 
-// The end of a literal or of a channel whose operator b, 0 to 2, stands at a place of s. The bound is looked up, not branched
-// on: which of them comes next is hard to predict.
-fn leaf_end(s: &[u8], at: usize, b: u8, own: usize, far: usize) -> usize
-    requires { ⌜ (at < length (now s)) × (b ≡ getD (now s) at 0) × (b < 3) ⌝ }
-    ensures { λ r. ⌜ Answers (numEnd (scope own far)) (now (s .entry)) at (ofEnd r) ⌝ }
+// For each operator of a number, 0 to 6, one byte: how many bytes it takes with a literal's or channel's own ones, and 16 times how
+// many operands follow.
+const FORMS: u64 = 0x11212121020205;
+
+// One byte of `FORMS`. It is looked up, not branched on: which operator comes next is hard to predict.
+fn form(b: usize) -> usize
+    requires { ⌜ b ≤ 6 ⌝ }
+    ensures { λ r. ⌜ r ≡ formOf b ⌝ }
 {
-    let size = if b == 0 { 5 } else { 2 };
-    if s.len() - at < size {
-        return 0;
-    }
-    let bounds = [256, own, far];
-    if wide(s[at + 1]) < bounds[b as usize] {
-        at + size
-    } else {
-        0
-    }
+    ((FORMS >> (8 * b)) % 256) as usize
 }
 
-// The end of an operand: a literal or a channel is passed without a call of `num_end`.
-fn operand_end(s: &[u8], at: usize, own: usize, far: usize) -> usize
-    ensures { λ r. ⌜ Answers (numEnd (scope own far)) (now (s .entry)) at (ofEnd r) ⌝ }
+// The end of so many numbers that stand one after the other from a place of s on, with so many own and far channels known. It
+// reads an operator and calls itself for its operands together with the numbers that are still to come behind them. The slice is
+// lent by a reference, since then no call copies it and the compiled code is a loop.
+fn nums_end(s: &&[u8], at: usize, count: usize, own: usize, far: usize) -> usize
+    requires { ⌜ (at ≤ length (now (now s))) × (length (now (now s)) < 18446744073709551616) × (count ≤ at + 1) ⌝ }
+    ensures { λ r. ⌜ NumsEnd (scope own far) (now (now (s .entry))) count at r ⌝ }
 {
-    if s.len() <= at {
+    if count == 0 {
+        return at;
+    }
+    let bytes = *s;
+    let left = bytes.len() - at;
+    if left < 2 {
         return 0;
     }
-    let b = s[at];
-    if b < 3 {
-        leaf_end(s, at, b, own, far)
-    } else {
-        num_end(s, at, own, far)
-    }
-}
-
-// The end of the number at a place of s, with so many own and far channels known.
-pub fn num_end(s: &[u8], at: usize, own: usize, far: usize) -> usize
-    ensures { λ r. ⌜ Answers (numEnd (scope own far)) (now (s .entry)) at (ofEnd r) ⌝ }
-{
-    if s.len() <= at {
-        return 0;
-    }
-    let b = s[at];
-    if b < 3 {
-        return leaf_end(s, at, b, own, far);
-    }
+    let b = wide(bytes[at]);
     if b > 6 {
         return 0;
     }
-    let n = operand_end(s, at + 1, own, far);
-    if b == 6 {
-        return n;
+    let form = form(b);
+    let size = form % 16;
+    if left < size {
+        return 0;
     }
-    if n == 0 {
-        0
-    } else {
-        operand_end(s, n, own, far)
+    let bounds = [256, own, far, 256, 256, 256, 256];
+    if wide(bytes[at + 1]) >= bounds[b] {
+        return 0;
     }
+    nums_end(s, at + size, form / 16 + (count - 1), own, far)
 }
 
 // The end of the truth at a place of s, with so many own and far channels known.
@@ -367,10 +352,7 @@ pub fn truth_end(s: &[u8], at: usize, own: usize, far: usize) -> usize
             let n = truth_end(s, next, own, far);
             if n == 0 { 0 } else { truth_end(s, n, own, far) }
         }
-        TruthOp::Two(_) => {
-            let n = num_end(s, next, own, far);
-            if n == 0 { 0 } else { num_end(s, n, own, far) }
-        }
+        TruthOp::Two(_) => nums_end(&s, next, 2, own, far),
         TruthOp::Unknown => 0,
     }
 }
@@ -491,66 +473,6 @@ fn first_truth(s: &[u8], own: &[i32], far: &[i32]) -> TruthAt
     compare_at(k, a, leaf_at(s, n, own, far))
 }
 
-// The end of the number at a place where an operator stands: one of two leaves without a recursive call.
-fn pair_end(s: &[u8], at: usize, own: usize, far: usize) -> usize
-    requires { ⌜ (at < length (now s)) × (3 ≤ getD (now s) at 0) ⌝ }
-    ensures { λ r. ⌜ Answers (numEnd (scope own far)) (now (s .entry)) at (ofEnd r) ⌝ }
-{
-    let b = s[at];
-    if b > 5 {
-        return num_end(s, at, own, far);
-    }
-    if !is_leaf(s, at + 1) {
-        return num_end(s, at, own, far);
-    }
-    let first = s[at + 1];
-    let n = leaf_end(s, at + 1, first, own, far);
-    if n == 0 {
-        return 0;
-    }
-    if !is_leaf(s, n) {
-        return num_end(s, at, own, far);
-    }
-    let second = s[n];
-    leaf_end(s, n, second, own, far)
-}
-
-// The end of the number at a place: a leaf is passed at once.
-fn first_end(s: &[u8], at: usize, own: usize, far: usize) -> usize
-    ensures { λ r. ⌜ Answers (numEnd (scope own far)) (now (s .entry)) at (ofEnd r) ⌝ }
-{
-    if s.len() <= at {
-        return 0;
-    }
-    let b = s[at];
-    if b < 3 {
-        leaf_end(s, at, b, own, far)
-    } else {
-        pair_end(s, at, own, far)
-    }
-}
-
-// The end of the number that s begins with, with so many own and far channels known.
-fn first_num_end(s: &[u8], own: usize, far: usize) -> usize
-    ensures { λ r. ⌜ Answers (numEnd (scope own far)) (now (s .entry)) 0 (ofEnd r) ⌝ }
-{
-    if s.len() == 0 {
-        return 0;
-    }
-    let b = s[0];
-    if b < 3 {
-        return leaf_end(s, 0, b, own, far);
-    }
-    if b > 5 {
-        return num_end(s, 0, own, far);
-    }
-    let n = first_end(s, 1, own, far);
-    if n == 0 {
-        return 0;
-    }
-    first_end(s, n, own, far)
-}
-
 // The end of the truth that s begins with, with so many own and far channels known.
 fn first_truth_end(s: &[u8], own: usize, far: usize) -> usize
     ensures { λ r. ⌜ Answers (truthEnd (scope own far)) (now (s .entry)) 0 (ofEnd r) ⌝ }
@@ -565,11 +487,7 @@ fn first_truth_end(s: &[u8], own: usize, far: usize) -> usize
     let TruthOp::Two(_) = op else {
         return truth_end(s, 0, own, far);
     };
-    let n = first_end(s, 1, own, far);
-    if n == 0 {
-        return 0;
-    }
-    first_end(s, n, own, far)
+    nums_end(&s, 1, 2, own, far)
 }
 
 // Whether an expression that ends there ends with the bytes, so that nothing stands after it.
@@ -583,7 +501,7 @@ fn ends(s: &[u8], end: usize) -> bool
 pub fn is_num(s: &[u8], own: usize, far: usize) -> bool
     ensures { λ r. ⌜ r ≡ isGot (wholeNum (scope own far) (now (s .entry))) ⌝ }
 {
-    ends(s, first_num_end(s, own, far))
+    ends(s, nums_end(&s, 0, 1, own, far))
 }
 
 // Whether the bytes are a truth.

@@ -7,11 +7,12 @@ use borrow.Fn.Kinds.{In}
 use borrow.Fn.PlainCycle.{Measures, is, falls, and}
 use Rattle.expression.specs.Reading.{truthOp}
 use Rattle.expression.specs.Answers.{scope}
-use Rattle.expression.proofs.Checking.{Here, an-end, no-truth, as-constant, as-no-truth, as-not, as-both, as-both-nothing, as-compared, as-compared-nothing}
+use Rattle.expression.proofs.Checking.{Here, an-end, no-truth, as-constant, as-no-truth, as-not, as-both, as-both-nothing}
+use Rattle.expression.proofs.Forms.{compared-nums}
 use Rattle.expression.proofs.truth_end.Reads as truth-end
 use Rattle.expression.proofs.truth_end.Kinds as truth-end-kinds
 use Rattle.expression.proofs.+truth_end.Lts-truth_end as truth-end-lts
-use Rattle.expression.proofs.operand_end.Reads as num-end-reads
+use Rattle.expression.proofs.nums_end.Reads as nums-end-reads
 use Rattle.expression.proofs.truth_op.Reads as truth-op-reads
 use Rattle.expression.proofs.+truth_end.{statement}
 use Rattle.expression.proofs.+truth_end.Tie.{close}
@@ -32,20 +33,20 @@ called t = (
   truth-op-reads.Learnt,
   truth-end-below t,
   truth-end.Post,
-  num-end-reads.Asked,
-  num-end-reads.Learnt,
+  nums-end-reads.Asked,
+  nums-end-reads.Learnt,
 )
 
 module _ (t : ℕ) where
   -- the operator
   here : (c : truth-end-lts.After-truth-op (called t) (truth-end-at t) truth-end.Post)
       → let a = c .before .before .before .before .args in
-      Here truthOp (scope (a .own) (a .far)) (a .s .now) (a .at) (c .truth-op .result)
+      Here truthOp (scope (a .own) (a .far)) (a .t1 .now) (a .at) (c .truth-op .result)
   here c = record { inside = c .before .before .if1 .left; is = c .truth-op .ensures }
 
 pub +truth-end-spec : {M : Type 1} → statement M
 +truth-end-spec = close μ-truth-end λ t. truth-end-lts.spec (called t) (truth-end-at t) truth-end.Post
-    (λ c. let a = c .before .before .args in no-truth (scope (a .own) (a .far)) (a .s .now) (a .at) (c .if1 .taken))
+    (λ c. let a = c .before .before .args in no-truth (scope (a .own) (a .far)) (a .t1 .now) (a .at) (c .if1 .taken))
     (λ c. search needs)
     (λ c κs. search needs)
     (λ c. search needs)
@@ -57,7 +58,6 @@ pub +truth-end-spec : {M : Type 1} → statement M
     (λ c κs. (omega (arith, (rw (an-end _ (c .if2 .left)) at (c .before .truth-end2 .ensures)) .ahead), tt))
     (λ c. search needs)
     (λ c κs. search needs)
-    (λ c κs. search needs)
     (λ c. search needs)
     (λ c. as-constant (here t (c .before .before)) (c .enum-told .given .1))
     (λ c. as-not (here t (c .before .before .before)) (c .before .enum-told2 .given .1) (c .truth-end .ensures))
@@ -67,8 +67,5 @@ pub +truth-end-spec : {M : Type 1} → statement M
     let op = first .before in
     as-both (here t (op .before .before)) (op .enum-told3 .given .1) (first .truth-end2 .ensures) (c .before .if2 .left) (c .truth-end3 .ensures))
     (λ c. let op = c .before .before in
-    as-compared-nothing (here t (op .before .before)) (op .enum-told4 .given .1) (c .before .num-end .ensures) (c .if3 .taken))
-    (λ c. let first = c .before .before in
-    let op = first .before in
-    as-compared (here t (op .before .before)) (op .enum-told4 .given .1) (first .num-end .ensures) (c .before .if3 .left) (c .num-end2 .ensures))
+    compared-nums (here t (op .before .before)) (op .enum-told4 .given .1) (c .nums-end .result) (c .nums-end .ensures))
     (λ c. as-no-truth (here t (c .before .before)) (c .enum-told5 .given .1))

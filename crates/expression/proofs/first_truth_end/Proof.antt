@@ -3,31 +3,27 @@ use native.Mathlib.Omega.{arith}
 use borrow.Author.Needs.{needs}
 use Rattle.expression.specs.Reading.{truthOp}
 use Rattle.expression.specs.Answers.{scope}
-use Rattle.expression.proofs.Checking.{Here, no-truth, as-constant, as-compared, as-compared-nothing}
+use Rattle.expression.proofs.Checking.{Here, no-truth, as-constant}
+use Rattle.expression.proofs.Forms.{compared-nums}
 use Rattle.expression.proofs.first_truth_end.Statement.{statement}
 use Rattle.expression.proofs.first_truth_end.Tie as tie
 
 -- the operator
 here : (c : tie.After-truth-op)
     → let a = c .before .before .before .before .args in
-    Here truthOp (scope (a .own) (a .far)) (a .s .now) 0 (c .truth-op .result)
+    Here truthOp (scope (a .own) (a .far)) (a .t1 .now) 0 (c .truth-op .result)
 here c = record { inside = omega (arith, c .before .before .if1 .left); is = c .truth-op .ensures }
 
-nothing-returns : tie.Need-returns-4
-nothing-returns c =
-    let op = c .before .before in
-    as-compared-nothing (here (op .before .before .before)) (op .enum-told2 .given .1) (c .before .first-end .ensures) (c .if2 .taken)
-
-compared-returns : tie.Need-returns-5
+compared-returns : tie.Need-returns-4
 compared-returns c =
-    let op = c .before .before .before in
-    as-compared (here (op .before .before .before)) (op .enum-told2 .given .1) (c .before .before .first-end .ensures) (c .before .if2 .left) (c .first-end2 .ensures)
+    let op = c .before .before in
+    compared-nums (here (op .before .before .before)) (op .enum-told2 .given .1) (c .nums-end .result) (c .nums-end .ensures)
 
 pub first-truth-end-spec : {M : Type 1} → statement M
 first-truth-end-spec =
     tie.close
     (tie.spec
-    (λ c. let a = c .before .before .args in no-truth (scope (a .own) (a .far)) (a .s .now) 0 (omega (arith, c .if1 .taken)))
+    (λ c. let a = c .before .before .args in no-truth (scope (a .own) (a .far)) (a .t1 .now) 0 (omega (arith, c .if1 .taken)))
     (λ c. search needs)
     (λ c κs. search needs)
     (λ c. search needs)
@@ -35,7 +31,5 @@ first-truth-end-spec =
     (λ c. search needs)
     (λ c κs. search needs)
     (λ c. c .truth-end .ensures)
-    (λ c κs. search needs)
-    nothing-returns
     (λ c κs. search needs)
     compared-returns)
