@@ -8,14 +8,12 @@ use lib.Bits.{bitOr, or-zero-l}
 use lib.Dec.{ltb}
 use lib.ListN.{length, getD, take, drop, length-drop}
 use lib.Pow.{pow-pos}
-use lib.Seq.{take-length, getD-drop}
+use lib.Seq.{take-length}
 use lib.IntN.{ℤ, pos}
 use borrow.Author.Tests.{ltb-true, lt-ltb, le-ltb}
 use Rattle.lists.specs.Lists.{all}
 use Rattle.lists.specs.Bits.{maskOf}
-use Rattle.lists.specs.Laws.Alls.{all-at}
 use Rattle.lists.specs.Laws.Booleans.{Four, four, from-four, and-left, and-right, contradiction, not-true→false}
-use Rattle.lists.specs.Laws.Equalities.{eqZ-true}
 use Rattle.lists.specs.Laws.Bits.{bit-zero, mask-empty}
 use Rattle.deck.specs.Deck.{Deck, R, N}
 use Rattle.pool.specs.Places.{isZero, pairsOf, updateOf, wellWritten}
@@ -85,15 +83,6 @@ channels-set r n m t h l f e =
     record { none = λ z. absurd (some-channels n t h l (mask-empty (channelsOf n t) .0 (sym e ∙ z))); some = λ _. (f, e) }
 
 -- ---- one pair
-
--- a number that is not 0 among those from k on
-pub not-zero : (l : List ℤ) (k i : ℕ) → k ≤ i → i < length l → (getD l i (pos 0) ≡ pos 0 → ⊥) → all isZero (drop k l) ≡ false
-unfolding isZero
-not-zero l k i low high n =
-    not-true→false (all isZero (drop k l)) λ t.
-    let e : k + (i - k) ≡ i = omega arith in
-    let zero = all-at isZero (drop k l) (i - k) (pos 0) t (omega (arith, length-drop k l)) in
-    n (sym (ap (λ j. getD l j (pos 0)) e) ∙ sym (getD-drop k l (i - k) (pos 0)) ∙ eqZ-true (getD (drop k l) (i - k) (pos 0)) (pos 0) zero)
 
 module _ (r c : ℕ) (l : List ℤ) (long : length l ≡ 10) (one : getD l 1 (pos 0) ≡ pos 1) (e : c ≡ within r (getD l 2 (pos 0))) where
   single : _≡_ {A = ℕ} 1 (within 5 (getD l 1 (pos 0)))

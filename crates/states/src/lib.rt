@@ -81,13 +81,7 @@ fn single_fits(place: &[i32], channels: usize) -> u64
     if c == channels {
         return 0;
     }
-    if place[4] == 0
-        && place[5] == 0
-        && place[6] == 0
-        && place[7] == 0
-        && place[8] == 0
-        && place[9] == 0
-    {
+    if pool::all_zero(&place[4..]) {
         1u64 << c
     } else {
         0

@@ -1,21 +1,15 @@
 -- `states::single_fits` meets its contract: the channel, and six zeros. Assumes nothing.
-use Prim.Native.Nat.{ℕ, _≤_, _<_}
-use mathlib.Core.Path.{_≡_, sym, ap, _∙_}
-use mathlib.Core.Logic.{⊎-elim}
-use mathlib.Core.Bool.{true, false}
+use Prim.Native.Nat.{_<_}
+use mathlib.Core.Path.{_≡_, sym, _∙_}
 use native.Mathlib.Omega.{arith}
-use borrow.Author.Tests.{eqb-true, eqb-false}
-use lib.Dec.{eqb}
+use borrow.Author.Needs.{needs}
 use lib.ListN.{drop, getD}
 use lib.IntN.{pos}
-use mir.Syntax.{w32}
-use mir.Val.{ofZ}
 use Rattle.lists.specs.Lists.{all}
 use Rattle.lists.specs.Laws.Bits.{bit-shifted}
 use Rattle.pool.specs.Places.{isZero}
-use Rattle.pool.proofs.Scanning.{bits-same, zero-next, zero-end}
 use Rattle.states.proofs.Turns.{within-most}
-use Rattle.states.proofs.Deciding.{not-zero, single-unknown, single-more, single-fit}
+use Rattle.states.proofs.Deciding.{tail-zeros, single-unknown, single-more, single-fit}
 use Rattle.states.proofs.single_fits.Statement.{statement}
 use Rattle.states.proofs.single_fits.Tie as tie
 
@@ -30,49 +24,26 @@ returns c =
     let s = c .before .before in
     single-unknown (s .args .channels) _ (s .args .place .now) (s .pre .0) (s .pre .2) (c .before .number-at .ensures) (omega arith)
 
--- all six are 0
+-- whether the numbers behind the pair are 0
+zeros : (c : tie.After-all-zero)
+    → let l = c .before .before .before .before .args .place .now in c .all-zero .result ≡ all isZero (drop 4 l)
+zeros c = tail-zeros (c .before .before .before .before .args .place .now) 4 (c .all-zero .ensures)
+
 returns-2 : tie.Need-returns-2
 returns-2 c =
-    let e = c .before .before in
-    let f = e .before .before in
-    let g = f .before .before in
-    let h = g .before .before in
-    let i = h .before .before in
-    let j = i .before .before in
-    let s = j .before .before in
-    let l = s .args .place .now in
-    let zero4 = bits-same (getD l 4 (pos 0)) (pos 0) (i .before .if22 .given) (omega arith) (i .if2 .taken) in
-    let zero5 = bits-same (getD l 5 (pos 0)) (pos 0) (h .before .if32 .given) (omega arith) (eqb-true (ofZ w32 (getD l 5 (pos 0))) 0 (h .if3 .taken)) in
-    let zero6 = bits-same (getD l 6 (pos 0)) (pos 0) (g .before .if42 .given) (omega arith) (eqb-true (ofZ w32 (getD l 6 (pos 0))) 0 (g .if4 .taken)) in
-    let zero7 = bits-same (getD l 7 (pos 0)) (pos 0) (f .before .if52 .given) (omega arith) (eqb-true (ofZ w32 (getD l 7 (pos 0))) 0 (f .if5 .taken)) in
-    let zero8 = bits-same (getD l 8 (pos 0)) (pos 0) (e .before .if62 .given) (omega arith) (eqb-true (ofZ w32 (getD l 8 (pos 0))) 0 (e .if6 .taken)) in
-    let zero9 = bits-same (getD l 9 (pos 0)) (pos 0) (c .before .if72 .given) (omega arith) (eqb-true (ofZ w32 (getD l 9 (pos 0))) 0 (c .if7 .taken)) in
-    let zeros = zero-end l 10 true (omega arith)
-    ∙ zero-next l 9 true (omega arith) zero9
-    ∙ zero-next l 8 true (omega arith) zero8
-    ∙ zero-next l 7 true (omega arith) zero7
-    ∙ zero-next l 6 true (omega arith) zero6
-    ∙ zero-next l 5 true (omega arith) zero5
-    ∙ zero-next l 4 true (omega arith) zero4 in
-    let n = j .before in
-    rw (bit-shifted 64 (n .number-at .result) (omega (arith, small j)))
-    (single-fit (s .args .channels) _ l (s .pre .0) (s .pre .2) (n .number-at .ensures) (small j) (sym zeros))
+    let e = c .before .before .before in
+    let n = e .before in
+    let s = n .before in
+    rw (bit-shifted 64 (n .number-at .result) (omega (arith, small e)))
+    (single-fit (s .args .channels) _ (s .args .place .now) (s .pre .0) (s .pre .2) (n .number-at .ensures) (small e)
+    (sym (zeros (c .before)) ∙ c .if2 .taken))
 
--- one of the six is not 0
 returns-3 : tie.Need-returns-3
 returns-3 c =
-    let s = c .before .before .before .before in
-    let l = s .args .place .now in
-    let other : (i : ℕ) → 4 ≤ i → i < 10 → eqb (ofZ w32 (getD l i (pos 0))) 0 ≡ false → all isZero (drop 4 l) ≡ false = λ i low high n.
-    not-zero l 4 i low (omega arith) (λ e. eqb-false (ofZ w32 (getD l i (pos 0))) 0 n (ap (ofZ w32) e)) in
-    single-more (s .args .channels) _ l (s .pre .0) (s .pre .2) (c .before .before .before .number-at .ensures)
-    (⊎-elim (λ a. other 9 (omega arith) (omega arith) (a .10 .left))
-    (⊎-elim (λ a. other 8 (omega arith) (omega arith) (a .8 .left))
-    (⊎-elim (λ a. other 7 (omega arith) (omega arith) (a .6 .left))
-    (⊎-elim (λ a. other 6 (omega arith) (omega arith) (a .4 .left))
-    (⊎-elim (λ a. other 5 (omega arith) (omega arith) (a .2 .left))
-    (λ a. not-zero l 4 4 (omega arith) (omega arith) (λ e. a .left (ap (ofZ w32) e)))))))
-    (c .if2 .came))
+    let n = c .before .before .before .before in
+    let s = n .before in
+    single-more (s .args .channels) _ (s .args .place .now) (s .pre .0) (s .pre .2) (n .number-at .ensures)
+    (sym (zeros (c .before)) ∙ c .if2 .left)
 
 pub single-fits-spec : {M : Type 1} → statement M
 single-fits-spec =
@@ -80,12 +51,10 @@ single-fits-spec =
     (tie.spec
     (λ c κs. omega arith)
     returns
+    (λ c. search needs)
     (λ c. omega arith)
     (λ c. omega arith)
-    (λ c. omega arith)
-    (λ c. omega arith)
-    (λ c. omega arith)
-    (λ c. omega arith)
-    (λ c. omega (arith, small (c .before .before .before .before .before .before .before .before .before .before .before .before)))
+    (λ c κs. search needs)
+    (λ c. omega (arith, small (c .before .before .before)))
     returns-2
     returns-3)
