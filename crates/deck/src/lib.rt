@@ -267,9 +267,9 @@ fn judged(bytes: &[u8], truth: bool, own: usize, far: usize) -> bool
     ensures { λ r. ⌜ r ≡ isWhole truth (scopeOf own far) (now (bytes .entry)) ⌝ }
 {
     if truth {
-        expression::is_truth(bytes, own, far)
+        type_check::is_truth(bytes, own, far)
     } else {
-        expression::is_num(bytes, own, far)
+        type_check::is_num(bytes, own, far)
     }
 }
 

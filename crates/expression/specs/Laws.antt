@@ -1,4 +1,5 @@
--- Laws of expressions: reading and encoding are inverse to each other.
+-- Laws of expressions: reading and encoding are inverse to each other; what evaluator and type check answer follows from their
+-- operands.
 pub mod Bytes
 pub mod Value
 pub mod Spans
@@ -9,3 +10,6 @@ pub mod NumComplete
 pub mod Truths
 pub mod Whole
 pub mod Agreement
+pub mod OperatorBytes
+pub mod Readings
+pub mod WholeAnswers

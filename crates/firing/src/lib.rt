@@ -15,7 +15,7 @@ fn number_from(deck: &[u8], at: usize, own: &[i32], far: &[i32]) -> i32
     let n = deck[at] as usize;
     let from = at + 1;
     let to = from + n;
-    let value = expression::num_value(&deck[from..to], own, far);
+    let value = evaluation::num_value(&deck[from..to], own, far);
     match value {
         expression::NumValue::Value(v) => v,
         expression::NumValue::None => 0,

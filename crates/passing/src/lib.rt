@@ -34,7 +34,7 @@ pub fn truth_from(
     let to = from + n;
     let own_to = own_at + owns;
     let far_to = far_at + fars;
-    let value = expression::truth_value(
+    let value = evaluation::truth_value(
         &deck[from..to],
         &values[own_at..own_to],
         &values[far_at..far_to],

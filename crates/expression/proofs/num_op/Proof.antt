@@ -1,5 +1,5 @@
 -- `expression::num_op` meets its contract. Assumes nothing.
-use Rattle.expression.proofs.OperatorBytes.{num-unknown}
+use Rattle.expression.specs.Laws.OperatorBytes.{num-unknown}
 use Rattle.expression.proofs.num_op.Statement.{statement}
 use Rattle.expression.proofs.num_op.Tie as tie
 

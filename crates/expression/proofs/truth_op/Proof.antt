@@ -1,5 +1,5 @@
 -- `expression::truth_op` meets its contract. Assumes nothing.
-use Rattle.expression.proofs.OperatorBytes.{truth-unknown}
+use Rattle.expression.specs.Laws.OperatorBytes.{truth-unknown}
 use Rattle.expression.proofs.truth_op.Statement.{statement}
 use Rattle.expression.proofs.truth_op.Tie as tie
 
