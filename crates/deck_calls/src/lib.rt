@@ -22,16 +22,18 @@ pub fn check_with(deck: &[u8], rules: &mut [u64], memo: &mut [u32]) -> CheckAnsw
     let mut parts = [0u64; 64];
     let verdict = passing::judge(deck, rules, &mut parts, memo);
     match verdict {
-        Judged::Passing { counts, charge } => CheckAnswer::Passed {
-            channels: counts.channels as u32,
-            rules: counts.rules as u32,
-            parts: counts.parts as u32,
-            charge: charge,
-        },
-        Judged::Refused { number, place } => CheckAnswer::Refused {
-            number: number,
-            place: place,
-        },
+        Judged::Passing { counts, charge } => {
+            let r = counts.channels as u32;
+            let m = counts.rules as u32;
+            let n = counts.parts as u32;
+            CheckAnswer::Passed {
+                channels: r,
+                rules: m,
+                parts: n,
+                charge,
+            }
+        }
+        Judged::Refused { number, place } => CheckAnswer::Refused { number, place },
     }
 }
 
