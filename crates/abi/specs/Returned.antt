@@ -3,8 +3,8 @@ use Prim.Native.Nat.{ℕ}
 use mathlib.Core.List.{List, [], _∷_}
 use Rattle.refusals.specs.Outcome.{Outcome}
 use Rattle.pool.specs.States.{Memory}
-use Rattle.engine.specs.Calls.{Answer, Reply, Section}
-use Rattle.engine.specs.Answers.{Numbers, numbersOf}
+use Rattle.calls.specs.Calls.{Answer, Reply, Section}
+use Rattle.calls.specs.Answers.{Numbers, numbersOf}
 
 -- the number that a function returns, 0 when the call is accepted, and the lent array of five: the place, then the answer numbers
 pub record Answered : Type 0 where

@@ -2,8 +2,8 @@
 // call is accepted, and writes the place and the answer numbers into a lent array of five.
 ghost use mathlib.Core.Path.{_≡_};
 ghost use mathlib.Core.List.{[], _∷_};
-ghost use Rattle.engine.specs.Calls as Calls;
-ghost use Rattle.engine.specs.Answers.{memoryAt};
+ghost use Rattle.calls.specs.Calls as Calls;
+ghost use Rattle.calls.specs.Answers.{memoryAt};
 ghost use Rattle.abi.specs.Returned.{answeredOf, answered, returnedOf, returned, returnedSectionOf, returnedSection};
 use deck::Deck;
 use pool::State;
@@ -30,7 +30,7 @@ pub extern "C" fn reaction_check(deck: &[u8], answer: &mut [u32; 5]) -> u32
 {
     let made = engine::check(deck);
     match made {
-        engine::CheckAnswer::Passed {
+        calls::CheckAnswer::Passed {
             channels,
             rules,
             parts,
@@ -39,7 +39,7 @@ pub extern "C" fn reaction_check(deck: &[u8], answer: &mut [u32; 5]) -> u32
             write(answer, 0, channels, rules, parts, charge);
             0
         }
-        engine::CheckAnswer::Refused { number, place } => {
+        calls::CheckAnswer::Refused { number, place } => {
             write(answer, place, 0, 0, 0, 0);
             number
         }
@@ -80,11 +80,11 @@ pub extern "C" fn reaction_start(
     store(values, pending, state);
     let reply = made.answer;
     match reply {
-        engine::StartAnswer::Started => {
+        calls::StartAnswer::Started => {
             write(answer, 0, 0, 0, 0, 0);
             0
         }
-        engine::StartAnswer::Refused { number, place } => {
+        calls::StartAnswer::Refused { number, place } => {
             write(answer, place, 0, 0, 0, 0);
             number
         }
@@ -103,13 +103,13 @@ pub extern "C" fn reaction_input(
 ) -> u32
     ensures { λ r. ⌜ returnedOf r (now (answer .exit)) (memoryAt (now (values .exit)) (now (pending .exit)) (now (pool .exit))) ≡ returned (Calls.input (now (deck .entry)) (memoryAt (now (values .entry)) (now (pending .entry)) (now (pool .entry))) part (now (pairs .entry))) ⌝ }
 {
-    let reply = engine::input_lent(deck, pool, values, pending, part, pairs);
+    let reply = input_call::input_lent(deck, pool, values, pending, part, pairs);
     match reply {
-        engine::InputAnswer::Added(charge) => {
+        calls::InputAnswer::Added(charge) => {
             write(answer, 0, charge, 0, 0, 0);
             0
         }
-        engine::InputAnswer::Refused { number, place } => {
+        calls::InputAnswer::Refused { number, place } => {
             write(answer, place, 0, 0, 0, 0);
             number
         }
@@ -127,17 +127,17 @@ pub extern "C" fn reaction_commit(
 ) -> u32
     ensures { λ r. ⌜ returnedOf r (now (answer .exit)) (memoryAt (now (values .exit)) (now (pending .exit)) (now (pool .exit))) ≡ returned (Calls.commit (now (deck .entry)) (memoryAt (now (values .entry)) (now (pending .entry)) (now (pool .entry))) place) ⌝ }
 {
-    let reply = engine::commit_lent(deck, pool, values, pending, place);
+    let reply = commit_call::commit_lent(deck, pool, values, pending, place);
     match reply {
-        engine::CommitAnswer::Applied(charge) => {
+        calls::CommitAnswer::Applied(charge) => {
             write(answer, 0, 1, charge, 0, 0);
             0
         }
-        engine::CommitAnswer::Discarded(charge) => {
+        calls::CommitAnswer::Discarded(charge) => {
             write(answer, 0, 0, charge, 0, 0);
             0
         }
-        engine::CommitAnswer::Refused { number, place: p } => {
+        calls::CommitAnswer::Refused { number, place: p } => {
             write(answer, p, 0, 0, 0, 0);
             number
         }
@@ -155,17 +155,17 @@ pub extern "C" fn reaction_settle(
 ) -> u32
     ensures { λ r. ⌜ returnedOf r (now (answer .exit)) (memoryAt (now (values .exit)) (now (pending .exit)) (now (pool .exit))) ≡ returned (Calls.settle (now (deck .entry)) (memoryAt (now (values .entry)) (now (pending .entry)) (now (pool .entry))) budget) ⌝ }
 {
-    let reply = engine::settle_lent(deck, pool, values, pending, budget);
+    let reply = settle_call::settle_lent(deck, pool, values, pending, budget);
     match reply {
-        engine::SettleAnswer::Settled(commits) => {
+        calls::SettleAnswer::Settled(commits) => {
             write(answer, 0, commits, 1, 0, 0);
             0
         }
-        engine::SettleAnswer::Spent(commits) => {
+        calls::SettleAnswer::Spent(commits) => {
             write(answer, 0, commits, 0, 0, 0);
             0
         }
-        engine::SettleAnswer::Refused { number, place } => {
+        calls::SettleAnswer::Refused { number, place } => {
             write(answer, place, 0, 0, 0, 0);
             number
         }

@@ -13,8 +13,8 @@ use lib.Seq.{length-take-le}
 use Rattle.io.specs.Counts.{Counts}
 use Rattle.lists.specs.Lists.{flatMap}
 use Rattle.refusals.specs.Outcome.{refused, accepted}
-use Rattle.engine.specs.Calls.{passed}
-use Rattle.engine.specs.Line.{ascii, digits, words, line}
+use Rattle.calls.specs.Calls.{passed}
+use Rattle.calls.specs.Line.{ascii, digits, words, line}
 use Rattle.line.specs.Put.{Put}
 
 -- one text after the other

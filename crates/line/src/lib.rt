@@ -1,15 +1,15 @@
-// The line that the program prints for a deck. Document 01, "Calls"; specs/Line.antt of `engine` has its definition.
+// The line that the program prints for a deck. Document 01, "Calls"; specs/Line.antt of `calls` has its definition.
 ghost use mathlib.Core.Path.{_≡_};
 ghost use mathlib.Core.List.{[], _∷_};
 ghost use Prim.Native.Nat.{_+_, _≤_, _<_};
 ghost use lib.ListN.{length, take};
 ghost use Rattle.io.specs.Counts.{Counts};
-ghost use Rattle.engine.specs.Line.{digits};
-ghost use Rattle.engine.specs.Line.{line as Line·line};
-ghost use Rattle.engine.specs.Calls.{check};
-ghost use Rattle.engine.specs.Answers.{checkOutcome};
+ghost use Rattle.calls.specs.Line.{digits};
+ghost use Rattle.calls.specs.Line.{line as Line·line};
+ghost use Rattle.calls.specs.Calls.{check};
+ghost use Rattle.calls.specs.Answers.{checkOutcome};
 ghost use Rattle.line.specs.Put.{Put};
-use engine::CheckAnswer;
+use calls::CheckAnswer;
 
 // Puts a byte at a place, and answers the place after it.
 pub fn put_byte(out: &mut [u8], at: usize, b: u8) -> usize

@@ -4,8 +4,8 @@ use mathlib.Core.List.{List, [], _∷_}
 use lib.IntN.{ℤ}
 use Rattle.refusals.specs.Outcome.{Outcome}
 use Rattle.pool.specs.States.{Memory}
-use Rattle.engine.specs.Calls as Calls
-use Rattle.engine.specs.Calls.{Answer, Reply}
+use Rattle.calls.specs.Calls as Calls
+use Rattle.calls.specs.Calls.{Answer, Reply}
 
 -- what each call names
 pub data Call : Type 0 where

@@ -21,8 +21,8 @@ use Rattle.pool.specs.Places.{zeros, pools}
 use Rattle.pool.specs.States.{Machine, Memory, store, states}
 use Rattle.passing.specs.Check.{passing, checks}
 use Rattle.firing.specs.Firing.{firing}
-use Rattle.engine.specs.Calls.{Answer, passed, added, applied, discarded, check, calls}
-use Rattle.engine.specs.Line.{ascii, line, lines}
+use Rattle.calls.specs.Calls.{Answer, passed, added, applied, discarded, check, calls}
+use Rattle.calls.specs.Line.{ascii, line, lines}
 use Rattle.orders.specs.Calling.{Call, input, commit, Run, run, running}
 use Rattle.orders.specs.Listed.{Listed, listed, listing}
 

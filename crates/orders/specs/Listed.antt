@@ -15,7 +15,7 @@ use Rattle.pool.specs.Places.{capacity, pairsOf}
 use Rattle.pool.specs.States.{Machine}
 use Rattle.passing.specs.Check.{openingValues}
 use Rattle.firing.specs.Firing.{setAndFire, pick, Commit, committed}
-use Rattle.engine.specs.Calls.{Answer, passed, started, added, applied, discarded, settled, spent, goodInput}
+use Rattle.calls.specs.Calls.{Answer, passed, started, added, applied, discarded, settled, spent, goodInput}
 use Rattle.orders.specs.Calling.{Call, input, commit, settle}
 
 -- one commit of a list, a settle's too: its part, whether it was applied, and what it left

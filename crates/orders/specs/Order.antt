@@ -13,7 +13,7 @@ use Rattle.pool.specs.Updates.{charge}
 use Rattle.pool.specs.Places.{capacity}
 use Rattle.pool.specs.States.{Machine, Memory, store}
 use Rattle.passing.specs.Check.{within, openingValues}
-use Rattle.engine.specs.Calls.{Answer, settled}
+use Rattle.calls.specs.Calls.{Answer, settled}
 use Rattle.orders.specs.Calling.{Call, input, commit, settle, Run, run}
 use Rattle.orders.specs.Listed.{Turn, turns, Taken, taken, machineAfter, Listed, listed, commitsMade, chargeAdded, chargePending}
 

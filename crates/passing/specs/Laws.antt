@@ -9,3 +9,4 @@ pub mod Limits
 pub mod Opening
 pub mod Places
 pub mod Judged
+pub mod Tables

@@ -15,6 +15,16 @@ ghost use Rattle.passing.specs.Judged.{RulesKnown, JudgesRules, ZeroRule
 ghost use Rattle.passing.specs.declared.Judged.the-variants.{Refused};
 use deck::Deck;
 
+// The numbers of a table of rules and of a memo of charges, for decks of at most 16 rules and for the others. They begin as zeros
+// in each call.
+pub const SHORT_RULES: usize = 256;
+
+pub const RULES: usize = 512;
+
+pub const SHORT_MEMO: usize = 256;
+
+pub const MEMO: usize = 1024;
+
 // The value of the truth that stands at an offset of the deck. Own and far channels are stretches of the values, lent by where they
 // begin and how many they are: a stretch that was just made is slow to hand on.
 pub fn truth_from(

@@ -5,3 +5,4 @@ pub mod Equal
 pub mod Laid
 pub mod Values
 pub mod Assigned
+pub mod Lengths

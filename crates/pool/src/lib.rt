@@ -5,6 +5,7 @@ ghost use Prim.Native.Nat.{_+_, _*_, _≤_, _<_};
 ghost use lib.ListN.{length, take, drop};
 ghost use Rattle.lists.specs.Lists.{all, eqZ, eqList};
 ghost use Rattle.pool.specs.Places.{zeros, isZero};
+ghost use Rattle.pool.specs.States.{goodLength};
 ghost use Rattle.pool.specs.Moves.{written, moved, removed, shifted};
 use deck::Deck;
 
@@ -12,6 +13,19 @@ use deck::Deck;
 pub struct State {
     pub values: [i32; Deck::VALUES],
     pub pending: u32,
+}
+
+// 9: the pool's length is a multiple of 10 from 10 to 655,350.
+pub fn good_length(n: usize) -> bool
+    ensures { λ r. ⌜ r ≡ goodLength n ⌝ }
+{
+    if n < Deck::PLACE {
+        return false;
+    }
+    if n > 65535 * Deck::PLACE {
+        return false;
+    }
+    n % Deck::PLACE == 0
 }
 
 // One update, written at the front of the pool's tail.

@@ -5,8 +5,8 @@ use mathlib.Core.List.{List, [], _∷_}
 use lib.IntN.{ℤ}
 use Rattle.refusals.specs.Outcome.{Outcome}
 use Rattle.pool.specs.declared.State.{State}
-use Rattle.engine.specs.Calls.{Answer, Reply, Section}
-use Rattle.engine.specs.Answers.{numbersOf, sectionOf, memoryAt, replyOf, replyAt}
+use Rattle.calls.specs.Calls.{Answer, Reply, Section}
+use Rattle.calls.specs.Answers.{numbersOf, sectionOf, memoryAt, replyOf, replyAt}
 use Rattle.abi.specs.Returned.{answeredOf, answered, returnedOf, returned, returnedSectionOf, returnedSection}
 
 -- the array holds the numbers of an outcome

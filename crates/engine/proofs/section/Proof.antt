@@ -1,7 +1,7 @@
 -- `engine::section` meets its contract: the tables are as long as the deck needs them, and the rest is the same. Assumes nothing.
 use mathlib.Core.Path.{refl}
 use borrow.Author.Needs.{needs}
-use Rattle.engine.specs.Laws.Tables.{zero-rules, zero-memo}
+use Rattle.passing.specs.Laws.Tables.{zero-rules, zero-memo}
 use Rattle.engine.proofs.section.Statement.{statement}
 use Rattle.engine.proofs.section.Tie as tie
 

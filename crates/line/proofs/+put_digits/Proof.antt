@@ -7,7 +7,7 @@ use borrow.Author.Needs.{needs}
 use borrow.Fn.Kinds.{In}
 use borrow.Fn.PlainCycle.{Measures, is, falls, and}
 use lib.ListN.{length, length-append}
-use Rattle.engine.specs.Line.{digits}
+use Rattle.calls.specs.Line.{digits}
 use Rattle.line.specs.Laws.{put-more, digits-one, digits-more}
 use Rattle.line.proofs.put_digits.Reads as put-digits
 use Rattle.line.proofs.put_digits.Kinds as put-digits-kinds

@@ -1,7 +1,7 @@
 -- `line::check_line` meets its contract: the answer of check is the definition's. Assumes nothing.
 use mathlib.Core.Path.{ap, _∙_}
 use borrow.Author.Needs.{needs}
-use Rattle.engine.specs.Line.{line}
+use Rattle.calls.specs.Line.{line}
 use Rattle.line.proofs.check_line.Statement.{statement}
 use Rattle.line.proofs.check_line.Tie as tie
 

@@ -2,7 +2,7 @@
 use mathlib.Core.Path.{_∙_}
 use native.Mathlib.Omega.{arith}
 use borrow.Author.Needs.{needs}
-use Rattle.engine.specs.Line.{ascii}
+use Rattle.calls.specs.Line.{ascii}
 use Rattle.line.specs.Laws.{put-more, put-counts, line-passed, line-refused}
 use Rattle.line.proofs.put_line.Statement.{statement}
 use Rattle.line.proofs.put_line.Tie as tie

@@ -7,7 +7,7 @@ use lib.Dec.{lit<}
 use lib.ListN.{length}
 use mir.Syntax.{w32}
 use mir.Val.{Fits}
-use Rattle.engine.specs.Line.{digits}
+use Rattle.calls.specs.Line.{digits}
 use Rattle.line.specs.Laws.{put-more, digits-long}
 use Rattle.line.proofs.put_number.Statement.{statement}
 use Rattle.line.proofs.put_number.Tie as tie

@@ -17,8 +17,8 @@ use Rattle.pool.specs.States.{Machine, Memory, load, store, goodLength, good}
 use Rattle.pool.specs.Laws.Good.{Fine, load-store, store-length, good-stored}
 use Rattle.passing.specs.Check.{passing}
 use Rattle.firing.specs.Firing.{Commit, setAndFire, committed}
-use Rattle.engine.specs.Calls as Calls
-use Rattle.engine.specs.Calls.{Answer, added, applied, discarded, settled, spent, Reply, Done, reply, tested, goodInput, Settling, settling, oneMore, calls}
+use Rattle.calls.specs.Calls as Calls
+use Rattle.calls.specs.Calls.{Answer, added, applied, discarded, settled, spent, Reply, Done, reply, tested, goodInput, Settling, settling, oneMore, calls}
 use Rattle.orders.specs.Calling.{Call, input, commit, settle, made, running}
 use Rattle.orders.specs.Listed.{Turn, turn, turns, ending, Taken, taken, machineAfter, listing}
 

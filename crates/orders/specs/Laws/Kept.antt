@@ -17,9 +17,9 @@ use Rattle.pool.specs.Places.{capacity}
 use Rattle.pool.specs.States.{Machine, Memory, load, store, goodLength, good}
 use Rattle.pool.specs.Laws.Good.{Fine, good-stored, fine-loaded, store-load}
 use Rattle.passing.specs.Check.{passing}
-use Rattle.engine.specs.Calls as Calls
-use Rattle.engine.specs.Calls.{Answer, started, Reply, Done, reply, tested, opened}
-use Rattle.engine.specs.Laws.Opening.{fine-opened}
+use Rattle.calls.specs.Calls as Calls
+use Rattle.calls.specs.Calls.{Answer, started, Reply, Done, reply, tested, opened}
+use Rattle.calls.specs.Laws.Opening.{fine-opened}
 use Rattle.passing.specs.Laws.Passes.{Passes, passes-exactly}
 use Rattle.orders.specs.Calling.{Call, input, commit, settle, made}
 use Rattle.orders.specs.Listed.{Taken, taken, machineAfter}

@@ -24,9 +24,9 @@ use Rattle.pool.specs.Places.{capacity}
 use Rattle.pool.specs.States.{Machine, Memory, store, goodLength}
 use Rattle.pool.specs.Laws.Good.{Fine}
 use Rattle.passing.specs.Check.{within, openingValues, passing}
-use Rattle.engine.specs.Calls as Calls
-use Rattle.engine.specs.Calls.{Answer, started, settled, spent, Reply, reply, opened}
-use Rattle.engine.specs.Laws.Opening.{fine-opened}
+use Rattle.calls.specs.Calls as Calls
+use Rattle.calls.specs.Calls.{Answer, started, settled, spent, Reply, reply, opened}
+use Rattle.calls.specs.Laws.Opening.{fine-opened}
 use Rattle.orders.specs.Calling.{Call, input, commit, settle, Run, made, runFrom, run}
 use Rattle.orders.specs.Listed.{Turn, turn, turns, ending, Taken, taken, machineAfter, Listed, inFront, listFrom, listed, commitsOf, addedOf, commitsMade, chargeAdded, chargePending}
 use Rattle.orders.specs.Order.{Along, Accepted, yes-accepted, RefusedAsPlaced, Settles, leavesWithin, Order}

@@ -7,7 +7,7 @@ use Rattle.refusals.specs.Outcome.{accepted}
 use Rattle.expression.specs.Laws.Bytes.{Bytes}
 use Rattle.deck.specs.Layout.{Layout}
 use Rattle.passing.specs.Check.{passing}
-use Rattle.engine.specs.Calls.{start, started}
+use Rattle.calls.specs.Calls.{start, started}
 use Rattle.orders.specs.Calling.{Call}
 use Rattle.orders.specs.Order.{Order}
 use Rattle.orders.specs.Laws.Listing.{start-fresh, ordered}

@@ -26,8 +26,8 @@ use Rattle.pool.specs.Laws.Values.{channelsIn}
 use Rattle.pool.specs.Laws.Good.{Fine, count-bounded}
 use Rattle.passing.specs.Check.{within}
 use Rattle.firing.specs.Firing.{setAndFire, pick, without, Commit, committed}
-use Rattle.engine.specs.Calls.{Answer, added, applied, discarded, settled, spent, goodInput, channelsOf}
-use Rattle.engine.specs.Laws.Inputs.{input-known}
+use Rattle.calls.specs.Calls.{Answer, added, applied, discarded, settled, spent, goodInput, channelsOf}
+use Rattle.calls.specs.Laws.Inputs.{input-known}
 use Rattle.firing.specs.Laws.Commits.{Known, pick-known, set-fine, set-grows, commit-falls, commit-fine}
 use Rattle.orders.specs.Calling.{Call, input, commit, settle}
 use Rattle.orders.specs.Listed.{Turn, turn, turns, ending, Taken, taken, machineAfter, commitsOf, addedOf, listing}

@@ -1,0 +1,5 @@
+-- Laws of the calls.
+pub mod Opening
+pub mod Checks
+pub mod Inputs
+pub mod Settling

@@ -1,0 +1,5 @@
+-- Document 01, "Calls" and "When a call declines": the six calls.
+pub mod Calls
+pub mod Answers
+pub mod Line
+pub mod Laws

@@ -1,0 +1,2 @@
+-- Laws of a commit.
+pub mod CommitAnswers

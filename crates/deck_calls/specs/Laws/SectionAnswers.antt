@@ -1,0 +1,62 @@
+-- Section answers what passing comes to, and a stretch between two offsets of the deck. Assumes nothing.
+use Prim.Native.Nat.{ℕ, suc, _+_, _-_, _≤_, _<_}
+use mathlib.Core.Path.{_≡_, refl, sym, ap, ap₂, _∙_}
+use mathlib.Core.Bool.{true, false}
+use mathlib.Core.List.{List, [], _∷_, _++_}
+use native.Mathlib.Omega.{arith}
+use lib.Dec.{leb}
+use lib.ListN.{length, getD, take, drop, length-append}
+use borrow.Author.Tests.{le-leb, lt-leb}
+use Rattle.refusals.specs.Outcome.{Outcome, refused, accepted, require, outcomes}
+use Rattle.refusals.specs.Numbers.{unknownSection}
+use Rattle.deck.specs.Deck.{Deck}
+use Rattle.deck.specs.Layout.{Layout}
+use Rattle.deck.specs.Encoding.{encodeChannels, encodeRules, encodeParts, encode}
+use Rattle.deck.specs.Marks.{offsetOf, stretchOf}
+use Rattle.deck.specs.declared.Deck as Counted
+use Rattle.deck.specs.Laws.Reading.{read-encoded, sections-exactly}
+use Rattle.passing.specs.Check.{passing}
+use Rattle.passing.specs.Tabled.{layoutOf}
+use Rattle.passing.specs.Judged.{Passed}
+use Rattle.passing.specs.Laws.Passing.{passing-clean}
+use Rattle.calls.specs.Calls.{Section, sectionReply, sectionAt, section}
+use Rattle.calls.specs.Answers.{sectionOf}
+
+pub section-refused : (s : List ℕ) (k n p : ℕ) → passing s ≡ refused n p → section s k ≡ sectionOf [] n p
+unfolding section sectionReply outcomes
+section-refused s k n p e = rw e
+
+module _ (s rules parts memo : List ℕ) (c : Counted.Deck) (n : ℕ) (w : Passed s rules parts memo c n) where
+  pub section-unknown : (k : ℕ) → 2 < k → section s k ≡ sectionOf [] unknownSection 0
+  unfolding section sectionReply outcomes
+  section-unknown k h = rw (w .passes, lt-leb k 2 h)
+
+  -- the code keeps the offsets of the definition
+  offset-kept : (k : ℕ) → sectionAt (layoutOf s) s k ≡ offsetOf (c .second) (c .third) (length s) k
+  unfolding sectionAt offsetOf
+  offset-kept k =
+      ap₂ (λ a b. getD (0 ∷ a ∷ b ∷ []) k (length s)) (sym (w .tabled .counts .second)) (sym (w .tabled .counts .third))
+
+  pub section-known : (k : ℕ) → k ≤ 2 → section s k ≡ sectionOf (stretchOf (c .second) (c .third) s k) 0 0
+  unfolding section sectionReply outcomes stretchOf
+  section-known k h =
+      reached ∙ ap₂ (λ from to. sectionOf (take (to - from) (drop from s)) 0 0) (offset-kept k) (offset-kept (suc k))
+    where
+      reached : section s k ≡ sectionOf (take (sectionAt (layoutOf s) s (suc k) - sectionAt (layoutOf s) s k) (drop (sectionAt (layoutOf s) s k) s)) 0 0
+      reached = rw (w .passes, le-leb k 2 h)
+
+  encode-length : (d : Deck) → length (encode d) ≡ length (encodeChannels d) + length (encodeRules d) + length (encodeParts d)
+  unfolding encode
+  encode-length d =
+      length-append (encodeChannels d ++ encodeRules d) (encodeParts d)
+      ∙ ap (λ n. n + length (encodeParts d)) (length-append (encodeChannels d) (encodeRules d))
+
+  -- the sections stand in their order
+  pub section-order : (c .second ≤ c .third) × (c .third ≤ length s)
+  section-order =
+      let counts = w .tabled .counts in
+      let d = layoutOf s .deck in
+      let r = passing-clean s (layoutOf s) (w .passes) .0 in
+      let x = sections-exactly s (w .bytes) (layoutOf s) r in
+      let long = ap length (read-encoded s (w .bytes) (layoutOf s) r) ∙ encode-length d in
+      (omega (arith, counts .second, counts .third, x .0, x .1), omega (arith, counts .third, x .1, long))

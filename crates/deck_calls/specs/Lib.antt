@@ -1,0 +1,2 @@
+-- What check, section and start answer.
+pub mod Laws

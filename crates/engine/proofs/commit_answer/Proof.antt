@@ -1,7 +1,0 @@
--- `engine::commit_answer` meets its contract. Assumes nothing.
-use mathlib.Core.Path.{refl}
-use Rattle.engine.proofs.commit_answer.Statement.{statement}
-use Rattle.engine.proofs.commit_answer.Tie as tie
-
-pub commit-answer-spec : {M : Type 1} → statement M
-commit-answer-spec = tie.close (tie.spec (λ c. rw (c .if1 .taken)) (λ c. rw (c .if1 .left)))

@@ -1,6 +1,0 @@
--- Document 01, "Calls" and "When a call declines": the six calls.
-pub mod Calls
-pub mod Answers
-pub mod Tested
-pub mod Line
-pub mod Laws

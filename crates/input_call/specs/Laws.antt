@@ -1,0 +1,4 @@
+-- Laws of an input.
+pub mod InputTests
+pub mod Entering
+pub mod InputAnswers

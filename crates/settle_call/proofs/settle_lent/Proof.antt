@@ -1,0 +1,31 @@
+-- `settle_call::settle_lent` meets its contract: the index is long enough, and the rest is the same. Assumes nothing.
+use borrow.Author.Needs.{needs}
+use Rattle.call_tests.specs.Laws.Tested.{usable-tiny, usable-small, usable-short, usable-middle, usable}
+use Rattle.settle_call.proofs.settle_lent.Statement.{statement}
+use Rattle.settle_call.proofs.settle_lent.Tie as tie
+
+-- the needs in the order of the code
+pub settle-lent-spec : {M : Type 1} → statement M
+settle-lent-spec =
+    tie.close
+    (tie.spec
+    (λ c. search needs)
+    (λ c κs. usable-tiny _ (c .before .before .before .before .if1 .taken))
+    (λ c. search needs)
+    (λ c. c .before .before .settle-with .ensures)
+    (λ c. search needs)
+    (λ c κs. usable-small _ (c .before .before .before .before .if2 .taken))
+    (λ c. search needs)
+    (λ c. c .before .before .settle-with2 .ensures)
+    (λ c. search needs)
+    (λ c κs. usable-short _ (c .before .before .before .before .if3 .taken))
+    (λ c. search needs)
+    (λ c. c .before .before .settle-with3 .ensures)
+    (λ c. search needs)
+    (λ c κs. usable-middle _ (c .before .before .before .before .if4 .taken))
+    (λ c. search needs)
+    (λ c. c .before .before .settle-with4 .ensures)
+    (λ c. search needs)
+    (λ c κs. usable _)
+    (λ c. search needs)
+    (λ c. c .before .before .settle-with5 .ensures))

@@ -1,0 +1,3 @@
+-- Laws of a settle.
+pub mod SettleTurns
+pub mod SettleAnswers
