@@ -7,6 +7,8 @@ use mathlib.Core.List.{List, [], _∷_, _++_, map, append-nil}
 use native.Mathlib.Omega.{arith}
 use lib.ListN.{length, getD, take, drop}
 use lib.IntN.{ℤ}
+use mir.Syntax.{w64}
+use mir.Val.{Fits}
 use Rattle.lists.specs.Lists.{lists}
 use Rattle.lists.specs.Laws.Booleans.{and-left, and-right}
 use Rattle.expression.specs.Syntax.{Truth}
@@ -171,6 +173,38 @@ module _ (values : List ℤ) (p : ℕ) (r : Rule) where
   unfolding firedThere
   there-true q e h = ap₂ (λ x y. cond (x && y) (sent values p q (r .action)) []) e h
 
+-- ---- what code computes to read a row or to lend a stretch
+
+-- field i of the row of rule r
+pub record Field (rules : List ℕ) (r i : ℕ) : Type 0 where
+  pub row : Fits w64 (8 * r)
+  pub place : Fits w64 (8 * r + i)
+  pub bytes : Fits w64 ((8 * r + i) * 8)
+  pub inside : 8 * r + i < length rules
+
+field-of : (rules : List ℕ) (r i : ℕ) → r < 64 → i < 8 → 8 * r + 8 ≤ length rules → Field rules r i
+field-of rules r i few low fits = record {
+  row = record { fits = omega arith };
+  place = record { fits = omega arith };
+  bytes = record { fits = omega arith };
+  inside = omega arith;
+}
+
+-- n channels of part q
+pub record Stretch (values : List ℤ) (q n : ℕ) : Type 0 where
+  pub start : Fits w64 (32 * q)
+  pub bytes : Fits w64 (32 * q * 4)
+  pub end : Fits w64 (32 * q + n)
+  pub inside : 32 * q + n ≤ length values
+
+stretch-of : (values : List ℤ) (q n : ℕ) → 32 * q + n ≤ 512 → length values ≡ 512 → Stretch values q n
+stretch-of values q n fits long = record {
+  start = record { fits = omega arith };
+  bytes = record { fits = omega arith };
+  end = record { fits = omega arith };
+  inside = omega arith;
+}
+
 -- ---- the row of a rule
 
 -- a table of values, and a known rule at a known part
@@ -184,11 +218,16 @@ module _ {s : List ℕ} {k : Counted.Deck} {rules parts : List ℕ} {values : Li
   abbrev d : Deck
   d = deckOf s
 
-  -- the channels of a part lie inside the table
-  pub stretch-inside : (q : ℕ) → q < k .parts → 32 * q + k .channels ≤ length values
-  stretch-inside q h =
+  pub stretch : (q : ℕ) → q < k .parts → Stretch values q (k .channels)
+  stretch q h =
       let c = x .tabled .counts in
-      omega (arith, h, c .channels, c .parts, c .formed .channels, c .formed .parts, x .long)
+      stretch-of values q (k .channels) (omega (arith, h, c .channels, c .parts, c .formed .channels, c .formed .parts)) (x .long)
+
+  pub field : (i : ℕ) → i < 8 → Field rules r i
+  field i low =
+      let t = x .tabled in
+      field-of rules r i (omega (arith, x .rule, t .counts .rules, t .counts .formed .rules)) low
+      (omega (arith, x .rule, t .counts .rules, t .ruleTable .room))
 
   abbrev rule : Rule
   rule = ruleAt d r
