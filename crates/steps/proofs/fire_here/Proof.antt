@@ -9,8 +9,10 @@ use lib.IntN.{ℤ}
 use Rattle.deck.specs.Deck.{Rule, R, ruleAt}
 use Rattle.deck.specs.Layout.{taskScope}
 use Rattle.passing.specs.Tabled.{deckOf}
-use Rattle.firing.specs.Firing.{holds}
-use Rattle.steps.specs.Laws.Queue.{offered-then, offering-next}
+use Rattle.passing.specs.Judged.{shape}
+use Rattle.firing.specs.Firing.{holds, sent}
+use Rattle.steps.specs.Queue.{Offered, heldOf}
+use Rattle.steps.specs.Laws.Queue.{offered-as, offered-then, offering-next}
 use Rattle.steps.specs.Laws.Sent.{sliceOf, Lent, here-wide, here-false, here-true, Firing, default-sound, default-offered}
 use Rattle.steps.specs.Laws.Sent.{is-wide, is-here, task-here, condition-known, condition-value, task-sound, task-offered, Field, field, Stretch, stretch}
 use Rattle.steps.proofs.fire_here.Statement.{statement}
@@ -66,6 +68,15 @@ value : (t : tie.After-truth-from)
     → let s = start-of (default-of (kind-of t)) in t .truth-from .result ≡ holds (values-of s) (s .args .p) (s .args .p) (rule-of s)
 value t = let k = kind-of t in condition-value (firing (start-of (default-of k))) (lent k) (t .truth-from .ensures)
 
+-- what the default action left
+first : (o : tie.After-offer)
+    → let s = start-of o in
+    let a = s .args in
+    let l = o .offer .last .1 .1 .1 .1 in
+    Offered (shape (a .rules .now) (a .parts .now) (a .counts)) (a .capacity) (sent (values-of s) (a .p) (a .p) (rule-of s .default))
+    (heldOf (a .gone) (a .index .now) (a .pool .now)) (a .queue) (l .0) (heldOf (a .gone) (l .1 .0) (l .1 .1 .0)) (o .offer .result)
+first o = default-offered (firing (start-of o)) (o .offer .ensures)
+
 offer-requires : tie.Need-offer-requires
 offer-requires c κs =
     let s = c .before .before .before .before .before .before .before .before .before .before .before .before in
@@ -75,8 +86,8 @@ returns : tie.Need-returns
 returns c =
     let o = c .before .before .before .before .before .before .before in
     let s = start-of o in
-    rw (here-wide (values-of s) (s .args .p) (rule-of s) (is-wide (firing s) (c .if1 .taken)))
-    (default-offered (firing s) (o .offer .ensures))
+    offered-as (here-wide (values-of s) (s .args .p) (rule-of s) (is-wide (firing s) (c .if1 .taken)))
+    (first o)
 
 truth-from-requires : tie.Need-truth-from-requires
 truth-from-requires c κs =
@@ -89,7 +100,7 @@ offer-requires-2 c κs =
     let k = c .before .before .before .before .before .before .before in
     let o = default-of k in
     let s = start-of o in
-    (offering-next (s .pre .1) (default-offered (firing s) (o .offer .ensures)), task-sound (firing s) (lent k), s .pre .3)
+    (offering-next (s .pre .1) (first o), task-sound (firing s) (lent k), s .pre .3)
 
 returns-2 : tie.Need-returns-2
 returns-2 c =
@@ -98,8 +109,8 @@ returns-2 c =
     let o = default-of k in
     let s = start-of o in
     let true-here = sym (value t) ∙ c .before .before .before .before .before .before .before .before .before .before .if2 .taken in
-    rw (here-true (values-of s) (s .args .p) (rule-of s) (here k) true-here)
-    (offered-then (default-offered (firing s) (o .offer .ensures))
+    offered-as (here-true (values-of s) (s .args .p) (rule-of s) (here k) true-here)
+    (offered-then (first o)
     (task-offered (firing s) (lent k) (c .before .before .before .before .before .offer2 .ensures)))
 
 returns-3 : tie.Need-returns-3
@@ -107,7 +118,7 @@ returns-3 c =
     let t = c .before in
     let o = default-of (kind-of t) in
     let s = start-of o in
-    rw (here-false (values-of s) (s .args .p) (rule-of s) (sym (value t) ∙ c .if2 .left)) (default-offered (firing s) (o .offer .ensures))
+    offered-as (here-false (values-of s) (s .args .p) (rule-of s) (sym (value t) ∙ c .if2 .left)) (first o)
 
 pub fire-here-spec : {M : Type 1} → statement M
 fire-here-spec =

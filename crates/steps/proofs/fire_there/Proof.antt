@@ -10,7 +10,7 @@ use Rattle.deck.specs.Deck.{Rule, R, ruleAt}
 use Rattle.deck.specs.Layout.{taskScope}
 use Rattle.passing.specs.Tabled.{deckOf}
 use Rattle.firing.specs.Firing.{holds}
-use Rattle.steps.specs.Laws.Queue.{offered-none}
+use Rattle.steps.specs.Laws.Queue.{offered-none, offered-as}
 use Rattle.steps.specs.Laws.Sent.{sliceOf, Lent, there-here, there-false, there-true, Firing}
 use Rattle.steps.specs.Laws.Sent.{is-wide, is-here, task-there, condition-known, condition-value, task-sound, task-offered, Field, field, Stretch, stretch}
 use Rattle.steps.proofs.fire_there.Statement.{statement}
@@ -70,7 +70,7 @@ value t = let k = kind-of t in condition-value (firing (start-of k)) (lent k) (t
 returns : tie.Need-returns
 returns c =
     let s = c .before .before .before .before .before .before .before in
-    rw (there-here (values-of s) (s .args .p) (rule-of s) (s .args .q) (is-here (firing s) (c .if1 .taken)))
+    offered-as (there-here (values-of s) (s .args .p) (rule-of s) (s .args .q) (is-here (firing s) (c .if1 .taken)))
     (offered-none _ (s .pre .1 .ready .memo))
 
 truth-from-requires : tie.Need-truth-from-requires
@@ -91,7 +91,7 @@ returns-2 c =
     let k = kind-of t in
     let s = start-of k in
     let true-there = sym (value t) ∙ c .before .before .before .before .before .before .before .before .before .before .if2 .taken in
-    rw (there-true (values-of s) (s .args .p) (rule-of s) (s .args .q) (wide k) true-there)
+    offered-as (there-true (values-of s) (s .args .p) (rule-of s) (s .args .q) (wide k) true-there)
     (task-offered (firing s) (lent k) (c .before .before .before .before .before .offer .ensures))
 
 returns-3 : tie.Need-returns-3
@@ -99,7 +99,7 @@ returns-3 c =
     let t = c .before in
     let k = kind-of t in
     let s = start-of k in
-    rw (there-false (values-of s) (s .args .p) (rule-of s) (s .args .q) (wide k) (sym (value t) ∙ c .if2 .left))
+    offered-as (there-false (values-of s) (s .args .p) (rule-of s) (s .args .q) (wide k) (sym (value t) ∙ c .if2 .left))
     (offered-none _ (s .pre .1 .ready .memo))
 
 pub fire-there-spec : {M : Type 1} → statement M
