@@ -3,7 +3,6 @@ use Prim.Native.Nat.{ℕ, _+_, _*_, _≤_}
 use mathlib.Core.Path.{refl, sym, _∙_}
 use native.Mathlib.Nat.{le-refl}
 use native.Mathlib.Omega.{arith}
-use borrow.Author.Needs.{needs}
 use lib.ListN.{length}
 use mir.Syntax.{w64}
 use mir.Val.{Fits}
@@ -69,6 +68,6 @@ commit-front-spec =
     finish-requires
     (λ c. c .before .before .before .before .before .before .finish .kept .1 .1 .1 .1 .0 ∙ c .before .before .before .before .before .before .before .before .before .before .before .before .before .before .before .before .before .before .look .kept .1 .1 .1 .0)
     (λ c. c .before .before .before .before .before .before .finish .kept .1 .1 .1 .1 .1 .0)
-    (λ c. search needs)
+    (λ c. c .before .pool .given .1)
     (λ c. c .before .before .before .before .before .before .finish .kept .1 .1 .1 .1 .1 .1 .1 .1 .1 .1 .0 ∙ c .before .before .before .before .before .before .before .before .before .before .before .before .before .before .before .before .before .before .look .kept .1 .1 .1 .1 .1 .0)
     returns)
