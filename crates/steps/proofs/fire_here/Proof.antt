@@ -8,13 +8,14 @@ use lib.Dec.{lit<}
 use lib.IntN.{ℤ}
 use Rattle.deck.specs.Deck.{Rule, R, ruleAt}
 use Rattle.deck.specs.Layout.{taskScope}
+use Rattle.charge.specs.Laws.Tables.{Field}
 use Rattle.passing.specs.Tabled.{deckOf}
 use Rattle.passing.specs.Judged.{shape}
 use Rattle.firing.specs.Firing.{holds, sent}
 use Rattle.steps.specs.Queue.{Offered, heldOf}
 use Rattle.steps.specs.Laws.Queue.{offered-as, offered-then, offering-next}
 use Rattle.steps.specs.Laws.Sent.{sliceOf, Lent, here-wide, here-false, here-true, Firing, default-sound, default-offered}
-use Rattle.steps.specs.Laws.Sent.{is-wide, is-here, task-here, condition-known, condition-value, task-sound, task-offered, Field, field, Stretch, stretch}
+use Rattle.steps.specs.Laws.Sent.{is-wide, is-here, task-here, condition-known, condition-value, task-sound, task-offered, field, Stretch, stretch}
 use Rattle.steps.proofs.fire_here.Statement.{statement}
 use Rattle.steps.proofs.fire_here.Tie as tie
 

@@ -8,11 +8,12 @@ use lib.Dec.{lit<}
 use lib.IntN.{ℤ}
 use Rattle.deck.specs.Deck.{Rule, R, ruleAt}
 use Rattle.deck.specs.Layout.{taskScope}
+use Rattle.charge.specs.Laws.Tables.{Field}
 use Rattle.passing.specs.Tabled.{deckOf}
 use Rattle.firing.specs.Firing.{holds}
 use Rattle.steps.specs.Laws.Queue.{offered-none, offered-as}
 use Rattle.steps.specs.Laws.Sent.{sliceOf, Lent, there-here, there-false, there-true, Firing}
-use Rattle.steps.specs.Laws.Sent.{is-wide, is-here, task-there, condition-known, condition-value, task-sound, task-offered, Field, field, Stretch, stretch}
+use Rattle.steps.specs.Laws.Sent.{is-wide, is-here, task-there, condition-known, condition-value, task-sound, task-offered, field, Stretch, stretch}
 use Rattle.steps.proofs.fire_there.Statement.{statement}
 use Rattle.steps.proofs.fire_there.Tie as tie
 

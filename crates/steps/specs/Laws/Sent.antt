@@ -24,6 +24,7 @@ use Rattle.deck.specs.declared.Deck as Counted
 use Rattle.deck.specs.Laws.Points.{ReadsAt}
 use Rattle.deck.specs.Laws.Scoped.{allIn}
 use Rattle.deck.specs.Laws.Formed as Formed
+use Rattle.charge.specs.Laws.Tables.{Field, field-of}
 use Rattle.pool.specs.Updates.{Pair, Update, valueAt}
 use Rattle.passing.specs.Stands.{Stands, HasTruth, TruthIs}
 use Rattle.passing.specs.Tabled.{deckOf, Tabled}
@@ -173,24 +174,8 @@ module _ (values : List ℤ) (p : ℕ) (r : Rule) where
   unfolding firedThere
   there-true q e h = ap₂ (λ x y. cond (x && y) (sent values p q (r .action)) []) e h
 
--- ---- what code computes to read a row or to lend a stretch
+-- ---- what code computes to lend the n channels of part q
 
--- field i of the row of rule r
-pub record Field (rules : List ℕ) (r i : ℕ) : Type 0 where
-  pub row : Fits w64 (8 * r)
-  pub place : Fits w64 (8 * r + i)
-  pub bytes : Fits w64 ((8 * r + i) * 8)
-  pub inside : 8 * r + i < length rules
-
-field-of : (rules : List ℕ) (r i : ℕ) → r < 64 → i < 8 → 8 * r + 8 ≤ length rules → Field rules r i
-field-of rules r i few low fits = record {
-  row = record { fits = omega arith };
-  place = record { fits = omega arith };
-  bytes = record { fits = omega arith };
-  inside = omega arith;
-}
-
--- n channels of part q
 pub record Stretch (values : List ℤ) (q n : ℕ) : Type 0 where
   pub start : Fits w64 (32 * q)
   pub bytes : Fits w64 (32 * q * 4)
