@@ -1,11 +1,15 @@
 -- `charge::rule_charges` and `charge::update_charges` meet their contracts. Each calls the other with a lower rank: the
 -- measure. The loop's invariant: the charges of the rules passed are added at every part, up to the cap, and the memo is
 -- right. Assumes nothing.
-use Prim.Native.Nat.{ℕ, _+_, _*_, _<_, _-_}
-use mathlib.Core.Path.{refl, sym, _∙_}
+use Prim.Native.Nat.{ℕ, _+_, _*_, _≤_, _<_, _-_}
+use mathlib.Core.Path.{_≡_, refl, sym, _∙_, subst}
 use mathlib.Core.Logic.{⊎-elim}
+use mathlib.Core.Bool.{true}
 use mathlib.Core.List.{List}
 use native.Mathlib.Omega.{arith}
+use native.Mathlib.Nat.{lt-of-lt-of-le}
+use native.Mathlib.Numerals.{add-one-le}
+use lib.Dec.{lit<}
 use lib.ListN.{getD}
 use borrow.Fn.Kinds.{In}
 use borrow.Fn.PlainCycle.{Measures, is, falls, and}
@@ -14,7 +18,8 @@ use Rattle.lists.specs.Laws.Walks.{Walk, walk-first, walk-on, walk-next}
 use Rattle.lists.proofs.lowest.Reads as lowest-reads
 use Rattle.lists.proofs.rest.Reads as rest-reads
 use Rattle.deck.specs.Shape.{bitsOf, shapeOf}
-use Rattle.charge.specs.Memo.{Memo, Keeps}
+use Rattle.charge.specs.Memo.{Memo, Keeps, listening}
+use Rattle.charge.specs.Laws.Tables.{Field, field, Entry, entry}
 use Rattle.charge.proofs.Heights.{updateRank, ruleRank}
 use Rattle.charge.proofs.Tabled.{own-is, given-is, first-falls, second-falls, is-listener, listening-falls, listening-carried}
 use Rattle.charge.proofs.Memos.{keeps-same, keeps-trans}
@@ -80,17 +85,33 @@ U-Inv rules parts memo₀ channels count parts-count mask sums₀ set left₀ r�
 abbrev U-μ : U.MeasureT-loop
 U-μ rules parts memo₀ channels count parts-count mask sums₀ set left₀ r₀ memo sums left r = 64 - r
 
+lower : {a b t : ℕ} → a < b → b ≡ t → a < t
+lower {a} f e = subst (λ n. a < n) e f
+
+nearer : {r r′ : ℕ} → r < 64 → r + 1 ≤ r′ → 64 - r′ < 64 - r
+nearer l n = omega arith
+
 module _ (t : ℕ) where
+  memo-at : (s : R.Start (R-claims t) (R-at t) rule.Post) → Entry (s .args .memo .now) (s .args .r)
+  memo-at s = entry (s .pre .1 .0 .tables) (s .pre .1 .0 .memo) (s .args .r) (s .pre .1 .1)
+
+  default-at : (s : R.Start (R-claims t) (R-at t) rule.Post) → Field (s .args .rules .now) (s .args .r) 1
+  default-at s = field (s .pre .1 .0 .tables) (s .args .r) 1 (s .pre .1 .1) (lit< tt)
+
+  action-at : (s : R.Start (R-claims t) (R-at t) rule.Post) → Field (s .args .rules .now) (s .args .r) 2
+  action-at s = field (s .pre .1 .0 .tables) (s .args .r) 2 (s .pre .1 .1) (lit< tt)
+
+  kind-at : (s : R.Start (R-claims t) (R-at t) rule.Post) → Field (s .args .rules .now) (s .args .r) 3
+  kind-at s = field (s .pre .1 .0 .tables) (s .args .r) 3 (s .pre .1 .1) (lit< tt)
+
   R-mul-if1 : R.Need-mul-if1 (R-claims t) (R-at t) rule.Post
-  R-mul-if1 c = omega arith
+  R-mul-if1 c = memo-at (c .before .before .before) .start
 
   R-mul-if1-2 : R.Need-mul-if1-2 (R-claims t) (R-at t) rule.Post
-  R-mul-if1-2 c = omega arith
+  R-mul-if1-2 c = memo-at (c .before .before .before) .bytes
 
   R-slice-read-if1 : R.Need-slice-read-if1 (R-claims t) (R-at t) rule.Post
-  R-slice-read-if1 c =
-      let s = c .before .before .before .before in
-      omega (arith, row-room (s .pre .1 .0 .tables) (s .pre .1 .0 .memo) (s .args .r) (s .pre .1 .1))
+  R-slice-read-if1 c = memo-at (c .before .before .before .before) .inside
 
   R-returns : R.Need-returns (R-claims t) (R-at t) rule.Post
   R-returns c =
@@ -98,34 +119,34 @@ module _ (t : ℕ) where
       gives-known (s .pre .1 .0 .tables) (s .pre .1 .0 .memo) (c .if1 .taken)
 
   R-mul-default : R.Need-mul-default (R-claims t) (R-at t) rule.Post
-  R-mul-default c = omega arith
+  R-mul-default c = default-at (c .before .before .before .before .before) .row
 
   R-add-default : R.Need-add-default (R-claims t) (R-at t) rule.Post
-  R-add-default c = omega arith
+  R-add-default c = default-at (c .before .before .before .before .before) .place
 
   R-mul-default-2 : R.Need-mul-default-2 (R-claims t) (R-at t) rule.Post
-  R-mul-default-2 c = omega arith
+  R-mul-default-2 c = default-at (c .before .before .before .before .before) .bytes
 
   R-shared-slice-read-default : R.Need-shared-slice-read-default (R-claims t) (R-at t) rule.Post
-  R-shared-slice-read-default c = omega arith
+  R-shared-slice-read-default c = default-at (c .before .before .before .before .before .before) .inside
 
   R-mul-action : R.Need-mul-action (R-claims t) (R-at t) rule.Post
-  R-mul-action c = omega arith
+  R-mul-action c = action-at (c .before .before .before .before .before .before) .row
 
   R-add-action : R.Need-add-action (R-claims t) (R-at t) rule.Post
-  R-add-action c = omega arith
+  R-add-action c = action-at (c .before .before .before .before .before .before) .place
 
   R-mul-action-2 : R.Need-mul-action-2 (R-claims t) (R-at t) rule.Post
-  R-mul-action-2 c = omega arith
+  R-mul-action-2 c = action-at (c .before .before .before .before .before .before) .bytes
 
   R-shared-slice-read-action : R.Need-shared-slice-read-action (R-claims t) (R-at t) rule.Post
-  R-shared-slice-read-action c = omega arith
+  R-shared-slice-read-action c = action-at (c .before .before .before .before .before .before .before) .inside
 
   R-begin-requires : R.Need-begin-requires (R-claims t) (R-at t) rule.Post
-  R-begin-requires c κs = omega arith
+  R-begin-requires c κs = tt
 
   R-begin-requires-2 : R.Need-begin-requires-2 (R-claims t) (R-at t) rule.Post
-  R-begin-requires-2 c κs = omega arith
+  R-begin-requires-2 c κs = tt
 
   -- what is known where the arms of a test for an empty action meet
   abbrev Given : R.Start (R-claims t) (R-at t) rule.Post → ℕ → List ℕ → List ℕ → List ℕ → Type 0
@@ -158,7 +179,7 @@ module _ (t : ℕ) where
   R-update-charges-requires c κs =
       let s = c .before .before .before .before .before .before .before .before .before .before .before .before in
       let f = first-falls (s .pre .1 .0 .tables) (s .args .r) (s .pre .1 .1) in
-      (omega arith, (s .pre .1 .0, c .before .before .before .before .begin .ensures .some (c .before .before .if2 .taken)))
+      (lower f (s .pre .0), (s .pre .1 .0, c .before .before .before .before .begin .ensures .some (c .before .before .if2 .taken)))
 
   R-slice-aggregate-update-charges-2 : R.Need-slice-aggregate-update-charges-2 (R-claims t) (R-at t) rule.Post
   R-slice-aggregate-update-charges-2 c = sym (ones-long (c .before .before .before .before .begin2 .ensures .some (c .before .before .if3 .taken)))
@@ -167,7 +188,7 @@ module _ (t : ℕ) where
   R-update-charges-requires-2 c κs =
       let s = c .before .before .before .before .before .before .before .before .before .before .before .before .before in
       let f = second-falls (s .pre .1 .0 .tables) (s .args .r) (s .pre .1 .1) in (
-        omega arith,
+        lower f (s .pre .0),
         (
           record { tables = s .pre .1 .0 .tables; memo = first-given (c .before .before .before) .memo },
           c .before .before .before .before .begin2 .ensures .some (c .before .before .if3 .taken),
@@ -175,16 +196,16 @@ module _ (t : ℕ) where
       )
 
   R-mul-put-row : R.Need-mul-put-row (R-claims t) (R-at t) rule.Post
-  R-mul-put-row c = omega arith
+  R-mul-put-row c = kind-at (c .before .before .before .before .before .before .before .before .before .before .before .before) .row
 
   R-add-put-row : R.Need-add-put-row (R-claims t) (R-at t) rule.Post
-  R-add-put-row c = omega arith
+  R-add-put-row c = kind-at (c .before .before .before .before .before .before .before .before .before .before .before .before) .place
 
   R-mul-put-row-2 : R.Need-mul-put-row-2 (R-claims t) (R-at t) rule.Post
-  R-mul-put-row-2 c = omega arith
+  R-mul-put-row-2 c = kind-at (c .before .before .before .before .before .before .before .before .before .before .before .before) .bytes
 
   R-shared-slice-read-put-row : R.Need-shared-slice-read-put-row (R-claims t) (R-at t) rule.Post
-  R-shared-slice-read-put-row c = omega arith
+  R-shared-slice-read-put-row c = kind-at (c .before .before .before .before .before .before .before .before .before .before .before .before .before) .inside
 
   R-slice-aggregate-put-row : R.Need-slice-aggregate-put-row (R-claims t) (R-at t) rule.Post
   R-slice-aggregate-put-row c = sym (first-given (c .before .before .before .before) .row .small .long)
@@ -219,10 +240,10 @@ module _ (t : ℕ) where
 
 module _ (t : ℕ) where
   U-listeners-requires : U.Need-listeners-requires (U-claims t) (U-at t) update.Post U-Inv U-μ
-  U-listeners-requires c κs = omega arith
+  U-listeners-requires c κs = c .before .before .before .before .pre .1 .0 .tables .rules-long
 
   U-lowest-requires : U.Need-lowest-requires (U-claims t) (U-at t) update.Post U-Inv U-μ
-  U-lowest-requires c κs = omega arith
+  U-lowest-requires c κs = tt
 
   U-loop-holds : U.Need-loop-holds (U-claims t) (U-at t) update.Post U-Inv U-μ
   U-loop-holds c =
@@ -238,15 +259,32 @@ module _ (t : ℕ) where
             (hearing-none h (s .args .mask) (s .pre .1 .1)),
       )
 
+  -- the rule found listens
+  abbrev start-of : U.In-loop (U-claims t) (U-at t) update.Post U-Inv U-μ → U.Start (U-claims t) (U-at t) update.Post U-Inv U-μ
+  start-of c = c .before .before .before .before .before .before .before .before
+
+  in-range : (c : U.In-loop (U-claims t) (U-at t) update.Post U-Inv U-μ) → c .before .loop .r < 64
+  in-range c = lt-of-lt-of-le (c .loop-test .taken) (start-of c .pre .1 .0 .tables .few-rules)
+
+  listens : (c : U.In-loop (U-claims t) (U-at t) update.Post U-Inv U-μ)
+      → let a = start-of c .args in listening (a .rules .now) (a .parts .now) (a .parts-count) (c .before .loop .r) (a .mask) ≡ true
+  listens c =
+      let s = start-of c in
+      let i = c .before .loop in
+      sym (is-listener (s .pre .1 .0 .tables) (i .r) (c .loop-test .taken) (s .args .mask) (c .before .before .before .listeners .ensures))
+      ∙ i .inv .3 .found (in-range c)
+
   U-rule-charges-requires : U.Need-rule-charges-requires (U-claims t) (U-at t) update.Post U-Inv U-μ
   U-rule-charges-requires c κs =
-      let s = c .before .before .before .before .before .before .before .before .before in
+      let n = c .before in
+      let s = start-of n in
       let h = s .pre .1 .0 .tables in
-      let i = c .before .before .loop in
-      let k = c .before .loop-test .taken in
-      let y = sym (is-listener h (i .r) k (s .args .mask) (c .before .before .before .before .listeners .ensures)) ∙ i .inv .3 .found (omega arith) in
-      let f = listening-falls h (i .r) k (s .args .mask) y in
-      (omega arith, (record { tables = h; memo = i .inv .1 }, k, listening-carried h (i .r) k (s .args .mask) y))
+      let i = n .before .loop in
+      let k = n .loop-test .taken in
+      let y = listens n in (
+        lower (listening-falls h (i .r) k (s .args .mask) y) (s .pre .0),
+        (record { tables = h; memo = i .inv .1 }, k, listening-carried h (i .r) k (s .args .mask) y),
+      )
 
   U-add-row-requires : U.Need-add-row-requires (U-claims t) (U-at t) update.Post U-Inv U-μ
   U-add-row-requires c κs =
@@ -262,35 +300,34 @@ module _ (t : ℕ) where
       )
 
   U-rest-requires : U.Need-rest-requires (U-claims t) (U-at t) update.Post U-Inv U-μ
-  U-rest-requires c κs = omega arith
+  U-rest-requires c κs = tt
 
   U-lowest-requires-2 : U.Need-lowest-requires-2 (U-claims t) (U-at t) update.Post U-Inv U-μ
-  U-lowest-requires-2 c κs = omega arith
+  U-lowest-requires-2 c κs = tt
 
   U-loop-less : U.Need-loop-less (U-claims t) (U-at t) update.Post U-Inv U-μ
   U-loop-less c =
-      let w = c .before .before .before .before .before .before .before .before .before .before .before .before .loop .inv .0 in
-      let few = c .before .before .before .before .before .before .before .before .before .before .before .before .before .before .before .before .before .before .before .pre .1 .0 .tables .few-rules in
-      let n = walk-on w (c .before .rest .ensures) (c .lowest2 .ensures) in
-      omega (arith, n .on (omega (arith, few)), n .most, few)
+      let n = c .before .before .before .before .before .before .before .before .before .before .before in
+      let l = in-range n in
+      nearer l (walk-on (n .before .loop .inv .0) (c .before .rest .ensures) (c .lowest2 .ensures) .on (add-one-le l))
 
   U-loop-again : U.Need-loop-again (U-claims t) (U-at t) update.Post U-Inv U-μ
   U-loop-again c =
-      let s = c .before .before .before .before .before .before .before .before .before .before .before .before .before .before .before .before .before .before .before in
+      let n = c .before .before .before .before .before .before .before .before .before .before .before in
+      let s = start-of n in
       let h = s .pre .1 .0 .tables in
-      let i = c .before .before .before .before .before .before .before .before .before .before .before .before .loop in
-      let k = c .before .before .before .before .before .before .before .before .before .before .before .loop-test .taken in
-      let set = c .before .before .before .before .before .before .before .before .before .before .before .before .before .before .listeners .ensures in
+      let i = n .before .loop in
+      let k = n .loop-test .taken in
+      let set = n .before .before .before .listeners .ensures in
       let g = c .before .before .before .before .before .before .before .before .before .rule-charges .ensures in
       let left = c .before .rest .ensures in
-      let low = c .lowest2 .ensures in
-      let y = sym (is-listener h (i .r) k (s .args .mask) set) ∙ i .inv .3 .found (omega arith) in (
+      let low = c .lowest2 .ensures in (
         walk-next (i .inv .0) left low,
         g .memo,
         keeps-trans (i .inv .2) (g .keeps),
-        through-next (walk-on (i .inv .0) left low) (omega arith) (h .few-rules)
+        through-next (walk-on (i .inv .0) left low) (add-one-le k) (h .few-rules)
             (λ i a b f w. hearing-skip h w b (sym (is-listener h i b (s .args .mask) set) ∙ f))
-            (hearing-more h (through-here (i .inv .3) k) k y (g .memo) (g .known) (c .before .before .before .before .add-row .ensures)),
+            (hearing-more h (through-here (i .inv .3) k) k (listens n) (g .memo) (g .known) (c .before .before .before .before .add-row .ensures)),
       )
 
   U-same-length : U.Need-same-length (U-claims t) (U-at t) update.Post U-Inv U-μ

@@ -1,14 +1,13 @@
 -- `charge::known_charges` meets its contract: the memo has the row, or `rule_charges` writes it. Assumes nothing.
-use native.Mathlib.Omega.{arith}
 use borrow.Author.Needs.{needs}
-use Rattle.charge.proofs.RowCharges.{row-room, gives-known}
+use Rattle.charge.specs.Laws.Tables.{Entry, entry}
+use Rattle.charge.proofs.RowCharges.{gives-known}
 use Rattle.charge.proofs.known_charges.Statement.{statement}
 use Rattle.charge.proofs.known_charges.Tie as tie
 
-slice-read-if1 : tie.Need-slice-read-if1
-slice-read-if1 c =
-    let s = c .before .before .before .before in
-    omega (arith, row-room (s .pre .0 .tables) (s .pre .0 .memo) (s .args .r) (s .pre .1))
+-- the row in the memo
+row-at : (s : tie.Start) → Entry (s .args .memo .now) (s .args .r)
+row-at s = entry (s .pre .0 .tables) (s .pre .0 .memo) (s .args .r) (s .pre .1)
 
 returns : tie.Need-returns
 returns c =
@@ -25,9 +24,9 @@ pub known-charges-spec : {M : Type 1} → statement M
 known-charges-spec =
     tie.close
     (tie.spec
-    (λ c. omega arith)
-    (λ c. omega arith)
-    slice-read-if1
+    (λ c. row-at (c .before .before .before) .start)
+    (λ c. row-at (c .before .before .before) .bytes)
+    (λ c. row-at (c .before .before .before .before) .inside)
     returns
     rule-charges-requires
     same-length

@@ -7,12 +7,14 @@ use mathlib.Core.List.{List, map}
 use native.Mathlib.Omega.{arith}
 use lib.Dec.{leb}
 use lib.ListN.{length, getD, replicate, length-replicate}
+use mir.Syntax.{w64}
+use mir.Val.{Fits}
 use borrow.Author.Tests.{leb-true}
 use Rattle.lists.specs.Lists.{below}
 use Rattle.deck.specs.Deck.{Deck, Rule, M}
 use Rattle.deck.specs.Shape.{ruleShape, partShape, shapeOf}
 use Rattle.deck.specs.Laws.Shape.{shape-M}
-use Rattle.charge.specs.Memo.{OthersKept, memoSize, Memo}
+use Rattle.charge.specs.Memo.{AcyclicTables, OthersKept, memoSize, Memo}
 
 zeros : (n i : ℕ) → getD {A = ℕ} (replicate n 0) i 0 ≡ 0
 zeros zero i = refl
@@ -36,6 +38,33 @@ memo-room n r l few = go (leb n 16) refl
     go true e = omega (arith, leb-true n 16 e)
     go false e = omega arith
 
+-- what code computes to read field i of the row of rule r
+pub record Field (rules : List ℕ) (r i : ℕ) : Type 0 where
+  pub row : Fits w64 (8 * r)
+  pub place : Fits w64 (8 * r + i)
+  pub bytes : Fits w64 ((8 * r + i) * 8)
+  pub inside : 8 * r + i < length rules
+
+pub field-of : (rules : List ℕ) (r i : ℕ) → r < 64 → i < 8 → 8 * r + 8 ≤ length rules → Field rules r i
+field-of rules r i few low fits = record {
+  row = record { fits = omega arith };
+  place = record { fits = omega arith };
+  bytes = record { fits = omega arith };
+  inside = omega arith;
+}
+
+pub field : {rules parts : List ℕ} {R M N : ℕ} → AcyclicTables rules parts R M N → (r i : ℕ) → r < M → i < 8 → Field rules r i
+field {rules} h r i l low = field-of rules r i (omega (arith, h .few-rules)) low (omega (arith, h .rules-room))
+
+-- what it computes to read the row of rule r in a memo
+pub record Entry (m : List ℕ) (r : ℕ) : Type 0 where
+  pub start : Fits w64 (16 * r)
+  pub bytes : Fits w64 (16 * r * 4)
+  pub inside : 16 * r < length m
+
+entry-of : (m : List ℕ) (r : ℕ) → r < 64 → 16 * r + 16 ≤ length m → Entry m r
+entry-of m r few room = record { start = record { fits = omega arith }; bytes = record { fits = omega arith }; inside = omega arith }
+
 -- the length of a memo, by the count of rules that the tables are read with
 pub memo-long : (rules parts : List ℕ) (R M′ N : ℕ) {m : List ℕ} → Memo (shapeOf rules parts R M′ N) m → length m ≡ memoSize M′
 memo-long rules parts R M′ N h = h .long ∙ ap memoSize (shape-M rules parts R M′ N)
@@ -54,3 +83,8 @@ module _ {rules₀ rules : List ℕ} (h : OthersKept rules₀ rules) where
   shape-kept parts R M N =
       ap (λ (f : ℕ → Rule). record { labels = replicate R 0; rules = map f (below M); parts = map (partShape parts) (below N) })
       (fun-ext rule-kept)
+
+pub entry : {rules parts : List ℕ} {R M N : ℕ} {m : List ℕ} → AcyclicTables rules parts R M N → Memo (shapeOf rules parts R M N) m
+    → (r : ℕ) → r < M → Entry m r
+entry {rules} {parts} {R} {M} {N} {m} h memo r l =
+    entry-of m r (omega (arith, h .few-rules)) (omega (arith, memo-long rules parts R M N memo, memo-room M r l (h .few-rules)))

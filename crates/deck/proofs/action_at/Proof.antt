@@ -53,7 +53,7 @@ loop-holds c =
     )
 
 assignment-at-requires : tie.Need-assignment-at-requires Inv-loop μ-loop
-assignment-at-requires c κs = search needs
+assignment-at-requires c κs = c .before .before .before .before .before .before .before .pre
 
 enum-known-step : tie.Need-enum-known-step Inv-loop μ-loop
 enum-known-step c = search needs

@@ -1,6 +1,6 @@
 -- `steps::add` meets its contract: each way out leaves what the offered update makes of the pool. Assumes nothing.
 use Prim.Native.Nat.{_/_, _<_, _≤_}
-use mathlib.Core.Path.{_≡_, sym, _∙_}
+use mathlib.Core.Path.{_≡_, refl, sym, _∙_}
 use native.Mathlib.Omega.{arith}
 use borrow.Author.Needs.{needs}
 use lib.ListN.{length}
@@ -133,15 +133,15 @@ add-spec =
     returns
     bucket-requires
     find-requires
-    (λ c. search needs)
-    (λ c. search needs)
+    (λ c. refl)
+    (λ c. refl)
     returns-2
     place-charge-requires
     add-total
     (λ c κs. search needs)
-    (λ c. search needs)
-    (λ c. search needs)
-    (λ c. search needs)
+    (λ c. c .before .before .before .before .before .place-charge .kept .1 .1 .0)
+    (λ c. refl)
+    (λ c. refl)
     returns-3
     push-requires
     add-note
@@ -150,7 +150,7 @@ add-spec =
     let p = c .before .before .before .before .before .before .before in
     let s = start-of (open-of (p .before .before .before .before .before .before)) in
     omega (arith, fewer p, s .pre .0 .room .bounded))
-    (λ c. search needs)
-    (λ c. search needs)
-    (λ c. search needs)
+    (λ c. c .before .before .before .before .before .before .before .before .before .before .before .before .before .place-charge .kept .1 .1 .0)
+    (λ c. c .before .before .before .note .kept .0)
+    (λ c. c .before .before .before .before .before .before .before .push .kept .0)
     returns-4)

@@ -1,9 +1,10 @@
 -- `steps::commit` meets its contract: the update is taken out and applied, and the rest follows. Assumes nothing.
-use Prim.Native.Nat.{_*_}
+use Prim.Native.Nat.{ℕ, _*_, _≤_, _<_}
 use mathlib.Core.Path.{refl, sym, _∙_}
 use native.Mathlib.Omega.{arith}
+use lib.ListN.{length}
 use lib.Seq.{length-take-le}
-use borrow.Author.Needs.{needs}
+use Rattle.steps.specs.Laws.Looking.{few-fits, looks-inside}
 use Rattle.steps.specs.Laws.Committing.{commit-looking, commit-long, commit-left, commit-finishing, commit-done, commit-room}
 use Rattle.steps.proofs.commit.Statement.{statement}
 use Rattle.steps.proofs.commit.Tie as tie
@@ -14,12 +15,12 @@ look-requires c κs = let s = c .before .before .before .before .before .before 
 take-out-requires : tie.Need-take-out-requires
 take-out-requires c κs =
     let s = c .before .before .before .before .before .before .before .before .before .before .before .before .before .before .before in
-    (s .pre .1, omega (arith, commit-room (s .pre .0) .0))
+    (s .pre .1, commit-room (s .pre .0) .0)
 
 forget-requires : tie.Need-forget-requires
 forget-requires c κs =
     let s = c .before .before .before .before .before .before .before .before .before .before .before .before .before .before .before .before .before .before in
-    (s .pre .1, omega (arith, commit-room (s .pre .0) .1), omega (arith, commit-room (s .pre .0) .2))
+    (s .pre .1, commit-room (s .pre .0) .1, commit-room (s .pre .0) .2)
 
 sub-left : tie.Need-sub-left
 sub-left c =
@@ -27,11 +28,14 @@ sub-left c =
     let s = l .before .before .before .before .before .before .before .before .before .before in
     commit-left (s .pre .0) (s .args .k) (s .pre .1) (l .look .ensures)
 
+some : (k n : ℕ) → k < n → 1 ≤ n
+some k n h = omega arith
+
+pairs-inside : (l : tie.After-look) → let r = l .look in 2 * r .result .count ≤ length (r .last .1 .1 .1 .1 .1 .1 .0)
+pairs-inside l = looks-inside (l .look .ensures) (l .look .kept .1 .1 .1 .1 .1 .1 .0)
+
 held-long : tie.Need-slice-aggregate-finish
-held-long c =
-    let l = c .before .before .before .before .before .before .before .before .before .before .before .before .before .before .before .before .before in
-    let long = l .look .kept .1 .1 .1 .1 .1 .1 .0 in
-    sym (length-take-le (2 * l .look .result .count) (l .look .last .1 .1 .1 .1 .1 .1 .0) (omega (arith, l .look .ensures .few, long)))
+held-long c = let l = c .before .before .before .before .before .before .before .before .before .before .before .before .before .before .before .before .before in sym (length-take-le (2 * l .look .result .count) _ (pairs-inside l))
 
 finish-requires : tie.Need-finish-requires
 finish-requires c κs =
@@ -55,15 +59,15 @@ pub commit-spec : {M : Type 1} → statement M
 commit-spec =
     tie.close
     (tie.spec
-    (λ c. search needs)
+    (λ c. refl)
     look-requires
     take-out-requires
     forget-requires
     sub-left
-    (λ c. let l = c .before .before .before .before .before .before .before .before .before .before .before .before .before in omega (arith, l .look .ensures .few))
-    (λ c. let l = c .before .before .before .before .before .before .before .before .before .before .before .before .before .before .before .before in omega (arith, l .look .ensures .few))
+    (λ c. few-fits _ (c .before .before .before .before .before .before .before .before .before .before .before .before .before .look .ensures .few))
+    (λ c. pairs-inside (c .before .before .before .before .before .before .before .before .before .before .before .before .before .before .before .before))
     held-long
-    (λ c. omega (arith, c .before .before .before .before .before .before .before .before .before .before .before .before .before .before .before .before .before .before .before .before .before .before .before .before .before .before .before .before .pre .1))
+    (λ c. let s = c .before .before .before .before .before .before .before .before .before .before .before .before .before .before .before .before .before .before .before .before .before .before .before .before .before .before .before .before in some (s .args .k) _ (s .pre .1))
     finish-requires
     (λ c. c .before .before .before .before .before .before .finish .kept .1 .1 .1 .1 .0 ∙ c .before .before .before .before .before .before .before .before .before .before .before .before .before .before .before .before .before .before .before .before .before .before .before .before .before .look .kept .1 .1 .1 .0)
     (λ c. c .before .before .before .before .before .before .finish .kept .1 .1 .1 .1 .1 .0 ∙ c .before .before .before .before .before .before .before .before .before .before .before .before .before .before .before .before .forget .kept .0)

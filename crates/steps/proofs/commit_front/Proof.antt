@@ -1,11 +1,13 @@
 -- `steps::commit_front` meets its contract: the pool from the next place on is lent to the rest of the commit. Assumes nothing.
-use Prim.Native.Nat.{_*_, _≤_}
+use Prim.Native.Nat.{ℕ, _+_, _*_, _≤_}
 use mathlib.Core.Path.{refl, sym, _∙_}
+use native.Mathlib.Nat.{le-refl}
 use native.Mathlib.Omega.{arith}
-use borrow.Author.Needs.{needs}
 use lib.ListN.{length}
+use mir.Syntax.{w64}
+use mir.Val.{Fits}
 use lib.Seq.{length-take-le}
-use Rattle.steps.specs.Laws.Looking.{tail-lent, tail-back}
+use Rattle.steps.specs.Laws.Looking.{tail-lent, tail-back, few-fits, looks-inside}
 use Rattle.steps.specs.Laws.Committing.{commit-looking, commit-long, commit-left, front-some, front-finishing, front-done}
 use Rattle.steps.proofs.commit_front.Statement.{statement}
 use Rattle.steps.proofs.commit_front.Tie as tie
@@ -23,11 +25,14 @@ sub-left c =
     let s = l .before .before .before .before .before .before .before .before .before .before in
     commit-left (s .pre .0) 0 (s .pre .1) (l .look .ensures)
 
+next-fits : (n : ℕ) → n ≤ 65534 → Fits w64 (n + 1)
+next-fits n h = record { fits = omega arith }
+
+pairs-inside : (l : tie.After-look) → let r = l .look in 2 * r .result .count ≤ length (r .last .1 .1 .1 .1 .1 .1 .0)
+pairs-inside l = looks-inside (l .look .ensures) (l .look .kept .1 .1 .1 .1 .1 .1 .0)
+
 held-long : tie.Need-slice-aggregate-finish
-held-long c =
-    let l = c .before .before .before .before .before .before .before .before .before .before in
-    let long = l .look .kept .1 .1 .1 .1 .1 .1 .0 in
-    sym (length-take-le (2 * l .look .result .count) (l .look .last .1 .1 .1 .1 .1 .1 .0) (omega (arith, l .look .ensures .few, long)))
+held-long c = let l = c .before .before .before .before .before .before .before .before .before .before in sym (length-take-le (2 * l .look .result .count) _ (pairs-inside l))
 
 finish-requires : tie.Need-finish-requires
 finish-requires c κs =
@@ -48,21 +53,21 @@ pub commit-front-spec : {M : Type 1} → statement M
 commit-front-spec =
     tie.close
     (tie.spec
-    (λ c. search needs)
+    (λ c. refl)
     look-requires
     sub-left
-    (λ c. let l = c .before .before .before .before .before .before in omega (arith, l .look .ensures .few))
-    (λ c. omega (arith, some (c .before .before .before .before .before .before .before .before .before .before .before .before .before .before .before .before .before .before) .1))
-    (λ c. omega (arith, some (c .before .before .before .before .before .before .before .before .before .before .before .before .before .before .before .before .before .before) .1))
-    (λ c. omega (arith, some (c .before .before .before .before .before .before .before .before .before .before .before .before .before .before .before .before .before .before) .1))
-    (λ c. omega (arith, some (c .before .before .before .before .before .before .before .before .before .before .before .before .before .before .before .before .before .before .before) .2))
-    (λ c. omega (arith, some (c .before .before .before .before .before .before .before .before .before .before .before .before .before .before .before .before .before .before .before) .0))
-    (λ c. let l = c .before .before .before .before .before .before .before .before .before in omega (arith, l .look .ensures .few))
+    (λ c. few-fits _ (c .before .before .before .before .before .before .look .ensures .few))
+    (λ c. some (c .before .before .before .before .before .before .before .before .before .before .before .before .before .before .before .before .before .before) .1)
+    (λ c. some (c .before .before .before .before .before .before .before .before .before .before .before .before .before .before .before .before .before .before) .1)
+    (λ c. le-refl _)
+    (λ c. next-fits _ (some (c .before .before .before .before .before .before .before .before .before .before .before .before .before .before .before .before .before .before .before) .2))
+    (λ c. some (c .before .before .before .before .before .before .before .before .before .before .before .before .before .before .before .before .before .before .before) .0)
+    (λ c. pairs-inside (c .before .before .before .before .before .before .before .before .before))
     held-long
-    (λ c. omega (arith, c .before .before .before .before .before .before .before .before .before .before .before .before .before .before .before .before .before .before .before .before .before .pre .1))
+    (λ c. c .before .before .before .before .before .before .before .before .before .before .before .before .before .before .before .before .before .before .before .before .before .pre .1)
     finish-requires
     (λ c. c .before .before .before .before .before .before .finish .kept .1 .1 .1 .1 .0 ∙ c .before .before .before .before .before .before .before .before .before .before .before .before .before .before .before .before .before .before .look .kept .1 .1 .1 .0)
-    (λ c. search needs)
-    (λ c. search needs)
+    (λ c. c .before .before .before .before .before .before .finish .kept .1 .1 .1 .1 .1 .0)
+    (λ c. c .before .pool .given .1)
     (λ c. c .before .before .before .before .before .before .finish .kept .1 .1 .1 .1 .1 .1 .1 .1 .1 .1 .0 ∙ c .before .before .before .before .before .before .before .before .before .before .before .before .before .before .before .before .before .before .look .kept .1 .1 .1 .1 .1 .0)
     returns)

@@ -1,7 +1,6 @@
 -- `steps::finish` meets its contract: with the update applied the part's limit decides. Assumes nothing.
-use mathlib.Core.Path.{sym, _∙_}
+use mathlib.Core.Path.{refl, sym, _∙_}
 use native.Mathlib.Omega.{arith}
-use borrow.Author.Needs.{needs}
 use Rattle.steps.specs.Laws.Committing.{part-known, part-low, after-long, finish-reacting, finish-discarded, finish-applied}
 use Rattle.steps.proofs.finish.Statement.{statement}
 use Rattle.steps.proofs.finish.Tie as tie
@@ -38,11 +37,11 @@ finish-spec =
     (tie.spec
     within-requires
     react-requires
-    (λ c. search needs)
-    (λ c. search needs)
-    (λ c. search needs)
-    (λ c. search needs)
+    (λ c. c .before .before .before .before .before .react .kept .1 .1 .1 .1 .0)
+    (λ c. c .before .before .before .before .before .react .kept .1 .1 .1 .1 .1 .0)
+    (λ c. c .before .before .before .before .before .react .kept .1 .1 .1 .1 .1 .1 .0)
+    (λ c. refl)
     returns
     (λ c κs. let s = c .before .before .before .before .before .before .before .before .before in (after-long (s .pre), part-low (s .pre), s .pre .assignable))
-    (λ c. search needs)
+    (λ c. c .before .assign-pairs .kept .0)
     returns-2)

@@ -1,6 +1,5 @@
 -- `steps::fire` meets its contract: the two halves, one behind the other. Assumes nothing.
-use mathlib.Core.Path.{_≡_, subst}
-use borrow.Author.Needs.{needs}
+use mathlib.Core.Path.{_∙_, subst}
 use Rattle.lists.specs.Lists.{flatMap}
 use Rattle.deck.specs.Deck.{M}
 use Rattle.charge.specs.Charge.{others}
@@ -61,7 +60,7 @@ fire-spec =
     returns
     fire-all-here-requires
     fire-all-others-requires
-    (λ c. search needs)
-    (λ c. search needs)
-    (λ c. search needs)
+    (λ c. c .before .before .before .before .before .fire-all-others .kept .1 .1 .1 .1 .0 ∙ c .before .before .before .before .before .before .before .before .before .before .before .before .before .before .fire-all-here .kept .1 .1 .1 .1 .0)
+    (λ c. c .before .before .before .before .before .fire-all-others .kept .1 .1 .1 .1 .1 .0 ∙ c .before .before .before .before .before .before .before .before .before .before .before .before .before .before .fire-all-here .kept .1 .1 .1 .1 .1 .0)
+    (λ c. c .before .before .before .before .before .fire-all-others .kept .1 .1 .1 .1 .1 .1 .0 ∙ c .before .before .before .before .before .before .before .before .before .before .before .before .before .before .fire-all-here .kept .1 .1 .1 .1 .1 .1 .0)
     returns-2)

@@ -3,7 +3,7 @@ use Prim.Native.Nat.{_*_, _≤_, _<_}
 use mathlib.Core.Path.{_≡_, sym, subst}
 use mathlib.Core.List.{List}
 use native.Mathlib.Omega.{arith}
-use native.Mathlib.Nat.{add-sub-cancel-left}
+use native.Mathlib.Nat.{add-sub-cancel-left, le-add-right}
 use lib.ListN.{length, getD, take, drop}
 use lib.IntN.{ℤ, pos}
 use borrow.Author.Needs.{needs}
@@ -16,9 +16,12 @@ use Rattle.states.specs.Laws.Held.{known-low}
 use Rattle.states.specs.Laws.Charges.{holds-part, holds-charge}
 use Rattle.passing.specs.Judged.{shape}
 use Rattle.firing.specs.Evaluated.{Assignable}
-use Rattle.steps.specs.Laws.Looking.{looking-holds, looking-part, looking-low, looking-count, looking-pairs, looks}
+use Rattle.steps.specs.Laws.Looking.{looking-holds, looking-part, looking-low, looking-count, looking-pairs, looking-place, Place, few-fits, looks}
 use Rattle.steps.proofs.look.Statement.{statement}
 use Rattle.steps.proofs.look.Tie as tie
+
+place-at : (c : tie.After-slice-known) → let a = c .before .before .before .args in Place (a .pool .now) (a .k)
+place-at c = let s = c .before .before .before in looking-place (s .pre .0) (s .good .1 .1 .1 .1 .0 .1)
 
 -- the place, and the part and the number of pairs that it holds
 module _ (c : tie.After-number-at2) where
@@ -48,7 +51,7 @@ module _ (c : tie.After-number-at2) where
   count-is : c .number-at2 .result ≡ within 5 (getD numbers 1 (pos 0))
   count-is = rw add-sub-cancel-left at (c .number-at2 .ensures)
 
-  few : c .number-at2 .result < 5
+  few : c .number-at2 .result ≤ 4
   few = omega (arith, count-is, looking-count (s .pre .0))
 
   low : c .before .number-at .result < 16
@@ -100,24 +103,24 @@ pub look-spec : {M : Type 1} → statement M
 look-spec =
     tie.close
     (tie.spec
-    (λ c. search needs)
-    (λ c. search needs)
-    (λ c. search needs)
-    (λ c. search needs)
-    (λ c. search needs)
-    (λ c. search needs)
+    (λ c. place-at c .start)
+    (λ c. place-at c .end)
+    (λ c. place-at c .bytes)
+    (λ c. le-add-right _ _)
+    (λ c. le-add-right _ _)
+    (λ c. place-at c .inside)
     (λ c κs. search needs)
     (λ c κs. search needs)
     channels-of-requires
     update-charge-requires
+    (λ c. few-fits _ (few (c .before .before .before .before .before)))
     (λ c. omega (arith, few (c .before .before .before .before .before)))
-    (λ c. omega (arith, few (c .before .before .before .before .before)))
-    (λ c. search needs)
-    (λ c. search needs)
+    (λ c. le-add-right _ _)
+    (λ c. le-add-right _ _)
     (λ c. omega (arith, few (c .before .before .before .before .before)))
     compare-requires
     assign-requires
-    (λ c. search needs)
-    (λ c. search needs)
-    (λ c. search needs)
+    (λ c. c .before .before .before .before .before .before .before .before .before .before .update-charge .kept .1 .1 .0)
+    (λ c. c .before .assign-pairs .kept .0)
+    (λ c. c .before .before .before .before .compare .kept .1 .1 .1 .0)
     returns)

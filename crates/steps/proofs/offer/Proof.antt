@@ -59,7 +59,7 @@ offer-spec =
     evaluate-requires
     (λ c. search needs)
     add-requires
-    (λ c. search needs)
-    (λ c. search needs)
-    (λ c. search needs)
+    (λ c. c .before .before .before .before .before .add .kept .1 .1 .1 .0)
+    (λ c. c .before .before .before .before .before .add .kept .1 .1 .1 .1 .0)
+    (λ c. c .before .before .before .before .before .add .kept .1 .1 .1 .1 .1 .0)
     returns-2)

@@ -1,5 +1,4 @@
 -- `steps::react` meets its contract. Assumes nothing.
-use borrow.Author.Needs.{needs}
 use Rattle.steps.specs.Laws.Reacting.{offering-first, reacted}
 use Rattle.steps.proofs.react.Statement.{statement}
 use Rattle.steps.proofs.react.Tie as tie
@@ -20,7 +19,7 @@ pub react-spec : {M : Type 1} → statement M
 react-spec = tie.close
     (tie.spec
     fire-requires
-    (λ c. search needs)
-    (λ c. search needs)
-    (λ c. search needs)
+    (λ c. c .before .before .before .before .before .fire .kept .1 .1 .1 .1 .0)
+    (λ c. c .before .before .before .before .before .fire .kept .1 .1 .1 .1 .1 .0)
+    (λ c. c .before .before .before .before .before .fire .kept .1 .1 .1 .1 .1 .1 .0)
     returns)

@@ -1,5 +1,5 @@
 -- An update of the pool: what stands at its place, and what is left without it. Assumes nothing.
-use Prim.Native.Nat.{ℕ, suc, _+_, _*_, _-_, _/_, _<_, _≤_}
+use Prim.Native.Nat.{ℕ, suc, _+_, _*_, _-_, _/_, _^_, _<_, _≤_}
 use mathlib.Core.Path.{_≡_, refl, sym, ap, ap₂, _∙_, subst}
 use mathlib.Core.Bool.{true}
 use mathlib.Core.List.{List, [], _∷_, _++_, append-nil}
@@ -8,6 +8,8 @@ use native.Mathlib.Nat.{le-refl}
 use lib.ListN.{length, getD, take, drop, length-take, length-drop, drop-of-length-le}
 use lib.Seq.{take-all, drop-at}
 use lib.IntN.{ℤ, pos}
+use mir.Syntax.{w64}
+use mir.Val.{Fits}
 use Rattle.lists.specs.Lists.{all}
 use Rattle.lists.specs.Laws.Alls.{all-at}
 use Rattle.deck.specs.Deck.{Deck, R, N}
@@ -35,6 +37,34 @@ use Rattle.index.specs.Laws.Keys.{keys-length, keys-without}
 use Rattle.steps.specs.Queue.{heldOf, Kept, SameSize}
 use Rattle.steps.specs.Commits.{Looking, Looks}
 use Rattle.steps.specs.Laws.Applying.{held-few, held-assignable, held-long, held-update, held-back, held-undone, held-changes}
+
+-- ---- what code computes
+
+-- place j of a pool
+pub record Place (pool : List ℤ) (j : ℕ) : Type 0 where
+  pub start : Fits w64 (10 * j)
+  pub bytes : Fits w64 (10 * j * 4)
+  pub end : Fits w64 (10 * j + 10)
+  pub inside : 10 * j + 10 ≤ length pool
+
+place-of : (pool : List ℤ) (j : ℕ) → 10 * j + 10 ≤ length pool → length pool * 4 < 2 ^ 63 → Place pool j
+place-of pool j fits small = record {
+  start = record { fits = omega arith };
+  bytes = record { fits = omega arith };
+  end = record { fits = omega arith };
+  inside = fits;
+}
+
+-- the numbers of n pairs
+pub few-fits : (n : ℕ) → n ≤ 4 → Fits w64 (2 * n)
+few-fits n few = record { fits = omega arith }
+
+few-inside : (n : ℕ) (back : List ℤ) → n ≤ 4 → length back ≡ 8 → 2 * n ≤ length back
+few-inside n back few long = omega arith
+
+pub looks-inside : {e : Deck} {vs pool after back : List ℤ} {m : List ℕ} {j part count c mask : ℕ}
+    → Looks e j vs pool m after back part count c mask → length back ≡ 8 → 2 * count ≤ length back
+looks-inside {back} {count} l long = few-inside count back (l .few) long
 
 module _ (e : Deck) (pool : List ℤ) (us : List Update) (l : Laid pool us) (j : ℕ) (h : j < length us) where
   -- the numbers of place j
@@ -79,6 +109,9 @@ module _ {k : Counted.Deck} {rules parts memo : List ℕ} {pool : List ℤ} {pen
 
   inside : j < length (w .us)
   inside = omega (arith, w .place, w .count)
+
+  pub looking-place : length pool * 4 < 2 ^ 63 → Place pool j
+  looking-place small = place-of pool j (omega (arith, inside, w .laid .room)) small
 
   pub looking-holds : Holds e numbers
   looking-holds = taken-holds e pool (w .us) (w .laid) j inside (w .known)

@@ -50,6 +50,11 @@ module _ {d : Deck} {C : ℕ} {held₀ : Held} {q₀ : Queue} where
         size = same-size;
       }
 
+  -- the same updates, named otherwise
+  pub offered-as : {a b : List Update} {m : List ℕ} {held : Held} {q : Queue} → b ≡ a → Offered d C a held₀ q₀ m held q
+      → Offered d C b held₀ q₀ m held q
+  offered-as {m} {held} {q} e o = subst (λ us. Offered d C us held₀ q₀ m held q) (sym e) o
+
   -- some were, and then others
   pub offered-then : {a b : List Update} {m m′ : List ℕ} {held held′ : Held} {q q′ : Queue} → Offered d C a held₀ q₀ m held q
       → Offered d C b held q m′ held′ q′ → Offered d C (a ++ b) held₀ q₀ m′ held′ q′

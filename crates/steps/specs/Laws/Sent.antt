@@ -7,6 +7,8 @@ use mathlib.Core.List.{List, [], _∷_, _++_, map, append-nil}
 use native.Mathlib.Omega.{arith}
 use lib.ListN.{length, getD, take, drop}
 use lib.IntN.{ℤ}
+use mir.Syntax.{w64}
+use mir.Val.{Fits}
 use Rattle.lists.specs.Lists.{lists}
 use Rattle.lists.specs.Laws.Booleans.{and-left, and-right}
 use Rattle.expression.specs.Syntax.{Truth}
@@ -22,6 +24,7 @@ use Rattle.deck.specs.declared.Deck as Counted
 use Rattle.deck.specs.Laws.Points.{ReadsAt}
 use Rattle.deck.specs.Laws.Scoped.{allIn}
 use Rattle.deck.specs.Laws.Formed as Formed
+use Rattle.charge.specs.Laws.Tables.{Field, field-of}
 use Rattle.pool.specs.Updates.{Pair, Update, valueAt}
 use Rattle.passing.specs.Stands.{Stands, HasTruth, TruthIs}
 use Rattle.passing.specs.Tabled.{deckOf, Tabled}
@@ -171,6 +174,22 @@ module _ (values : List ℤ) (p : ℕ) (r : Rule) where
   unfolding firedThere
   there-true q e h = ap₂ (λ x y. cond (x && y) (sent values p q (r .action)) []) e h
 
+-- ---- what code computes to lend the n channels of part q
+
+pub record Stretch (values : List ℤ) (q n : ℕ) : Type 0 where
+  pub start : Fits w64 (32 * q)
+  pub bytes : Fits w64 (32 * q * 4)
+  pub end : Fits w64 (32 * q + n)
+  pub inside : 32 * q + n ≤ length values
+
+stretch-of : (values : List ℤ) (q n : ℕ) → 32 * q + n ≤ 512 → length values ≡ 512 → Stretch values q n
+stretch-of values q n fits long = record {
+  start = record { fits = omega arith };
+  bytes = record { fits = omega arith };
+  end = record { fits = omega arith };
+  inside = omega arith;
+}
+
 -- ---- the row of a rule
 
 -- a table of values, and a known rule at a known part
@@ -184,11 +203,16 @@ module _ {s : List ℕ} {k : Counted.Deck} {rules parts : List ℕ} {values : Li
   abbrev d : Deck
   d = deckOf s
 
-  -- the channels of a part lie inside the table
-  pub stretch-inside : (q : ℕ) → q < k .parts → 32 * q + k .channels ≤ length values
-  stretch-inside q h =
+  pub stretch : (q : ℕ) → q < k .parts → Stretch values q (k .channels)
+  stretch q h =
       let c = x .tabled .counts in
-      omega (arith, h, c .channels, c .parts, c .formed .channels, c .formed .parts, x .long)
+      stretch-of values q (k .channels) (omega (arith, h, c .channels, c .parts, c .formed .channels, c .formed .parts)) (x .long)
+
+  pub field : (i : ℕ) → i < 8 → Field rules r i
+  field i low =
+      let t = x .tabled in
+      field-of rules r i (omega (arith, x .rule, t .counts .rules, t .counts .formed .rules)) low
+      (omega (arith, x .rule, t .counts .rules, t .ruleTable .room))
 
   abbrev rule : Rule
   rule = ruleAt d r
