@@ -48,6 +48,7 @@ module _ (s : lts.Start claims reads.Pre reads.Post Inv-loop μ-loop) where
   abbrev shareOf : ℕ → ℕ → ℕ
   shareOf p t = cond (eqb (s .args .kind) 1) (t - getD (s .args .second .now) p 0) (getD (s .args .second .now) p 0)
 
+-- the part of the turn
 column : (c : tie.In-loop Inv-loop μ-loop) → let s = c .before .before .before .before .before .before in Column (s .args .memo .now) (s .args .r) (c .before .loop .p)
 column c = let s = c .before .before .before .before .before .before in column-of _ _ _ _ (c .loop-test .taken) (s .pre .1) (s .pre .2) (s .pre .0)
 

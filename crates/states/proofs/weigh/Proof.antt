@@ -69,6 +69,7 @@ bucket-of c = c .before .before .before
 abbrev lent-at : tie.At-loop Inv-loop μ-loop → List ℤ
 lent-at c = lent (c .loop .k) (start-of c .args .pool .now)
 
+-- the place at hand lies in the pool
 placed : (c : tie.In-loop Inv-loop μ-loop) → Place (start-of (c .before) .args .pool .now) (c .before .loop .k)
 placed c =
     let s = start-of (c .before) in
