@@ -10,6 +10,8 @@ use native.Mathlib.Decide.{decLt}
 use native.Mathlib.Omega.{arith}
 use lib.Dec.{eqb}
 use lib.ListN.{length, getD, set, replicate, length-set}
+use mir.Syntax.{w64}
+use mir.Val.{Fits}
 use borrow.Author.Tests.{eq-eqb, ne-eqb}
 use lib.Seq.{getD-set-same, getD-set-other}
 use Rattle.lists.specs.Lists.{sum, below}
@@ -18,6 +20,28 @@ use Rattle.lists.specs.Laws.Booleans.{contradiction}
 use Rattle.lists.specs.Laws.Sums.{sum-cong, sum-plus}
 use Rattle.lists.specs.Laws.Steps.{sum-start, sum-next, sum-only}
 use Rattle.charge.specs.Memo.{RowSmall, RowKnown, RowAdded, RowPut, RowLargest, capped}
+
+-- what code computes for part q in a row of 16, and at rule r in a memo
+pub record Column (m : List ℕ) (r q : ℕ) : Type 0 where
+  pub here : Fits w64 (q * 4)
+  pub next : Fits w64 (q + 1)
+  pub start : Fits w64 (16 * r)
+  pub place : Fits w64 (16 * r + q)
+  pub bytes : Fits w64 ((16 * r + q) * 4)
+  pub inside : 16 * r + q < length m
+
+pub column-of : (m : List ℕ) (r q n : ℕ) → q < n → n ≤ 16 → r < 64 → 16 * r + 16 ≤ length m → Column m r q
+column-of m r q n l few low room = record {
+  here = record { fits = omega arith };
+  next = record { fits = omega arith };
+  start = record { fits = omega arith };
+  place = record { fits = omega arith };
+  bytes = record { fits = omega arith };
+  inside = omega arith;
+}
+
+pub small-inside : {r q n : ℕ} {row : List ℕ} → RowSmall r row → q < n → n ≤ 16 → q < length row
+small-inside s l few = omega (arith, s .long)
 
 -- a row of one number has no larger one
 pub replicate-most : (x n i : ℕ) → getD (replicate n x) i 0 ≤ x

@@ -92,6 +92,7 @@ nearer : {r r′ : ℕ} → r < 64 → r + 1 ≤ r′ → 64 - r′ < 64 - r
 nearer l n = omega arith
 
 module _ (t : ℕ) where
+  -- what is read in the memo, and in the row of the rule
   memo-at : (s : R.Start (R-claims t) (R-at t) rule.Post) → Entry (s .args .memo .now) (s .args .r)
   memo-at s = entry (s .pre .1 .0 .tables) (s .pre .1 .0 .memo) (s .args .r) (s .pre .1 .1)
 
@@ -259,13 +260,14 @@ module _ (t : ℕ) where
             (hearing-none h (s .args .mask) (s .pre .1 .1)),
       )
 
-  -- the rule found listens
+  -- from a turn back to the start
   abbrev start-of : U.In-loop (U-claims t) (U-at t) update.Post U-Inv U-μ → U.Start (U-claims t) (U-at t) update.Post U-Inv U-μ
   start-of c = c .before .before .before .before .before .before .before .before
 
   in-range : (c : U.In-loop (U-claims t) (U-at t) update.Post U-Inv U-μ) → c .before .loop .r < 64
   in-range c = lt-of-lt-of-le (c .loop-test .taken) (start-of c .pre .1 .0 .tables .few-rules)
 
+  -- the rule of the turn listens
   listens : (c : U.In-loop (U-claims t) (U-at t) update.Post U-Inv U-μ)
       → let a = start-of c .args in listening (a .rules .now) (a .parts .now) (a .parts-count) (c .before .loop .r) (a .mask) ≡ true
   listens c =

@@ -79,12 +79,12 @@ largest-spec =
     Inv-loop
     μ-loop
     (λ c κs. omega arith)
-    (λ c κs. omega arith)
+    (λ c κs. tt)
     loop-holds
     known-charges-requires
     row-largest-requires
-    (λ c κs. omega arith)
-    (λ c κs. omega arith)
+    (λ c κs. tt)
+    (λ c κs. tt)
     loop-less
     loop-again
     (λ c. c .before .loop .inv .1 .long ∙ sym (c .before .before .before .before .before .before .before .pre .memo .long))

@@ -89,14 +89,14 @@ note-listeners-spec =
     μ-loop
     (λ c κs. omega arith)
     (λ c κs. omega arith)
-    (λ c κs. omega arith)
+    (λ c κs. tt)
     loop-holds
     (λ c. omega arith)
     (λ c. omega arith)
     (λ c. omega (arith, long (c .before)))
     (λ c κs. omega (arith, long (c .before .before)))
-    (λ c κs. omega arith)
-    (λ c κs. omega arith)
+    (λ c κs. tt)
+    (λ c κs. tt)
     loop-less
     loop-again
     (λ c. kept c .long)

@@ -44,7 +44,7 @@ note-rule-spec =
     (tie.spec
     Inv-loop
     μ-loop
-    (λ c κs. omega arith)
+    (λ c κs. tt)
     loop-holds
     (λ c. omega arith)
     (λ c. omega arith)
@@ -55,8 +55,8 @@ note-rule-spec =
     (λ c. omega arith)
     (λ c. omega arith)
     (λ c. omega (arith, c .before .before .loop .inv .1 .done .kept .long))
-    (λ c κs. omega arith)
-    (λ c κs. omega arith)
+    (λ c κs. tt)
+    (λ c κs. tt)
     loop-less
     loop-again
     (λ c. c .before .loop .inv .1 .done .kept .long)

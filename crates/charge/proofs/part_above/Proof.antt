@@ -3,6 +3,7 @@
 use Prim.Native.Nat.{_+_, _*_, _-_, _<_, min}
 use mathlib.Core.Path.{_≡_, sym, _∙_, subst}
 use mathlib.Core.Bool.{true}
+use native.Mathlib.Nat.{lt-of-lt-of-le}
 use native.Mathlib.Omega.{arith}
 use lib.ListN.{getD}
 use Rattle.lists.specs.Bits.{bit}
@@ -15,6 +16,7 @@ use Rattle.charge.specs.Memo.{Memo}
 use Rattle.charge.specs.Answer.{Passed}
 use Rattle.charge.proofs.Search.{Carried, few-rules, passed-more, passed-above, is-place, passed-next, passed-part}
 use Rattle.charge.proofs.Tabled.{carried-by}
+use Rattle.charge.proofs.Rows.{Column, column-of}
 use Rattle.charge.proofs.RowCharges.{row-room, gives-charge}
 use Rattle.charge.proofs.part_above.Statement.{statement}
 use Rattle.charge.proofs.part_above.Tie as tie
@@ -86,15 +88,16 @@ known-charges-requires c κs =
       carried-by (s .args .parts .now) (s .args .parts-count) _ (s .args .p) (s .pre .1) (found t),
     )
 
-slice-read-c : tie.Need-slice-read-c Inv-loop μ-loop
-slice-read-c c =
-    let t = c .before .before .before .before .before in
+-- the entry that is read
+column : (k : tie.After-known-charges Inv-loop μ-loop)
+    → let t = k .before .before in
+    Column (k .known-charges .last .1 .1 .0) (t .before .loop .r) (t .before .before .before .before .before .before .before .args .p)
+column k =
+    let t = k .before .before in
     let s = t .before .before .before .before .before .before .before in
-    omega (
-      arith,
-      s .pre .0 .tables .few-parts,
-      row-room (s .pre .0 .tables) (c .before .before .before .known-charges .ensures .memo) (t .before .loop .r) (t .loop-test .taken),
-    )
+    let h = s .pre .0 .tables in
+    let l = t .loop-test .taken in
+    column-of _ _ _ _ (s .pre .1) (h .few-parts) (lt-of-lt-of-le l (h .few-rules)) (row-room h (k .known-charges .ensures .memo) _ l)
 
 sub-c : tie.Need-sub-c Inv-loop μ-loop
 sub-c c =
@@ -153,21 +156,21 @@ part-above-spec =
     (λ c. omega (arith, c .before .before .before .pre .0 .tables .few-parts))
     (λ c. omega (arith, c .before .before .before .pre .0 .tables .few-parts))
     (λ c. omega (arith, c .before .before .before .before .pre .0 .tables .few-parts, c .before .before .before .before .pre .0 .tables .parts-long))
-    (λ c κs. omega arith)
+    (λ c κs. tt)
     loop-holds
     known-charges-requires
-    (λ c. omega (arith, c .before .before .before .before .loop-test .taken, c .before .before .before .before .before .before .before .before .before .before .before .pre .0 .tables .few-rules))
-    (λ c. omega (arith, c .before .before .before .before .loop-test .taken, c .before .before .before .before .before .before .before .before .before .before .before .pre .0 .tables .few-rules, c .before .before .before .before .before .before .before .before .before .before .before .pre .0 .tables .few-parts))
-    (λ c. omega (arith, c .before .before .before .before .loop-test .taken, c .before .before .before .before .before .before .before .before .before .before .before .pre .0 .tables .few-rules))
-    slice-read-c
+    (λ c. column (c .before .before) .start)
+    (λ c. column (c .before .before) .place)
+    (λ c. column (c .before .before) .bytes)
+    (λ c. column (c .before .before .before) .inside)
     sub-c
     (λ c. omega (arith, c .before .before .before .before .before .before .before .before .before .before .before .before .before .pre .0 .tables .few-parts))
     (λ c. omega (arith, c .before .before .before .before .before .before .before .before .before .before .before .before .before .pre .0 .tables .few-parts, c .before .before .before .before .before .before .loop-test .taken, c .before .before .before .before .before .before .before .before .before .before .before .before .before .pre .0 .tables .few-rules))
     same-length
     returns
-    (λ c κs. omega arith)
-    (λ c κs. omega arith)
-    (λ c κs. omega arith)
+    (λ c κs. tt)
+    (λ c κs. tt)
+    (λ c κs. tt)
     loop-less
     loop-again
     (λ c. c .before .loop .inv .1 .long ∙ sym (c .before .before .before .before .before .before .before .pre .0 .memo .long))

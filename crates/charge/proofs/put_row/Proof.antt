@@ -1,13 +1,15 @@
 -- `charge::put_row` meets its contract: the entries passed are written, the others as before. Assumes nothing.
 use Prim.Native.Nat.{ℕ, _-_, _<_, _≤_}
-use mathlib.Core.Path.{_≡_, ap, _∙_}
+use mathlib.Core.Path.{_≡_, sym, ap, _∙_}
 use mathlib.Core.Bool.{cond}
+use native.Mathlib.Nat.{le-of-eq, lt-of-lt-of-le}
+use native.Mathlib.Numerals.{add-one-dec}
 use native.Mathlib.Omega.{arith}
 use lib.Dec.{eqb}
 use lib.ListN.{getD}
 use borrow.Author.Tests.{eq-eqb}
 use Rattle.lists.specs.Lists.{sum, below}
-use Rattle.charge.proofs.Rows.{Putting, filled-none, putting-more, putting-all, share-most, share-only, sum-parted, row-most}
+use Rattle.charge.proofs.Rows.{Column, column-of, small-inside, Putting, filled-none, putting-more, putting-all, share-most, share-only, sum-parted, row-most}
 use Rattle.charge.proofs.put_row.Statement.{statement}
 use Rattle.charge.proofs.put_row.Tie as tie
 use Rattle.charge.proofs.put_row.Reads as reads
@@ -46,6 +48,10 @@ module _ (s : lts.Start claims reads.Pre reads.Post Inv-loop μ-loop) where
   abbrev shareOf : ℕ → ℕ → ℕ
   shareOf p t = cond (eqb (s .args .kind) 1) (t - getD (s .args .second .now) p 0) (getD (s .args .second .now) p 0)
 
+-- the part of the turn
+column : (c : tie.In-loop Inv-loop μ-loop) → let s = c .before .before .before .before .before .before in Column (s .args .memo .now) (s .args .r) (c .before .loop .p)
+column c = let s = c .before .before .before .before .before .before in column-of _ _ _ _ (c .loop-test .taken) (s .pre .1) (s .pre .2) (s .pre .0)
+
 -- what the action adds
 rest : (c : lts.After-share claims reads.Pre reads.Post Inv-loop μ-loop)
     → let s = c .before .before .before .before .before .before .before .before in
@@ -64,10 +70,10 @@ loop-holds : tie.Need-loop-holds Inv-loop μ-loop
 loop-holds c = (omega arith, record { filled = filled-none })
 
 mul-share : tie.Need-mul-share Inv-loop μ-loop
-mul-share c = omega arith
+mul-share c = column c .here
 
 shared-slice-read-share : tie.Need-shared-slice-read-share Inv-loop μ-loop
-shared-slice-read-share c = omega arith
+shared-slice-read-share c = let s = c .before .before .before .before .before .before .before in small-inside (s .pre .4) (c .before .loop-test .taken) (s .pre .1)
 
 share-requires : tie.Need-share-requires Inv-loop μ-loop
 share-requires c κs e =
@@ -76,10 +82,10 @@ share-requires c κs e =
     omega (arith, t, has s (c .before .before .loop .p) (c .before .loop-test .taken))
 
 mul-capped-sum : tie.Need-mul-capped-sum Inv-loop μ-loop
-mul-capped-sum c = omega arith
+mul-capped-sum c = column (c .before .before) .here
 
 shared-slice-read-capped-sum : tie.Need-shared-slice-read-capped-sum Inv-loop μ-loop
-shared-slice-read-capped-sum c = omega arith
+shared-slice-read-capped-sum c = let s = c .before .before .before .before .before .before .before .before .before in small-inside (s .pre .3) (c .before .before .before .loop-test .taken) (s .pre .1)
 
 capped-sum-requires : tie.Need-capped-sum-requires Inv-loop μ-loop
 capped-sum-requires c κs =
@@ -93,22 +99,22 @@ add-memo : tie.Need-add-memo Inv-loop μ-loop
 add-memo c = omega (arith, c .capped-sum .ensures)
 
 mul-memo : tie.Need-mul-memo Inv-loop μ-loop
-mul-memo c = omega arith
+mul-memo c = column (c .before .before .before .before) .start
 
 add-memo-2 : tie.Need-add-memo-2 Inv-loop μ-loop
-add-memo-2 c = omega arith
+add-memo-2 c = column (c .before .before .before .before) .place
 
 mul-memo-2 : tie.Need-mul-memo-2 Inv-loop μ-loop
-mul-memo-2 c = omega arith
+mul-memo-2 c = column (c .before .before .before .before) .bytes
 
 slice-write-memo : tie.Need-slice-write-memo Inv-loop μ-loop
-slice-write-memo c = omega (arith, c .before .before .before .before .before .loop .inv .1 .filled .long)
+slice-write-memo c = let t = c .before .before .before .before in lt-of-lt-of-le (column t .inside) (le-of-eq (sym (t .before .loop .inv .1 .filled .long)))
 
 add-p : tie.Need-add-p Inv-loop μ-loop
-add-p c = omega arith
+add-p c = column (c .before .before .before .before) .next
 
 loop-less : tie.Need-loop-less Inv-loop μ-loop
-loop-less c = omega arith
+loop-less c = add-one-dec _ _ (c .before .before .before .before .loop-test .taken)
 
 loop-again : tie.Need-loop-again Inv-loop μ-loop
 loop-again c =

@@ -2,6 +2,7 @@
 -- right. Assumes nothing.
 use Prim.Native.Nat.{_-_}
 use mathlib.Core.Path.{refl, sym, _∙_}
+use native.Mathlib.Nat.{lt-of-lt-of-le}
 use native.Mathlib.Omega.{arith}
 use Rattle.lists.specs.Laws.Through.{Through, through-next, through-here, through-all}
 use Rattle.lists.specs.Laws.Walks.{Walk, walk-first, walk-on, walk-next}
@@ -9,6 +10,7 @@ use Rattle.deck.specs.Shape.{bitsOf, shapeOf}
 use Rattle.charge.proofs.Terms.{heard}
 use Rattle.charge.proofs.Sums.{Summing, same, small, none-yet, skip, more}
 use Rattle.charge.proofs.Tabled.{update-all, heard-yes, heard-no, hears-carried}
+use Rattle.charge.proofs.Rows.{Column, column-of}
 use Rattle.charge.proofs.RowCharges.{row-room, gives-charge}
 use Rattle.charge.proofs.update_charge.Statement.{statement}
 use Rattle.charge.proofs.update_charge.Tie as tie
@@ -43,15 +45,16 @@ known-charges-requires c κs =
       hears-carried (s .pre .0 .tables) (i .r) k (s .args .mask) (s .args .p) (s .pre .1) y,
     )
 
-slice-read-capped-sum : tie.Need-slice-read-capped-sum Inv-loop μ-loop
-slice-read-capped-sum c =
-    let t = c .before .before .before .before .before in
+-- the entry that is read
+column : (k : tie.After-known-charges Inv-loop μ-loop)
+    → let t = k .before .before in
+    Column (k .known-charges .last .1 .1 .0) (t .before .loop .r) (t .before .before .before .before .before .before .before .args .p)
+column k =
+    let t = k .before .before in
     let s = t .before .before .before .before .before .before .before in
-    omega (
-      arith,
-      s .pre .0 .tables .few-parts,
-      row-room (s .pre .0 .tables) (c .before .before .before .known-charges .ensures .memo) (t .before .loop .r) (t .loop-test .taken),
-    )
+    let h = s .pre .0 .tables in
+    let l = t .loop-test .taken in
+    column-of _ _ _ _ (s .pre .1) (h .few-parts) (lt-of-lt-of-le l (h .few-rules)) (row-room h (k .known-charges .ensures .memo) _ l)
 
 sub-capped-sum : tie.Need-sub-capped-sum Inv-loop μ-loop
 sub-capped-sum c =
@@ -105,17 +108,17 @@ update-charge-spec =
     Inv-loop
     μ-loop
     (λ c κs. (c .before .before .before .pre .0 .tables, c .before .before .before .pre .1))
-    (λ c κs. omega arith)
+    (λ c κs. tt)
     loop-holds
     known-charges-requires
-    (λ c. omega arith)
-    (λ c. omega arith)
-    (λ c. omega arith)
-    slice-read-capped-sum
+    (λ c. column (c .before .before) .start)
+    (λ c. column (c .before .before) .place)
+    (λ c. column (c .before .before) .bytes)
+    (λ c. column (c .before .before .before) .inside)
     sub-capped-sum
     capped-sum-requires
-    (λ c κs. omega arith)
-    (λ c κs. omega arith)
+    (λ c κs. tt)
+    (λ c κs. tt)
     loop-less
     loop-again
     same-length

@@ -1,12 +1,16 @@
 -- `states::weigh` meets its contract. The loop's invariant: the first k places fit and are different, the total is the charge of
 -- their updates, the memo is right, and the index has them. Assumes nothing.
-use Prim.Native.Nat.{ℕ, _-_, _<_, _≤_}
+use Prim.Native.Nat.{ℕ, _+_, _-_, _<_, _≤_}
 use mathlib.Core.Path.{_≡_, sym, ap, _∙_}
 use mathlib.Core.Bool.{true, _&&_}
 use mathlib.Core.List.{List}
+use native.Mathlib.Nat.{le-add-right, lt-of-lt-of-le}
+use native.Mathlib.Numerals.{add-one-dec}
 use native.Mathlib.Omega.{arith}
 use lib.ListN.{length}
 use lib.IntN.{ℤ}
+use mir.Syntax.{w64}
+use mir.Val.{Fits}
 use Rattle.lists.specs.Bits.{maskOf}
 use Rattle.deck.specs.Deck.{Deck, R}
 use Rattle.deck.specs.Shape.{shapeOf, bitsOf}
@@ -20,6 +24,7 @@ use Rattle.index.specs.Hash.{bucketOf}
 use Rattle.index.specs.Index.{headsOf}
 use Rattle.index.specs.Laws.Entering.{roomy-heads}
 use Rattle.states.specs.Answer.{IfFit, Holds, PlaceGives}
+use Rattle.states.specs.Laws.Places.{Place, place-of}
 use Rattle.states.specs.Laws.Charges.{holds-part, holds-charge}
 use Rattle.states.proofs.Adding.{Adding, lent, lent-length, adding-none, adding-unfit, adding-place, adding-heads, adding-room}
 use Rattle.states.proofs.Adding.{adding-twice, adding-more, adding-all}
@@ -46,6 +51,9 @@ loop-of c = c .before .before .before
 abbrev fit-of : tie.After-update-charge Inv-loop μ-loop → tie.Else1 Inv-loop μ-loop
 fit-of c = c .before .before .before .before
 
+abbrev turn-in : tie.Else1 Inv-loop μ-loop → tie.In-loop Inv-loop μ-loop
+turn-in c = c .before .before .before
+
 abbrev charge-of : tie.After-capped-sum Inv-loop μ-loop → tie.After-update-charge Inv-loop μ-loop
 charge-of c = c .before .before .before
 
@@ -60,6 +68,15 @@ bucket-of c = c .before .before .before
 
 abbrev lent-at : tie.At-loop Inv-loop μ-loop → List ℤ
 lent-at c = lent (c .loop .k) (start-of c .args .pool .now)
+
+-- the place at hand lies in the pool
+placed : (c : tie.In-loop Inv-loop μ-loop) → Place (start-of (c .before) .args .pool .now) (c .before .loop .k)
+placed c =
+    let s = start-of (c .before) in
+    place-of (s .args .pool .now) (c .before .loop .k) (s .args .pending) (c .loop-test .taken) (s .pre .2) (s .good .1 .1 .1 .1 .1 .1 .0 .1)
+
+next-fits : (k n : ℕ) → k < n → n ≤ 65535 → Fits w64 (k + 1)
+next-fits k n l few = record { fits = omega arith }
 
 inside : (c : tie.After-place-fits Inv-loop μ-loop) → loop-of c .loop .k < start-of (loop-of c) .args .pending
 inside c = c .before .before .loop-test .taken
@@ -120,7 +137,7 @@ place-fits-requires : tie.Need-place-fits-requires Inv-loop μ-loop
 place-fits-requires c κs =
     let t = c .before .before in
     let s = start-of t in
-    (lent-length (s .args .pending) (t .loop .k) (s .args .pool .now) (omega arith) (s .pre .2), s .pre .1)
+    (lent-length (s .args .pending) (t .loop .k) (s .args .pool .now) (c .before .loop-test .taken) (s .pre .2), s .pre .1)
 
 returns : tie.Need-returns Inv-loop μ-loop
 returns c =
@@ -159,7 +176,7 @@ find-requires c κs =
     let b = c .before .before in
     let f = fit-of (charge-of (sum-of b)) in
     let t = loop-of (f .before) in
-    (holds f .long, omega (arith, start-of t .pre .2), bucketed b .0, bucketed b .1, t .loop .inv .indexed)
+    (holds f .long, placed (turn-in f) .before, bucketed b .0, bucketed b .1, t .loop .inv .indexed)
 
 returns-2 : tie.Need-returns-2 Inv-loop μ-loop
 returns-2 c =
@@ -179,16 +196,16 @@ note-requires c κs =
     let s = start-of t in (
       bucketed b .0,
       adding-room _ (s .args .pending) (s .args .pool .now) (t .loop .inv) (inside f) (s .pre .4),
-      omega (arith, inside f, s .pre .3),
+      lt-of-lt-of-le (inside f) (s .pre .3),
     )
 
 add-k : tie.Need-add-k Inv-loop μ-loop
 add-k c =
     let f = fit-of (charge-of (sum-of (bucket-of (c .before .before .before .before .before)))) .before in
-    omega (arith, inside f, start-of (loop-of f) .pre .3)
+    next-fits _ _ (inside f) (start-of (loop-of f) .pre .3)
 
 loop-less : tie.Need-loop-less Inv-loop μ-loop
-loop-less c = omega (arith, inside (fit-of (charge-of (sum-of (bucket-of (c .before .before .before .before .before)))) .before))
+loop-less c = add-one-dec _ _ (inside (fit-of (charge-of (sum-of (bucket-of (c .before .before .before .before .before)))) .before))
 
 loop-again : tie.Need-loop-again Inv-loop μ-loop
 loop-again c =
@@ -225,32 +242,32 @@ weigh-spec =
     Inv-loop
     μ-loop
     loop-holds
-    (λ c. omega (arith, start-of (c .before) .pre .2))
-    (λ c. omega (arith, start-of (c .before) .pre .2))
-    (λ c. omega (arith, start-of (c .before) .pre .2))
-    (λ c. omega arith)
-    (λ c. omega (arith, start-of (c .before) .pre .2))
-    (λ c. omega (arith, start-of (c .before) .pre .2))
+    (λ c. placed c .start)
+    (λ c. placed c .end)
+    (λ c. placed c .bytes)
+    (λ c. le-add-right _ _)
+    (λ c. le-add-right _ _)
+    (λ c. placed c .inside)
     place-fits-requires
     (λ c. same-length (loop-of (c .before)))
     (λ c. loop-of (c .before) .loop .inv .long)
     returns
-    (λ c. omega (arith, start-of (loop-of (c .before)) .pre .2))
-    (λ c. omega arith)
-    (λ c. omega (arith, start-of (loop-of (c .before)) .pre .2))
-    (λ c. omega (arith, start-of (loop-of (c .before)) .pre .2))
+    (λ c. placed (turn-in c) .bytes)
+    (λ c. le-add-right _ _)
+    (λ c. le-add-right _ _)
+    (λ c. placed (turn-in c) .inside)
     number-at-requires
     update-charge-requires
     capped-sum-requires
-    (λ c. omega (arith, start-of (turn-of c) .pre .2))
-    (λ c. omega arith)
-    (λ c. omega (arith, start-of (turn-of c) .pre .2))
-    (λ c. omega (arith, start-of (turn-of c) .pre .2))
+    (λ c. placed (turn-in (fit-of (charge-of c))) .bytes)
+    (λ c. le-add-right _ _)
+    (λ c. le-add-right _ _)
+    (λ c. placed (turn-in (fit-of (charge-of c))) .inside)
     bucket-requires
-    (λ c. omega (arith, start-of (turn-of (sum-of (c .before))) .pre .2))
-    (λ c. omega arith)
-    (λ c. omega (arith, start-of (turn-of (sum-of (c .before))) .pre .2))
-    (λ c. omega (arith, start-of (turn-of (sum-of (c .before))) .pre .2))
+    (λ c. placed (turn-in (fit-of (charge-of (sum-of (c .before))))) .bytes)
+    (λ c. le-add-right _ _)
+    (λ c. le-add-right _ _)
+    (λ c. placed (turn-in (fit-of (charge-of (sum-of (c .before))))) .inside)
     find-requires
     same-length-3
     (λ c. turn-of (sum-of (bucket-of (c .before))) .loop .inv .long)

@@ -1,5 +1,5 @@
 -- A place is well written and holds a known update exactly if it passes the tests of its numbers. Assumes nothing.
-use Prim.Native.Nat.{ℕ, zero, suc, _+_, _*_, _-_, _<_, _≤_}
+use Prim.Native.Nat.{ℕ, zero, suc, _+_, _*_, _-_, _^_, _<_, _≤_}
 use mathlib.Core.Path.{_≡_, refl, sym, ap, ap₂, _∙_}
 use mathlib.Core.Bool.{true, not, _&&_, false≢true}
 use mathlib.Core.List.{List, [], _∷_, _++_, map}
@@ -8,6 +8,8 @@ use lib.Dec.{ltb}
 use lib.ListN.{length, take, drop, length-take, length-drop}
 use lib.Seq.{drop-at}
 use lib.IntN.{ℤ, pos, natAbs}
+use mir.Syntax.{w64}
+use mir.Val.{Fits}
 use borrow.Author.Tests.{ltb-true, lt-ltb}
 use Rattle.lists.specs.Lists.{lists, all, flatMap, distinct, isEmpty, eqZ, eqList}
 use Rattle.lists.specs.Bits.{bit}
@@ -22,6 +24,23 @@ use Rattle.pool.specs.Places.{zeros, isZero, place, pairsOf, updateOf, wellWrit
 use Rattle.pool.specs.States.{known}
 use Rattle.states.specs.Fits.{within, channelsOf, channelsFit, pairsFit, fits}
 use Rattle.states.specs.Laws.Fits.{within-below, within-pos, numbers, Known, known-fit, fit-known}
+
+-- what code computes to lend place j of a pool
+pub record Place (pool : List ℤ) (j : ℕ) : Type 0 where
+  pub start : Fits w64 (10 * j)
+  pub bytes : Fits w64 (10 * j * 4)
+  pub end : Fits w64 (10 * j + 10)
+  pub before : 10 * j ≤ length pool
+  pub inside : 10 * j + 10 ≤ length pool
+
+pub place-of : (pool : List ℤ) (j n : ℕ) → j < n → 10 * n ≤ length pool → length pool * 4 < 2 ^ 63 → Place pool j
+place-of pool j n l room small = record {
+  start = record { fits = omega arith };
+  bytes = record { fits = omega arith };
+  end = record { fits = omega arith };
+  before = omega arith;
+  inside = omega arith;
+}
 
 pairs-length : (n : ℕ) (t : List ℤ) → 2 * n ≤ length t → length (take n (pairsOf t)) ≡ n
 unfolding pairsOf

@@ -31,6 +31,7 @@ sub-left c =
 some : (k n : ℕ) → k < n → 1 ≤ n
 some k n h = omega arith
 
+-- the pairs that set the channels back
 pairs-inside : (l : tie.After-look) → let r = l .look in 2 * r .result .count ≤ length (r .last .1 .1 .1 .1 .1 .1 .0)
 pairs-inside l = looks-inside (l .look .ensures) (l .look .kept .1 .1 .1 .1 .1 .1 .0)
 

@@ -28,6 +28,7 @@ sub-left c =
 next-fits : (n : ℕ) → n ≤ 65534 → Fits w64 (n + 1)
 next-fits n h = record { fits = omega arith }
 
+-- the pairs that set the channels back
 pairs-inside : (l : tie.After-look) → let r = l .look in 2 * r .result .count ≤ length (r .last .1 .1 .1 .1 .1 .1 .0)
 pairs-inside l = looks-inside (l .look .ensures) (l .look .kept .1 .1 .1 .1 .1 .1 .0)
 

@@ -28,6 +28,7 @@ firing : (s : tie.Start)
     → let a = s .args in Firing (a .deck .now) (a .counts) (a .rules .now) (a .parts .now) (a .values .now) (a .p) (a .r)
 firing s = record { tabled = s .pre .0; long = s .pre .2; part = s .pre .3; rule = s .pre .4 }
 
+-- what is read in its row, and the channels that are lent
 kind-at : (s : tie.Start) → Field (s .args .rules .now) (s .args .r) 3
 kind-at s = field (firing s) 3 (lit< tt)
 

@@ -12,11 +12,12 @@ use Rattle.deck.specs.Laws.Shape.{shape-R, shape-N}
 use Rattle.pool.specs.Places.{updateOf}
 use Rattle.states.specs.Fits.{within}
 use Rattle.states.specs.Answer.{Holds}
+use Rattle.states.specs.Laws.Places.{Place}
 use Rattle.states.specs.Laws.Held.{known-low}
 use Rattle.states.specs.Laws.Charges.{holds-part, holds-charge}
 use Rattle.passing.specs.Judged.{shape}
 use Rattle.firing.specs.Evaluated.{Assignable}
-use Rattle.steps.specs.Laws.Looking.{looking-holds, looking-part, looking-low, looking-count, looking-pairs, looking-place, Place, few-fits, looks}
+use Rattle.steps.specs.Laws.Looking.{looking-holds, looking-part, looking-low, looking-count, looking-pairs, looking-place, few-fits, looks}
 use Rattle.steps.proofs.look.Statement.{statement}
 use Rattle.steps.proofs.look.Tie as tie
 

@@ -25,6 +25,7 @@ use Rattle.pool.specs.Laws.Places.{short, update-back, place-length, place-well
 use Rattle.pool.specs.Laws.Laid.{laid-removed, removed-length, laid-pick, laid-front}
 use Rattle.states.specs.Answer.{Holds, PlaceGives}
 use Rattle.states.specs.Fits.{within}
+use Rattle.states.specs.Laws.Places.{Place, place-of}
 use Rattle.states.specs.Laws.Held.{held-part, known-part}
 use Rattle.firing.specs.Firing.{pick, without}
 use Rattle.firing.specs.Evaluated.{Assignable, Compared}
@@ -38,24 +39,8 @@ use Rattle.steps.specs.Queue.{heldOf, Kept, SameSize}
 use Rattle.steps.specs.Commits.{Looking, Looks}
 use Rattle.steps.specs.Laws.Applying.{held-few, held-assignable, held-long, held-update, held-back, held-undone, held-changes}
 
--- ---- what code computes
+-- ---- what code computes to lend the numbers of n pairs
 
--- place j of a pool
-pub record Place (pool : List ℤ) (j : ℕ) : Type 0 where
-  pub start : Fits w64 (10 * j)
-  pub bytes : Fits w64 (10 * j * 4)
-  pub end : Fits w64 (10 * j + 10)
-  pub inside : 10 * j + 10 ≤ length pool
-
-place-of : (pool : List ℤ) (j : ℕ) → 10 * j + 10 ≤ length pool → length pool * 4 < 2 ^ 63 → Place pool j
-place-of pool j fits small = record {
-  start = record { fits = omega arith };
-  bytes = record { fits = omega arith };
-  end = record { fits = omega arith };
-  inside = fits;
-}
-
--- the numbers of n pairs
 pub few-fits : (n : ℕ) → n ≤ 4 → Fits w64 (2 * n)
 few-fits n few = record { fits = omega arith }
 
@@ -111,7 +96,7 @@ module _ {k : Counted.Deck} {rules parts memo : List ℕ} {pool : List ℤ} {pen
   inside = omega (arith, w .place, w .count)
 
   pub looking-place : length pool * 4 < 2 ^ 63 → Place pool j
-  looking-place small = place-of pool j (omega (arith, inside, w .laid .room)) small
+  looking-place small = place-of pool j (length (w .us)) inside (w .laid .room) small
 
   pub looking-holds : Holds e numbers
   looking-holds = taken-holds e pool (w .us) (w .laid) j inside (w .known)
