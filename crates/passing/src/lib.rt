@@ -190,7 +190,7 @@ pub fn judge(deck: &[u8], rules: &mut [u64], parts: &mut [u64], memo: &mut [u32]
     requires { ⌜ ZeroRules (now deck) (now rules) × (now parts ≡ replicate 64 0) × ZeroMemo (now deck) (now memo) ⌝ }
     ensures { λ r. ⌜ Judges (now (deck .entry)) (now (rules .exit)) (now (parts .exit)) (now (memo .exit)) r ⌝ }
 {
-    let loaded = deck::read(deck, rules, parts);
+    let loaded = reading::read(deck, rules, parts);
     match loaded {
         deck::Loaded::Wrong { number, place } => refused(number, place),
         deck::Loaded::Whole(counts) => judge_whole(deck, counts, rules, parts, memo),
