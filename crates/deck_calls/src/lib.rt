@@ -67,7 +67,7 @@ pub fn section_with<'a>(
                 return &deck[0..0];
             }
             *refusal = 0;
-            deck::stretch(deck, counts, number as usize)
+            reading::stretch(deck, counts, number as usize)
         }
     }
 }

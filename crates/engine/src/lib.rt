@@ -14,7 +14,7 @@ use pool::State;
 pub fn check(deck: &[u8]) -> CheckAnswer
     ensures { λ r. ⌜ checkOutcome r ≡ Calls.check (now (deck .entry)) ⌝ }
 {
-    if deck::few_rules(deck) {
+    if reading::few_rules(deck) {
         let mut short = [0u64; passing::SHORT_RULES];
         let mut small = [0u32; passing::SHORT_MEMO];
         return deck_calls::check_with(deck, &mut short, &mut small);
@@ -29,7 +29,7 @@ pub fn check(deck: &[u8]) -> CheckAnswer
 pub fn section<'a>(deck: &'a [u8], number: u32, refusal: &mut u32, place: &mut u32) -> &'a [u8]
     ensures { λ r. ⌜ sectionOf (now r) (now (refusal .exit)) (now (place .exit)) ≡ Calls.section (now (deck .entry)) number ⌝ }
 {
-    if deck::few_rules(deck) {
+    if reading::few_rules(deck) {
         let mut short = [0u64; passing::SHORT_RULES];
         let mut small = [0u32; passing::SHORT_MEMO];
         return deck_calls::section_with(deck, number, refusal, place, &mut short, &mut small);
@@ -43,7 +43,7 @@ pub fn section<'a>(deck: &'a [u8], number: u32, refusal: &mut u32, place: &mut u
 pub fn start(deck: &[u8], pool: &mut [i32]) -> Started
     ensures { λ r. ⌜ replyOf (startOutcome (r .answer)) (r .state) (now (pool .exit)) ≡ Calls.start (now (deck .entry)) (now (pool .entry)) ⌝ }
 {
-    if deck::few_rules(deck) {
+    if reading::few_rules(deck) {
         let mut short = [0u64; passing::SHORT_RULES];
         let mut small = [0u32; passing::SHORT_MEMO];
         return deck_calls::start_with(deck, pool, &mut short, &mut small);

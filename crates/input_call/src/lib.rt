@@ -174,7 +174,7 @@ fn input_with(
     requires { ⌜ Usable (length (now pool)) (now index) ⌝ }
     ensures { λ r. ⌜ replyAt (inputOutcome r) (now (values .exit)) (now (pending .exit)) (now (pool .exit)) ≡ Calls.input (now (deck .entry)) (memoryAt (now (values .entry)) (now (pending .entry)) (now (pool .entry))) part (now (pairs .entry)) ⌝ }
 {
-    if deck::few_rules(deck) {
+    if reading::few_rules(deck) {
         let mut short = [0u64; passing::SHORT_RULES];
         let mut small = [0u32; passing::SHORT_MEMO];
         return input_on(

@@ -149,7 +149,7 @@ fn judge_rules(rules: &[u64], parts: &[u64], memo: &mut [u32], counts: Deck) -> 
     if c < counts.channels {
         return refused(refusals::CYCLIC_GRAPH, c);
     }
-    let bound = charge::first_above(
+    let bound = charge_tables::first_above(
         rules,
         parts,
         memo,
@@ -181,7 +181,7 @@ fn judge_whole(
     if p < counts.parts {
         return refused(refusals::OPENS_OUTSIDE, p);
     }
-    charge::note_listeners(rules, parts, counts.rules, counts.parts);
+    charge_tables::note_listeners(rules, parts, counts.rules, counts.parts);
     judge_rules(rules, parts, memo, counts)
 }
 
@@ -190,7 +190,7 @@ pub fn judge(deck: &[u8], rules: &mut [u64], parts: &mut [u64], memo: &mut [u32]
     requires { ⌜ ZeroRules (now deck) (now rules) × (now parts ≡ replicate 64 0) × ZeroMemo (now deck) (now memo) ⌝ }
     ensures { λ r. ⌜ Judges (now (deck .entry)) (now (rules .exit)) (now (parts .exit)) (now (memo .exit)) r ⌝ }
 {
-    let loaded = deck::read(deck, rules, parts);
+    let loaded = reading::read(deck, rules, parts);
     match loaded {
         deck::Loaded::Wrong { number, place } => refused(number, place),
         deck::Loaded::Whole(counts) => judge_whole(deck, counts, rules, parts, memo),

@@ -135,7 +135,7 @@ fn settle_with(
     requires { ⌜ Usable (length (now pool)) (now index) ⌝ }
     ensures { λ r. ⌜ replyAt (settleOutcome r) (now (values .exit)) (now (pending .exit)) (now (pool .exit)) ≡ Calls.settle (now (deck .entry)) (memoryAt (now (values .entry)) (now (pending .entry)) (now (pool .entry))) budget ⌝ }
 {
-    if deck::few_rules(deck) {
+    if reading::few_rules(deck) {
         let mut short = [0u64; passing::SHORT_RULES];
         let mut small = [0u32; passing::SHORT_MEMO];
         return settle_on(

@@ -188,7 +188,7 @@ pub fn place_charge(
 {
     let p = number_at(place, 0, parts_count);
     let mask = channels_of(place);
-    charge::update_charge(rules, parts, memo, channels, count, parts_count, p, mask)
+    charge_tables::update_charge(rules, parts, memo, channels, count, parts_count, p, mask)
 }
 
 // A sum that stops at 65,536.
@@ -228,7 +228,7 @@ fn weigh(
             return Goodness::Bad;
         }
         let p = number_at(&pool[at..next], 0, parts_count);
-        let c = charge::update_charge(rules, parts, memo, channels, count, parts_count, p, mask);
+        let c = charge_tables::update_charge(rules, parts, memo, channels, count, parts_count, p, mask);
         total = capped_sum(total, c);
         let b = index::bucket(&pool[at..next], heads);
         if index::find(index, pool, 0, k, &pool[at..next], b) {

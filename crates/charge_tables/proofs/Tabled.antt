@@ -1,0 +1,158 @@
+-- The terms of the two charges in the numbers that the functions read from the tables. Assumes nothing.
+use Prim.Native.Nat.{ℕ, _+_, _*_, _<_}
+use mathlib.Core.Path.{_≡_, refl, sym, ap, ap₂, _∙_}
+use mathlib.Core.Bool.{Bool, true, false, _&&_, cond, and-true, and-false}
+use mathlib.Core.List.{List}
+use native.Mathlib.Omega.{arith}
+use lib.Bits.{bitAnd}
+use lib.ListN.{getD}
+use borrow.Author.Tests.{lt-ltb}
+use Rattle.lists.specs.Lists.{any, sum, below, member}
+use Rattle.lists.specs.Bits.{bit}
+use Rattle.lists.specs.Laws.Booleans.{contradiction, not-true→false, and-both, and-left, and-right}
+use Rattle.lists.specs.Laws.Anys.{any-none}
+use Rattle.lists.specs.Laws.Below.{any-below, filter-below}
+use Rattle.lists.specs.Laws.Agreement.{any-agree}
+use Rattle.lists.specs.Laws.Bits.{bit-and}
+use Rattle.deck.specs.Deck.{Deck, N}
+use Rattle.deck.specs.Shape.{bitsOf, shapeOf}
+use Rattle.deck.specs.Laws.Shape.{shape-M, shape-N, bits-member}
+use Rattle.graph.specs.Masks.{carriedAt}
+use Rattle.charge.specs.Charge.{unlessEmpty, updateCharge, ruleCharge}
+use Rattle.charge.specs.Memo.{ListenersAre, AcyclicTables, hearing, listening}
+use Rattle.charge.specs.Laws.Equations.{defaults, actions}
+use Rattle.charge_tables.proofs.Terms.{heard, own, given, sent, when-no, when-yes, update-is, rule-is, defaults-are, actions-are, listens-is}
+use Rattle.charge_tables.proofs.Heights.{rank, updateRank, ruleRank, falls}
+
+pub carried-by : (parts : List ℕ) (N′ r p : ℕ) → p < N′ → bit (getD parts (4 * p) 0) r ≡ true → carriedAt parts N′ r ≡ true
+unfolding carriedAt
+carried-by parts N′ r p l t = any-below (λ q. bit (getD parts (4 * q) 0) r) N′ .1 (p, l, t)
+
+module _ {rules parts : List ℕ} {R′ M′ N′ : ℕ} (h : AcyclicTables rules parts R′ M′ N′) where
+  abbrev d : Deck
+  d = shapeOf rules parts R′ M′ N′
+
+  inside : (p : ℕ) → p < N′ → p < N d
+  inside p l = omega (arith, shape-N rules parts R′ M′ N′)
+
+  module _ (p : ℕ) (l : p < N′) where
+    pub update-all : (u : List ℕ) → 1 + sum (heard d p u) (below M′) ≡ updateCharge d p u
+    update-all u =
+        ap (λ n. 1 + sum (heard d p u) (below n)) (sym (shape-M rules parts R′ M′ N′))
+        ∙ update-is (h .known) (h .acyclic) p (inside p l) u
+
+    pub rule-all : (r : ℕ) → own d p r + sum (sent d p r) (below N′) ≡ ruleCharge d p r
+    rule-all r =
+        ap (λ n. own d p r + sum (sent d p r) (below n)) (sym (shape-N rules parts R′ M′ N′))
+        ∙ rule-is (h .known) (h .acyclic) p (inside p l) r
+
+  module _ (r : ℕ) (k : r < M′) where
+    -- the two actions, and their charges at part q
+    abbrev first : ℕ
+    first = getD rules (8 * r + 1) 0
+
+    abbrev second : ℕ
+    second = getD rules (8 * r + 2) 0
+
+    first-is : bitsOf 32 first ≡ defaults d r
+    first-is = sym (defaults-are rules parts R′ M′ N′ r k)
+
+    second-is : bitsOf 32 second ≡ actions d r
+    second-is = sym (actions-are rules parts R′ M′ N′ r k)
+
+    pub own-is : (q : ℕ) → unlessEmpty (bitsOf 32 first) (updateCharge d q (bitsOf 32 first)) ≡ own d q r
+    own-is q = ap (λ u. unlessEmpty u (updateCharge d q u)) first-is
+
+    pub given-is : (q : ℕ) → unlessEmpty (bitsOf 32 second) (updateCharge d q (bitsOf 32 second)) ≡ given d r q
+    given-is q = ap (λ u. unlessEmpty u (updateCharge d q u)) second-is
+
+    -- the measures fall
+    pub first-falls : updateRank d (bitsOf 32 first) < ruleRank d r
+    first-falls = omega (arith, ap (rank d) first-is)
+
+    pub second-falls : updateRank d (bitsOf 32 second) < ruleRank d r
+    second-falls = omega (arith, ap (rank d) second-is)
+
+    module _ (mask : ℕ) where
+      abbrev u : List ℕ
+      u = bitsOf 32 mask
+
+      module _ (p : ℕ) (l : p < N′) where
+        abbrev hears : Bool
+        hears = hearing rules parts p r mask
+
+        pub heard-is : heard d p u r ≡ cond hears (ruleCharge d p r) 0
+        heard-is = ap (λ b. cond b (ruleCharge d p r) 0) (listens-is rules parts R′ M′ N′ r k p u l (h .few-rules))
+
+        pub heard-yes : hears ≡ true → heard d p u r ≡ ruleCharge d p r
+        heard-yes t = heard-is ∙ when-yes hears _ t
+
+        pub heard-no : hears ≡ false → heard d p u r ≡ 0
+        heard-no t = heard-is ∙ when-no hears _ t
+
+        rule-falls : hears ≡ true → ruleRank d r < updateRank d u
+        rule-falls t =
+            falls (h .known) (h .acyclic) p r u (inside p l) (omega (arith, shape-M rules parts R′ M′ N′))
+            (listens-is rules parts R′ M′ N′ r k p u l (h .few-rules) ∙ t)
+
+        -- a rule that part p hears is carried
+        pub hears-carried : hears ≡ true → carriedAt parts N′ r ≡ true
+        hears-carried t = carried-by parts N′ r p l (and-left (bit (getD parts (4 * p) 0) r) _ t)
+
+      -- the test for all parts
+      abbrev common : Bool
+      common = any (λ c. member c (bitsOf 32 (getD rules (8 * r) 0))) u
+
+      -- the listeners of the mask are these rules
+      pub is-listener : {s : ℕ} → ListenersAre rules mask s → bit s r ≡ listening rules parts N′ r mask
+      unfolding bitsOf
+      is-listener w =
+          w .each r
+          ∙ any-agree (λ c. bit (getD rules (8 * c + 7) 0) r)
+          (λ c. carriedAt parts N′ r && member c (bitsOf 32 (getD rules (8 * r) 0))) u
+          (λ c m.
+          let l = filter-below (bit mask) 32 c .0 m .0 in
+          h .noted .each c r l (omega (arith, h .few-rules))
+          ∙ ap₂ (λ a b. a && (carriedAt parts N′ r && b)) (lt-ltb r M′ k) (sym (bits-member 32 (getD rules (8 * r) 0) c l)))
+          ∙ go (carriedAt parts N′ r)
+        where
+          heard-by : ℕ → Bool
+          heard-by c = member c (bitsOf 32 (getD rules (8 * r) 0))
+
+          go : (a : Bool) → any (λ c. a && heard-by c) u ≡ (any heard-by u && a)
+          go true = sym (and-true (any heard-by u))
+          go false = any-none (λ (c : ℕ). false) (λ c. refl) u ∙ sym (and-false (any heard-by u))
+
+      -- those that part p carries are active there
+      pub is-active : {s : ℕ} → ListenersAre rules mask s → (p : ℕ) → p < N′
+          → bit (bitAnd s (getD parts (4 * p) 0)) r ≡ hearing rules parts p r mask
+      is-active {s} w p l =
+          bit-and s (getD parts (4 * p) 0) r
+          ∙ ap (λ b. b && bit (getD parts (4 * p) 0) r) (is-listener w)
+          ∙ go (bit (getD parts (4 * p) 0) r) (carried-by parts N′ r p l)
+        where
+          go : (b : Bool) → (b ≡ true → carriedAt parts N′ r ≡ true) → (common && carriedAt parts N′ r && b) ≡ (b && common)
+          go true f = and-true (common && carriedAt parts N′ r) ∙ ap (λ a. common && a) (f refl) ∙ and-true common
+          go false f = and-false (common && carriedAt parts N′ r)
+
+      pub listening-carried : listening rules parts N′ r mask ≡ true → carriedAt parts N′ r ≡ true
+      listening-carried t = and-right common (carriedAt parts N′ r) t
+
+      pub listening-falls : listening rules parts N′ r mask ≡ true → ruleRank d r < updateRank d u
+      unfolding carriedAt
+      listening-falls t =
+          let found = any-below (λ q. bit (getD parts (4 * q) 0) r) N′ .0 (and-right common _ t) in
+          rule-falls (found .0) (found .1) (and-both (found .2) (and-left common _ t))
+
+      pub listening-heard : listening rules parts N′ r mask ≡ true → (q : ℕ) → q < N′
+          → heard d q u r ≡ cond (bit (getD parts (4 * q) 0) r) (ruleCharge d q r) 0
+      listening-heard t q l =
+          heard-is q l
+          ∙ ap (λ b. cond b (ruleCharge d q r) 0)
+          (ap (λ b. bit (getD parts (4 * q) 0) r && b) (and-left common _ t) ∙ and-true (bit (getD parts (4 * q) 0) r))
+
+      pub not-listening-heard : listening rules parts N′ r mask ≡ false → (q : ℕ) → q < N′ → heard d q u r ≡ 0
+      not-listening-heard f q l =
+          heard-no q l
+          (not-true→false (hears q l) λ t.
+          contradiction (and-both (and-right (bit (getD parts (4 * q) 0) r) _ t) (hears-carried q l t)) f)

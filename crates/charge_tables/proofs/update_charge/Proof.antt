@@ -1,0 +1,125 @@
+-- `charge_tables::update_charge` meets its contract: the charges of the rules passed are added, up to the cap, and the memo is
+-- right. Assumes nothing.
+use Prim.Native.Nat.{_-_}
+use mathlib.Core.Path.{refl, sym, _∙_}
+use native.Mathlib.Nat.{lt-of-lt-of-le}
+use native.Mathlib.Omega.{arith}
+use Rattle.lists.specs.Laws.Through.{Through, through-next, through-here, through-all}
+use Rattle.lists.specs.Laws.Walks.{Walk, walk-first, walk-on, walk-next}
+use Rattle.deck.specs.Shape.{bitsOf, shapeOf}
+use Rattle.charge_tables.proofs.Terms.{heard}
+use Rattle.charge_tables.proofs.Sums.{Summing, same, small, none-yet, skip, more}
+use Rattle.charge_tables.proofs.Tabled.{update-all, heard-yes, heard-no, hears-carried}
+use Rattle.charge_tables.proofs.Rows.{Column, column-of}
+use Rattle.charge_tables.proofs.RowCharges.{row-room, gives-charge}
+use Rattle.charge_tables.proofs.update_charge.Statement.{statement}
+use Rattle.charge_tables.proofs.update_charge.Tie as tie
+
+abbrev Inv-loop : tie.InvT-loop
+Inv-loop rules parts memo₀ channels count parts-count p mask set total₀ left₀ r₀ memo total left r =
+    let d = shapeOf rules parts channels count parts-count in
+    Walk set left r × Through set count (Summing d 1 (heard d p (bitsOf 32 mask)) memo total) r
+
+abbrev μ-loop : tie.MeasureT-loop
+μ-loop rules parts memo₀ channels count parts-count p mask set total₀ left₀ r₀ memo total left r = 64 - r
+
+loop-holds : tie.Need-loop-holds Inv-loop μ-loop
+loop-holds c =
+    let s = c .before .before .before .before .before in
+    let n = c .lowest .ensures in
+    let set = c .before .active .ensures in (
+      walk-first n,
+      through-next n (omega arith) (s .pre .0 .tables .few-rules)
+          (λ i a b f w. skip w (heard-no (s .pre .0 .tables) i b (s .args .mask) (s .args .p) (s .pre .1) (sym (set .each i b) ∙ f)))
+          (none-yet (record { value = refl; memo = s .pre .0 .memo })),
+    )
+
+known-charges-requires : tie.Need-known-charges-requires Inv-loop μ-loop
+known-charges-requires c κs =
+    let s = c .before .before .before .before .before .before .before .before in
+    let i = c .before .before .loop in
+    let k = c .before .loop-test .taken in
+    let y = sym (c .before .before .before .before .active .ensures .each (i .r) k) ∙ i .inv .1 .found (omega arith) in (
+      record { tables = s .pre .0 .tables; memo = i .inv .1 .done .sum .memo },
+      k,
+      hears-carried (s .pre .0 .tables) (i .r) k (s .args .mask) (s .args .p) (s .pre .1) y,
+    )
+
+-- the entry that is read
+column : (k : tie.After-known-charges Inv-loop μ-loop)
+    → let t = k .before .before in
+    Column (k .known-charges .last .1 .1 .0) (t .before .loop .r) (t .before .before .before .before .before .before .before .args .p)
+column k =
+    let t = k .before .before in
+    let s = t .before .before .before .before .before .before .before in
+    let h = s .pre .0 .tables in
+    let l = t .loop-test .taken in
+    column-of _ _ _ _ (s .pre .1) (h .few-parts) (lt-of-lt-of-le l (h .few-rules)) (row-room h (k .known-charges .ensures .memo) _ l)
+
+sub-capped-sum : tie.Need-sub-capped-sum Inv-loop μ-loop
+sub-capped-sum c =
+    let s = c .before .before .before .before .before .before .before .before .before .before .before .before in
+    let w = c .before .before .before .known-charges .ensures .known .known (s .args .p) (s .pre .1) in
+    omega arith
+
+capped-sum-requires : tie.Need-capped-sum-requires Inv-loop μ-loop
+capped-sum-requires c κs =
+    let s = c .before .before .before .before .before .before .before .before .before .before .before .before in
+    let g = gives-charge (s .pre .0 .tables) (c .before .before .before .known-charges .ensures) (s .args .p) (s .pre .1) in
+    omega (arith, small (c .before .before .before .before .before .before .loop .inv .1 .done .sum), small g)
+
+loop-less : tie.Need-loop-less Inv-loop μ-loop
+loop-less c =
+    let w = c .before .before .before .before .before .before .before .before .before .loop .inv .0 in
+    let n = walk-on w (c .before .rest .ensures) (c .lowest2 .ensures) in
+    omega (arith, n .on (omega arith), n .most)
+
+loop-again : tie.Need-loop-again Inv-loop μ-loop
+loop-again c =
+    let s = c .before .before .before .before .before .before .before .before .before .before .before .before .before .before .before in
+    let h = s .pre .0 .tables in
+    let i = c .before .before .before .before .before .before .before .before .before .loop in
+    let k = c .before .before .before .before .before .before .before .before .loop-test .taken in
+    let set = c .before .before .before .before .before .before .before .before .before .before .before .active .ensures in
+    let left = c .before .rest .ensures in
+    let low = c .lowest2 .ensures in (
+      walk-next (i .inv .0) left low,
+      through-next (walk-on (i .inv .0) left low) (omega arith) (h .few-rules)
+          (λ i a b f w. skip w (heard-no h i b (s .args .mask) (s .args .p) (s .pre .1) (sym (set .each i b) ∙ f)))
+          (more (through-here (i .inv .1) k)
+          (heard-yes h (i .r) k (s .args .mask) (s .args .p) (s .pre .1)
+          (sym (set .each (i .r) k) ∙ i .inv .1 .found (omega arith)))
+          (gives-charge h (c .before .before .before .before .before .before .known-charges .ensures) (s .args .p) (s .pre .1)) (c .before .before .capped-sum .ensures)),
+    )
+
+same-length : tie.Need-same-length Inv-loop μ-loop
+same-length c = c .before .loop .inv .1 .done .sum .memo .long ∙ sym (c .before .before .before .before .before .before .before .pre .0 .memo .long)
+
+returns : tie.Need-returns Inv-loop μ-loop
+returns c =
+    let s = c .before .before .before .before .before .before .before in
+    same (through-all (c .before .loop .inv .1) (c .loop-test .left) .sum)
+    (update-all (s .pre .0 .tables) (s .args .p) (s .pre .1) (bitsOf 32 (s .args .mask)))
+
+pub update-charge-spec : {M : Type 1} → statement M
+update-charge-spec =
+    tie.close
+    (tie.spec
+    Inv-loop
+    μ-loop
+    (λ c κs. (c .before .before .before .pre .0 .tables, c .before .before .before .pre .1))
+    (λ c κs. tt)
+    loop-holds
+    known-charges-requires
+    (λ c. column (c .before .before) .start)
+    (λ c. column (c .before .before) .place)
+    (λ c. column (c .before .before) .bytes)
+    (λ c. column (c .before .before .before) .inside)
+    sub-capped-sum
+    capped-sum-requires
+    (λ c κs. tt)
+    (λ c κs. tt)
+    loop-less
+    loop-again
+    same-length
+    returns)

@@ -1,0 +1,26 @@
+use mathlib.Core.Path.{sym, ap}
+use Rattle.deck.specs.Marks.{wrongOf}
+use borrow.Author.Needs.{needs}
+use Rattle.reading.proofs.wrong.Statement.{statement}
+use Rattle.reading.proofs.wrong.Tie as tie
+use Rattle.reading.proofs.wrong.Reads as reads
+use Rattle.reading.proofs.wrong.Lts as lts
+
+-- src/lib.rt:603:20
+enum-known-step : tie.Need-enum-known-step
+enum-known-step c = search needs
+
+-- src/lib.rt:607:23
+enum-known-step-2 : tie.Need-enum-known-step-2
+enum-known-step-2 c = search needs
+
+-- src/lib.rt:599:1
+returns : tie.Need-returns
+returns c = ap wrongOf (sym (c .before .step .given .1))
+
+-- src/lib.rt:599:1
+returns-2 : tie.Need-returns-2
+returns-2 c = ap wrongOf (sym (c .before .step2 .given .1))
+
+pub wrong-spec : {M : Type 1} → statement M
+wrong-spec = tie.close (tie.spec enum-known-step enum-known-step-2 returns returns-2)
