@@ -57,18 +57,7 @@ fn test_state(
         };
     }
     let n = pending as usize;
-    let good = states::judge(
-        rules,
-        parts,
-        memo,
-        index,
-        counts.channels,
-        counts.rules,
-        counts.parts,
-        values,
-        n,
-        pool,
-    );
+    let good = states::judge(rules, parts, memo, index, counts.channels, counts.rules, counts.parts, values, n, pool);
     match good {
         states::Goodness::Good(charge) => Tested::Ready {
             counts: counts,

@@ -87,19 +87,7 @@ fn commit_on(
                     place: 0,
                 };
             }
-            commit_tested(
-                deck,
-                counts,
-                rules,
-                &parts,
-                memo,
-                index,
-                pool,
-                values,
-                pending,
-                charge,
-                place,
-            )
+            commit_tested(deck, counts, rules, &parts, memo, index, pool, values, pending, charge, place)
         }
     }
 }

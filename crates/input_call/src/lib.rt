@@ -95,22 +95,7 @@ fn enter(
     let mut after = *values;
     firing::assign_pairs(&mut after, p, pairs);
     let capacity = (pool.len() / Deck::PLACE) as u32;
-    let queue = steps::react(
-        deck,
-        counts,
-        rules,
-        parts,
-        memo,
-        index,
-        pool,
-        0,
-        capacity,
-        n,
-        charge,
-        &after,
-        p,
-        changed,
-    );
+    let queue = steps::react(deck, counts, rules, parts, memo, index, pool, 0, capacity, n, charge, &after, p, changed);
     if queue.full {
         take_back(pool, n);
         return input_refused(refusals::OVER_CAPACITY);
@@ -177,31 +162,11 @@ fn input_with(
     if reading::few_rules(deck) {
         let mut short = [0u64; passing::SHORT_RULES];
         let mut small = [0u32; passing::SHORT_MEMO];
-        return input_on(
-            deck,
-            pool,
-            values,
-            pending,
-            part,
-            pairs,
-            index,
-            &mut short,
-            &mut small,
-        );
+        return input_on(deck, pool, values, pending, part, pairs, index, &mut short, &mut small);
     }
     let mut rules = [0u64; passing::RULES];
     let mut memo = [0u32; passing::MEMO];
-    input_on(
-        deck,
-        pool,
-        values,
-        pending,
-        part,
-        pairs,
-        index,
-        &mut rules,
-        &mut memo,
-    )
+    input_on(deck, pool, values, pending, part, pairs, index, &mut rules, &mut memo)
 }
 
 // The input on memory that is lent: values and pending number change only when it is accepted.

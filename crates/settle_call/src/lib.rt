@@ -53,20 +53,7 @@ fn settle_tested(
         }
         let gone = made as usize;
         let from = Deck::PLACE * gone;
-        let step = steps::commit_front(
-            deck,
-            counts,
-            rules,
-            parts,
-            memo,
-            index,
-            &mut pool[from..],
-            gone,
-            capacity - made,
-            values,
-            left,
-            total,
-        );
+        let step = steps::commit_front(deck, counts, rules, parts, memo, index, &mut pool[from..], gone, capacity - made, values, left, total);
         left = step.pending;
         total = step.charge;
         made += 1;
@@ -105,20 +92,7 @@ fn settle_on(
                 };
             }
             let capacity = (pool.len() / Deck::PLACE) as u32;
-            settle_tested(
-                deck,
-                counts,
-                rules,
-                &parts,
-                memo,
-                index,
-                pool,
-                capacity,
-                values,
-                pending,
-                charge,
-                budget,
-            )
+            settle_tested(deck, counts, rules, &parts, memo, index, pool, capacity, values, pending, charge, budget)
         }
     }
 }
