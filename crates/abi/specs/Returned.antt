@@ -1,5 +1,6 @@
 -- The replies of the six calls as a host in C sees them. Assumes nothing.
 use Prim.Native.Nat.{ℕ}
+use mathlib.Core.Bool.{Bool, true, false}
 use mathlib.Core.List.{List, [], _∷_}
 use Rattle.refusals.specs.Outcome.{Outcome}
 use Rattle.pool.specs.States.{Memory}
@@ -20,6 +21,16 @@ arrayOf n = answeredOf (n .number) (n .place ∷ n .values)
 -- an outcome as it is returned
 abbrev pub answered : Outcome Answer → Answered
 answered o = arrayOf (numbersOf o)
+
+-- a flag as a number
+unfoldable pub bit : Bool → ℕ
+bit true = 1
+bit false = 0
+
+-- the numbers of a call that answers at most two
+abbrev pub numbersAt : ℕ → ℕ → ℕ → ℕ → Numbers
+numbersAt number place first second =
+    record { number = number; place = place; values = first ∷ second ∷ 0 ∷ 0 ∷ [] }
 
 -- a call that works on a state and a pool: what lies behind the pointers afterwards
 pub record Returned : Type 0 where

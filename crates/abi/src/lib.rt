@@ -3,8 +3,11 @@
 ghost use mathlib.Core.Path.{_≡_};
 ghost use mathlib.Core.List.{[], _∷_};
 ghost use Rattle.calls.specs.Calls as Calls;
-ghost use Rattle.calls.specs.Answers.{memoryAt};
-ghost use Rattle.abi.specs.Returned.{answeredOf, answered, returnedOf, returned, returnedSectionOf, returnedSection};
+ghost use Rattle.calls.specs.Answers.{memoryAt, numbersOf};
+ghost use Rattle.calls.specs.Requests.{requested, outcomeTo};
+ghost use Rattle.abi.specs.Returned.{answeredOf, answered, bit, numbersAt, returnedOf, returned, returnedSectionOf, returnedSection};
+use calls::Request;
+use calls::Response;
 use deck::Deck;
 use pool::State;
 
@@ -91,6 +94,54 @@ pub extern "C" fn reaction_start(
     }
 }
 
+// What input, commit and settle return: the refusal's number and place, and the first two answer numbers.
+pub struct Numbers {
+    pub number: u32,
+    pub place: u32,
+    pub first: u32,
+    pub second: u32,
+}
+
+fn as_number(flag: bool) -> u32
+    ensures { λ r. ⌜ r ≡ bit flag ⌝ }
+{
+    if flag { 1 } else { 0 }
+}
+
+fn numbers_of(request: Request, told: Response) -> Numbers
+    ensures { λ r. ⌜ numbersAt (r .number) (r .place) (r .first) (r .second) ≡ numbersOf (outcomeTo request told) ⌝ }
+{
+    match told {
+        Response::Refused { number, place } => Numbers { number, place, first: 0, second: 0 },
+        Response::Done { flag, number: n } => {
+            let one = as_number(flag);
+            match request {
+                Request::Input(_) => Numbers { number: 0, place: 0, first: n, second: 0 },
+                Request::Commit(_) => Numbers { number: 0, place: 0, first: one, second: n },
+                Request::Settle(_) => Numbers { number: 0, place: 0, first: n, second: one },
+            }
+        }
+    }
+}
+
+// Input, commit and settle.
+fn call(
+    deck: &[u8],
+    pool: &mut [i32],
+    values: &mut [i32; Deck::VALUES],
+    pending: &mut u32,
+    request: Request,
+    pairs: &[i32],
+    answer: &mut [u32; 5],
+) -> u32
+    ensures { λ r. ⌜ returnedOf r (now (answer .exit)) (memoryAt (now (values .exit)) (now (pending .exit)) (now (pool .exit))) ≡ returned (requested (now (deck .entry)) (memoryAt (now (values .entry)) (now (pending .entry)) (now (pool .entry))) request (now (pairs .entry))) ⌝ }
+{
+    let told = lent_calls::call_lent(deck, pool, values, pending, request, pairs);
+    let n = numbers_of(request, told);
+    write(answer, n.place, n.first, n.second, 0, 0);
+    n.number
+}
+
 #[no_mangle]
 pub extern "C" fn reaction_input(
     deck: &[u8],
@@ -103,17 +154,7 @@ pub extern "C" fn reaction_input(
 ) -> u32
     ensures { λ r. ⌜ returnedOf r (now (answer .exit)) (memoryAt (now (values .exit)) (now (pending .exit)) (now (pool .exit))) ≡ returned (Calls.input (now (deck .entry)) (memoryAt (now (values .entry)) (now (pending .entry)) (now (pool .entry))) part (now (pairs .entry))) ⌝ }
 {
-    let reply = input_call::input_lent(deck, pool, values, pending, part, pairs);
-    match reply {
-        calls::InputAnswer::Added(charge) => {
-            write(answer, 0, charge, 0, 0, 0);
-            0
-        }
-        calls::InputAnswer::Refused { number, place } => {
-            write(answer, place, 0, 0, 0, 0);
-            number
-        }
-    }
+    call(deck, pool, values, pending, Request::Input(part), pairs, answer)
 }
 
 #[no_mangle]
@@ -127,21 +168,8 @@ pub extern "C" fn reaction_commit(
 ) -> u32
     ensures { λ r. ⌜ returnedOf r (now (answer .exit)) (memoryAt (now (values .exit)) (now (pending .exit)) (now (pool .exit))) ≡ returned (Calls.commit (now (deck .entry)) (memoryAt (now (values .entry)) (now (pending .entry)) (now (pool .entry))) place) ⌝ }
 {
-    let reply = commit_call::commit_lent(deck, pool, values, pending, place);
-    match reply {
-        calls::CommitAnswer::Applied(charge) => {
-            write(answer, 0, 1, charge, 0, 0);
-            0
-        }
-        calls::CommitAnswer::Discarded(charge) => {
-            write(answer, 0, 0, charge, 0, 0);
-            0
-        }
-        calls::CommitAnswer::Refused { number, place: p } => {
-            write(answer, p, 0, 0, 0, 0);
-            number
-        }
-    }
+    let none = [0i32; 0];
+    call(deck, pool, values, pending, Request::Commit(place), &none, answer)
 }
 
 #[no_mangle]
@@ -155,19 +183,6 @@ pub extern "C" fn reaction_settle(
 ) -> u32
     ensures { λ r. ⌜ returnedOf r (now (answer .exit)) (memoryAt (now (values .exit)) (now (pending .exit)) (now (pool .exit))) ≡ returned (Calls.settle (now (deck .entry)) (memoryAt (now (values .entry)) (now (pending .entry)) (now (pool .entry))) budget) ⌝ }
 {
-    let reply = settle_call::settle_lent(deck, pool, values, pending, budget);
-    match reply {
-        calls::SettleAnswer::Settled(commits) => {
-            write(answer, 0, commits, 1, 0, 0);
-            0
-        }
-        calls::SettleAnswer::Spent(commits) => {
-            write(answer, 0, commits, 0, 0, 0);
-            0
-        }
-        calls::SettleAnswer::Refused { number, place } => {
-            write(answer, place, 0, 0, 0, 0);
-            number
-        }
-    }
+    let none = [0i32; 0];
+    call(deck, pool, values, pending, Request::Settle(budget), &none, answer)
 }

@@ -3,3 +3,4 @@ pub mod Opening
 pub mod Checks
 pub mod Inputs
 pub mod Settling
+pub mod Requests

@@ -1,5 +1,6 @@
 -- Document 01, "Calls" and "When a call declines": the six calls.
 pub mod Calls
 pub mod Answers
+pub mod Requests
 pub mod Line
 pub mod Laws

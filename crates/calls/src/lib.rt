@@ -41,6 +41,19 @@ pub enum SettleAnswer {
     Refused { number: u32, place: u32 },
 }
 
+// What input, commit and settle are asked for: a part, a place, a budget.
+pub enum Request {
+    Input(u32),
+    Commit(u32),
+    Settle(u32),
+}
+
+// What they answer before it has the form of their own answers: a number and a flag, which specs/Requests.antt reads by the request.
+pub enum Response {
+    Done { flag: bool, number: u32 },
+    Refused { number: u32, place: u32 },
+}
+
 pub struct Started {
     pub answer: StartAnswer,
     pub state: State,

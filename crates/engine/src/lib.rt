@@ -1,11 +1,19 @@
 // The six published calls. Types of their answers and definitions are in `calls`; behind check, section and start is `deck_calls`,
-// behind the others `input_call`, `commit_call` and `settle_call`.
+// behind the others `lent_calls`.
+ghost use Prim.Native.Nat.{ℕ};
 ghost use mathlib.Core.Path.{_≡_};
 ghost use Rattle.calls.specs.Calls as Calls;
 ghost use Rattle.calls.specs.Answers.{checkOutcome, sectionOf, startOutcome, inputOutcome, commitOutcome, settleOutcome, memoryOf, replyOf};
+ghost use Rattle.calls.specs.Requests.{outcomeTo};
+ghost use Rattle.calls.specs.declared.Request.the-variants as Asked;
 use calls::CheckAnswer;
+use calls::CommitAnswer;
 use calls::Committed;
 use calls::Entered;
+use calls::InputAnswer;
+use calls::Request;
+use calls::Response;
+use calls::SettleAnswer;
 use calls::Settled;
 use calls::Started;
 use pool::State;
@@ -53,13 +61,54 @@ pub fn start(deck: &[u8], pool: &mut [i32]) -> Started
     deck_calls::start_with(deck, pool, &mut rules, &mut memo)
 }
 
+// What input, commit and settle answer, each in its own words.
+fn input_answer(told: Response) -> InputAnswer
+    ensures { λ r. ⌜ ((part : ℕ) → inputOutcome r ≡ outcomeTo (Asked.Input part) told) ⌝ }
+{
+    match told {
+        Response::Done { flag: _, number } => InputAnswer::Added(number),
+        Response::Refused { number, place } => InputAnswer::Refused { number, place },
+    }
+}
+
+fn commit_answer(told: Response) -> CommitAnswer
+    ensures { λ r. ⌜ ((place : ℕ) → commitOutcome r ≡ outcomeTo (Asked.Commit place) told) ⌝ }
+{
+    match told {
+        Response::Done { flag, number } => {
+            if flag {
+                CommitAnswer::Applied(number)
+            } else {
+                CommitAnswer::Discarded(number)
+            }
+        }
+        Response::Refused { number, place } => CommitAnswer::Refused { number, place },
+    }
+}
+
+fn settle_answer(told: Response) -> SettleAnswer
+    ensures { λ r. ⌜ ((budget : ℕ) → settleOutcome r ≡ outcomeTo (Asked.Settle budget) told) ⌝ }
+{
+    match told {
+        Response::Done { flag, number } => {
+            if flag {
+                SettleAnswer::Settled(number)
+            } else {
+                SettleAnswer::Spent(number)
+            }
+        }
+        Response::Refused { number, place } => SettleAnswer::Refused { number, place },
+    }
+}
+
 // The values of channels of a part are set; the limit is not tested. The answer is the charge added.
 pub fn input(deck: &[u8], pool: &mut [i32], state: State, part: u32, pairs: &[i32]) -> Entered
     ensures { λ r. ⌜ replyOf (inputOutcome (r .answer)) (r .state) (now (pool .exit)) ≡ Calls.input (now (deck .entry)) (memoryOf state (now (pool .entry))) part (now (pairs .entry)) ⌝ }
 {
     let mut values = state.values;
     let mut pending = state.pending;
-    let answer = input_call::input_lent(deck, pool, &mut values, &mut pending, part, pairs);
+    let told = lent_calls::call_lent(deck, pool, &mut values, &mut pending, Request::Input(part), pairs);
+    let answer = input_answer(told);
     let later = State {
         values: values,
         pending: pending,
@@ -76,7 +125,9 @@ pub fn commit(deck: &[u8], pool: &mut [i32], state: State, place: u32) -> Commit
 {
     let mut values = state.values;
     let mut pending = state.pending;
-    let answer = commit_call::commit_lent(deck, pool, &mut values, &mut pending, place);
+    let none = [0i32; 0];
+    let told = lent_calls::call_lent(deck, pool, &mut values, &mut pending, Request::Commit(place), &none);
+    let answer = commit_answer(told);
     let later = State {
         values: values,
         pending: pending,
@@ -94,7 +145,9 @@ pub fn settle(deck: &[u8], pool: &mut [i32], state: State, budget: u32) -> Settl
 {
     let mut values = state.values;
     let mut pending = state.pending;
-    let answer = settle_call::settle_lent(deck, pool, &mut values, &mut pending, budget);
+    let none = [0i32; 0];
+    let told = lent_calls::call_lent(deck, pool, &mut values, &mut pending, Request::Settle(budget), &none);
+    let answer = settle_answer(told);
     let later = State {
         values: values,
         pending: pending,

@@ -27,10 +27,6 @@ use Rattle.commit_call.specs.Committed.{committedAs, CommitsAs}
 use Rattle.call_tests.specs.Laws.StoredMemory.{left-memory, stored-left}
 
 module _ (s : List ℕ) (m : Memory) (k : ℕ) where
-  pub commit-declined : (n p : ℕ) → tested s m ≡ refused n p → commit s m k ≡ record { answer = refused n p; memory = m }
-  unfolding commit reply outcomes
-  commit-declined n p e = rw e
-
   pub commit-no-place : (d : Deck) → tested s m ≡ accepted d → m .state .pending ≤ k
       → commit s m k ≡ record { answer = refused placeNotPending 0; memory = m }
   unfolding commit reply outcomes

@@ -11,15 +11,10 @@ use Rattle.pool.specs.Places.{capacity}
 use Rattle.pool.specs.States.{Memory, load}
 use Rattle.passing.specs.Tabled.{deckOf}
 use Rattle.calls.specs.Calls.{Answer, Done, reply, tested, input}
-use Rattle.calls.specs.Answers.{memoryAt, replyOf, replyAt}
+use Rattle.calls.specs.Answers.{memoryAt, replyAt}
 use Rattle.call_tests.specs.Tested.{Passed}
 use Rattle.input_call.specs.Entered.{entered, Leaves, Enters}
 use Rattle.call_tests.specs.Laws.StoredMemory.{left-memory}
-
-pub input-refused : (s : List ℕ) (m : Memory) (p : ℕ) (l : List ℤ) (n at : ℕ) → tested s m ≡ refused n at
-    → replyOf (refused n at) (m .state) (m .pool) ≡ input s m p l
-unfolding input reply outcomes
-input-refused s m p l n at e = rw e
 
 input-entered : (s : List ℕ) (m : Memory) (p : ℕ) (l : List ℤ) (d : Deck) → tested s m ≡ accepted d
     → input s m p l ≡ reply m (entered d (capacity (length (m .pool))) (load m) p l)

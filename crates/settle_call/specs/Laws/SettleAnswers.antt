@@ -22,10 +22,6 @@ use Rattle.settle_call.specs.Settled.{settledAs, Settles}
 use Rattle.call_tests.specs.Laws.StoredMemory.{left-memory}
 
 module _ (s : List ℕ) (m : Memory) (budget : ℕ) where
-  pub settle-refused : (n p : ℕ) → tested s m ≡ refused n p → settle s m budget ≡ replyOf (refused n p) (m .state) (m .pool)
-  unfolding settle reply outcomes
-  settle-refused n p e = rw e
-
   pub settle-over : (d : Deck) → tested s m ≡ accepted d → 65535 < budget
       → settle s m budget ≡ replyOf (refused budgetTooLarge 0) (m .state) (m .pool)
   unfolding settle reply outcomes

@@ -1,0 +1,115 @@
+// Input, commit and settle on memory that is lent: the tables that a call works on, the tests, and what is asked for.
+ghost use mathlib.Core.Path.{_≡_};
+ghost use lib.ListN.{length};
+ghost use Rattle.calls.specs.Answers.{memoryAt, replyAt};
+ghost use Rattle.calls.specs.Requests.{requested, outcomeTo};
+ghost use Rattle.call_tests.specs.Tested.{Usable, Passed};
+ghost use Rattle.passing.specs.Judged.{ZeroRules, ZeroMemo};
+use call_tests::Tested;
+use calls::Request;
+use calls::Response;
+use deck::Deck;
+
+// What is asked for, on what was tested.
+fn call_tested(
+    deck: &[u8],
+    counts: Deck,
+    rules: &[u64],
+    parts: &[u64],
+    memo: &mut [u32],
+    index: &mut [u16],
+    pool: &mut [i32],
+    values: &mut [i32; Deck::VALUES],
+    pending: &mut u32,
+    charge: u32,
+    request: Request,
+    pairs: &[i32],
+) -> Response
+    requires { ⌜ Passed (now deck) (now rules) (now parts) (now memo) (now index) (memoryAt (now values) (now pending) (now pool)) counts charge ⌝ }
+    ensures { λ r. ⌜ replyAt (outcomeTo request r) (now (values .exit)) (now (pending .exit)) (now (pool .exit)) ≡ requested (now (deck .entry)) (memoryAt (now (values .entry)) (now (pending .entry)) (now (pool .entry))) request (now (pairs .entry)) ⌝ }
+{
+    match request {
+        Request::Input(part) => input_call::input_tested(deck, counts, rules, parts, memo, index, pool, values, pending, charge, part, pairs),
+        Request::Commit(place) => commit_call::commit_tested(deck, counts, rules, parts, memo, index, pool, values, pending, charge, place),
+        Request::Settle(budget) => settle_call::settle_tested(deck, counts, rules, parts, memo, index, pool, values, pending, charge, budget),
+    }
+}
+
+// The call with an index, a table of rules and a memo that are long enough for the pool and the deck.
+fn call_on(
+    deck: &[u8],
+    pool: &mut [i32],
+    values: &mut [i32; Deck::VALUES],
+    pending: &mut u32,
+    request: Request,
+    pairs: &[i32],
+    index: &mut [u16],
+    rules: &mut [u64],
+    memo: &mut [u32],
+) -> Response
+    requires { ⌜ Usable (length (now pool)) (now index) × ZeroRules (now deck) (now rules) × ZeroMemo (now deck) (now memo) ⌝ }
+    ensures { λ r. ⌜ replyAt (outcomeTo request r) (now (values .exit)) (now (pending .exit)) (now (pool .exit)) ≡ requested (now (deck .entry)) (memoryAt (now (values .entry)) (now (pending .entry)) (now (pool .entry))) request (now (pairs .entry)) ⌝ }
+{
+    let mut parts = [0u64; 64];
+    let found = call_tests::test_lent(deck, rules, &mut parts, memo, index, pool, values, *pending);
+    match found {
+        Tested::Refused { number, place } => Response::Refused { number, place },
+        Tested::Ready { counts, charge } => {
+            call_tested(deck, counts, rules, &parts, memo, index, pool, values, pending, charge, request, pairs)
+        }
+    }
+}
+
+// The call with an index that is long enough for the pool.
+fn call_with(
+    deck: &[u8],
+    pool: &mut [i32],
+    values: &mut [i32; Deck::VALUES],
+    pending: &mut u32,
+    request: Request,
+    pairs: &[i32],
+    index: &mut [u16],
+) -> Response
+    requires { ⌜ Usable (length (now pool)) (now index) ⌝ }
+    ensures { λ r. ⌜ replyAt (outcomeTo request r) (now (values .exit)) (now (pending .exit)) (now (pool .exit)) ≡ requested (now (deck .entry)) (memoryAt (now (values .entry)) (now (pending .entry)) (now (pool .entry))) request (now (pairs .entry)) ⌝ }
+{
+    if reading::few_rules(deck) {
+        let mut short = [0u64; passing::SHORT_RULES];
+        let mut small = [0u32; passing::SHORT_MEMO];
+        return call_on(deck, pool, values, pending, request, pairs, index, &mut short, &mut small);
+    }
+    let mut rules = [0u64; passing::RULES];
+    let mut memo = [0u32; passing::MEMO];
+    call_on(deck, pool, values, pending, request, pairs, index, &mut rules, &mut memo)
+}
+
+// The call on memory that is lent: values and pending number change only when it is accepted.
+pub fn call_lent(
+    deck: &[u8],
+    pool: &mut [i32],
+    values: &mut [i32; Deck::VALUES],
+    pending: &mut u32,
+    request: Request,
+    pairs: &[i32],
+) -> Response
+    ensures { λ r. ⌜ replyAt (outcomeTo request r) (now (values .exit)) (now (pending .exit)) (now (pool .exit)) ≡ requested (now (deck .entry)) (memoryAt (now (values .entry)) (now (pending .entry)) (now (pool .entry))) request (now (pairs .entry)) ⌝ }
+{
+    if pool.len() <= call_tests::TINY_POOL {
+        let mut tiny = [0u16; call_tests::TINY_INDEX];
+        return call_with(deck, pool, values, pending, request, pairs, &mut tiny);
+    }
+    if pool.len() <= call_tests::SMALL_POOL {
+        let mut small = [0u16; call_tests::SMALL_INDEX];
+        return call_with(deck, pool, values, pending, request, pairs, &mut small);
+    }
+    if pool.len() <= call_tests::SHORT_POOL {
+        let mut short = [0u16; call_tests::SHORT_INDEX];
+        return call_with(deck, pool, values, pending, request, pairs, &mut short);
+    }
+    if pool.len() <= call_tests::MIDDLE_POOL {
+        let mut middle = [0u16; call_tests::MIDDLE_INDEX];
+        return call_with(deck, pool, values, pending, request, pairs, &mut middle);
+    }
+    let mut index = [0u16; call_tests::INDEX];
+    call_with(deck, pool, values, pending, request, pairs, &mut index)
+}
