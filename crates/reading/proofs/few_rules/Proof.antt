@@ -1,4 +1,4 @@
--- `deck::few_rules` meets its contract: the byte behind the labels. Assumes nothing.
+-- `reading::few_rules` meets its contract: the byte behind the labels. Assumes nothing.
 use Prim.Native.Nat.{ℕ, _+_}
 use mathlib.Core.Path.{_≡_, sym, ap, _∙_}
 use mathlib.Core.Bool.{false, false≢true}

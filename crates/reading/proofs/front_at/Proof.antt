@@ -1,4 +1,4 @@
--- `deck::front_at` meets its contract: count of channels, labels, count of rules and rules, one after the other. Assumes nothing.
+-- `reading::front_at` meets its contract: count of channels, labels, count of rules and rules, one after the other. Assumes nothing.
 use mathlib.Core.Path.{refl}
 use native.Mathlib.Omega.{arith}
 use lib.ListN.{drop}

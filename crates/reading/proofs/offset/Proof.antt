@@ -1,3 +1,4 @@
+-- `reading::offset` meets its contract. Assumes nothing.
 use mathlib.Core.Path.{sym}
 use native.Mathlib.Omega.{arith}
 use borrow.Author.Needs.{needs}
@@ -8,22 +9,18 @@ use Rattle.reading.proofs.offset.Tie as tie
 use Rattle.reading.proofs.offset.Reads as reads
 use Rattle.reading.proofs.offset.Lts as lts
 
--- src/lib.rt:654:9
 returns : tie.Need-returns
 unfolding offsetOf
 returns c = search needs
 
--- src/lib.rt:657:9
 returns-2 : tie.Need-returns-2
 unfolding offsetOf
 returns-2 c = search needs
 
--- src/lib.rt:660:9
 returns-3 : tie.Need-returns-3
 unfolding offsetOf
 returns-3 c = search needs
 
--- src/lib.rt:650:1
 returns-4 : tie.Need-returns-4
 returns-4 c =
     let a = c .before .before .before .args in

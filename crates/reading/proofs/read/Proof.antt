@@ -1,4 +1,4 @@
--- `deck::read` meets its contract: the first two sections, the count of parts, the parts and the end. Assumes nothing.
+-- `reading::read` meets its contract: the first two sections, the count of parts, the parts and the end. Assumes nothing.
 use Prim.Native.Nat.{_≤_}
 use mathlib.Core.Path.{_≡_, _∙_}
 use native.Mathlib.Omega.{arith}

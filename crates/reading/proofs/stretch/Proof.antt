@@ -1,3 +1,4 @@
+-- `reading::stretch` meets its contract: the ends of the part, in order. Assumes nothing.
 use Prim.Native.Nat.{_≤_, _-_}
 use mathlib.Core.Path.{_∙_, ap, ap₂}
 use native.Mathlib.Omega.{arith}
@@ -12,15 +13,12 @@ use Rattle.reading.proofs.stretch.Reads as reads
 use Rattle.reading.proofs.stretch.Lts as lts
 use Rattle.reading.proofs.offset.Reads as offset-reads
 
--- src/lib.rt:670:9
 offset-requires : tie.Need-offset-requires
 offset-requires c κs = search needs
 
--- src/lib.rt:671:27
 add-offset : tie.Need-add-offset
 add-offset c = search needs
 
--- src/lib.rt:671:9
 offset-requires-2 : tie.Need-offset-requires-2
 offset-requires-2 c κs = search needs
 
@@ -34,19 +32,15 @@ ordered c =
     let f = c .offset2 .ensures ∙ ap (offsetOf (a .deck .second) (a .deck .third) (length (a .bytes .now))) (add-one (a .number)) in
     (omega (arith, e, f, o .0), omega (arith, f, o .1))
 
--- src/lib.rt:672:5
 sub-result : tie.Need-sub-result
 sub-result c = ordered c .0
 
--- src/lib.rt:672:5
 part-result-start : tie.Need-part-result-start
 part-result-start c = ordered c .0
 
--- src/lib.rt:672:5
 part-result-end : tie.Need-part-result-end
 part-result-end c = ordered c .1
 
--- src/lib.rt:666:1
 returns : tie.Need-returns
 unfolding stretchOf
 returns c =
