@@ -1,6 +1,5 @@
 -- Laws that the proofs of the functions cite.
 pub mod Sets
-pub mod Columns
 pub mod Terms
 pub mod Heights
 pub mod Sums
@@ -8,5 +7,3 @@ pub mod Rows
 pub mod Memos
 pub mod Tabled
 pub mod RowCharges
-pub mod Search
-pub mod ByRules

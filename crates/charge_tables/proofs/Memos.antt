@@ -9,21 +9,15 @@ use lib.ListN.{length, getD}
 use Rattle.deck.specs.Deck.{Deck, N}
 use Rattle.charge.specs.Charge.{ruleCharge}
 use Rattle.charge.specs.Memo.{Memo, RowKnown, Keeps, capped}
+use Rattle.charge_tables.specs.Laws.Entries.{row-at}
 
 module _ {d : Deck} {m : List ℕ} (h : Memo d m) (few : N d ≤ 16) where
-  -- the charges of a known row
-  pub row-at : (r q : ℕ) → q < N d → (getD m (16 * r + q) 0 ≡ 0 → ⊥) → getD m (16 * r + q) 0 ≡ suc (capped (ruleCharge d q r))
-  row-at r q l w =
-      let a : (16 * r + q) % 16 ≡ q = omega arith in
-      let b : (16 * r + q) / 16 ≡ r = omega arith in
-      h .right (16 * r + q) w ∙ ap₂ (λ q s. suc (capped (ruleCharge d q s))) a b
-
   -- a row is known where its first entry is
   pub row-known : (r : ℕ) → (getD m (16 * r) 0 ≡ 0 → ⊥) → RowKnown (N d) r m
   row-known r w =
       record {
         known = λ q l. h .whole r q l w;
-        low = λ q l. omega (arith, row-at r q l (h .whole r q l w));
+        low = λ q l. omega (arith, row-at h few r q l (h .whole r q l w));
       }
 
 pub keeps-same : {m : List ℕ} → Keeps m m

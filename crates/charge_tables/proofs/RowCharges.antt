@@ -16,13 +16,13 @@ use Rattle.deck.specs.Deck.{Deck, N}
 use Rattle.deck.specs.Shape.{bitsOf, shapeOf}
 use Rattle.deck.specs.Laws.Shape.{shape-N, shape-kind}
 use Rattle.charge.specs.Charge.{unlessEmpty, updateCharge, ruleCharge}
-use Rattle.charge.specs.Memo.{AcyclicTables, Memo, Answered, RowSmall, RowKnown, RowAdded, RowPut, Keeps, Begun, UpdatesGive, RulesGive, listening, capped}
-use Rattle.charge.specs.Laws.Tables.{memo-long, memo-room}
+use Rattle.charge.specs.Memo.{AcyclicTables, Memo, RowSmall, RowKnown, RowAdded, RowPut, Keeps, Begun, UpdatesGive, RulesGive, listening, capped}
+use Rattle.charge_tables.specs.Laws.Entries.{few-parts, known-at}
 use Rattle.charge_tables.proofs.Sets.{no-channel, some-channel}
 use Rattle.charge_tables.proofs.Terms.{heard, own, given, unless-none, unless-some}
 use Rattle.charge_tables.proofs.Tabled.{update-all, rule-all, listening-heard, not-listening-heard}
 use Rattle.charge_tables.proofs.Rows.{replicate-most, sum-parted, sum-capped}
-use Rattle.charge_tables.proofs.Memos.{Written, row-at, row-known, keeps-same, keeps-trans, put-memo, put-keeps, put-known}
+use Rattle.charge_tables.proofs.Memos.{Written, row-known, keeps-same, keeps-trans, put-memo, put-keeps, put-known}
 
 -- the numbers of f at the first n parts
 pub record RowOf (n : ℕ) (f : ℕ → ℕ) (k : ℕ) (row : List ℕ) : Type 0 where
@@ -69,13 +69,6 @@ module _ {rules parts : List ℕ} {R′ M′ N′ : ℕ} (h : AcyclicTables rule
   abbrev charges : ℕ → ℕ → ℕ
   charges mask q = unlessEmpty (bitsOf 32 mask) (updateCharge d q (bitsOf 32 mask))
 
-  few : N d ≤ 16
-  few = omega (arith, shape-N rules parts R′ M′ N′, h .few-parts)
-
-  -- the row of a rule is within the memo
-  pub row-room : {m : List ℕ} → Memo d m → (r : ℕ) → r < M′ → 16 * r + 16 ≤ length m
-  row-room memo r l = omega (arith, memo-long rules parts R′ M′ N′ memo, memo-room M′ r l (h .few-rules))
-
   pub hearing-none : (mask : ℕ) {row : List ℕ} → row ≡ replicate 16 1 → Hearing d N′ mask 0 row
   hearing-none mask e =
       record {
@@ -83,12 +76,6 @@ module _ {rules parts : List ℕ} {R′ M′ N′ : ℕ} (h : AcyclicTables rule
             (row-replicated 1 N′ 0 (hearsBelow d mask 0) (omega arith) (h .few-parts)
             (λ q. omega (arith, sum-start (heard d q (bitsOf 32 mask)))));
       }
-
-  -- the charges in a known row of the memo
-  pub known-at : {m : List ℕ} {r : ℕ} → Memo d m → RowKnown N′ r m → (q : ℕ) → q < N′
-      → getD m (16 * r + q) 0 ≡ suc (capped (ruleCharge d q r))
-  known-at {m} {r} memo known q l =
-      row-at memo few r q (omega (arith, shape-N rules parts R′ M′ N′)) (known .known q l)
 
   module _ {mask k : ℕ} {row : List ℕ} (w : Hearing d N′ mask k row) (b : k < M′) where
     pub hearing-skip : listening rules parts N′ k mask ≡ false → Hearing d N′ mask (k + 1) row
@@ -114,7 +101,7 @@ module _ {rules parts : List ℕ} {R′ M′ N′ : ℕ} (h : AcyclicTables rule
 
         each : (q : ℕ) → q < N′ → capped (getD row′ q 0) ≡ capped (hearsBelow d mask (k + 1) q)
         each q l =
-            let x = more (bit (getD parts (4 * q) 0) k) _ _ (known-at memo known q l) in
+            let x = more (bit (getD parts (4 * q) 0) k) _ _ (known-at h memo known q l) in
             omega (
               arith,
               x,
@@ -207,17 +194,13 @@ module _ {rules parts : List ℕ} {R′ M′ N′ : ℕ} (h : AcyclicTables rule
   all-known {r} {m} known = subst (λ n. RowKnown n r m) (shape-N rules parts R′ M′ N′) known
 
   pub gives-known : {r : ℕ} {m : List ℕ} → Memo d m → (getD m (16 * r) 0 ≡ 0 → ⊥) → RulesGive rules parts R′ M′ N′ r m m
-  gives-known {r} memo w = record { memo = memo; keeps = keeps-same; known = all-known (row-known memo few r w) }
+  gives-known {r} memo w = record { memo = memo; keeps = keeps-same; known = all-known (row-known memo (few-parts h) r w) }
 
   pub gives-written : {r : ℕ} {m₀ m n : List ℕ} → Memo d m → Keeps m₀ m → Written d r m n
       → RulesGive rules parts R′ M′ N′ r m₀ n
   gives-written memo keeps w =
       record {
-        memo = put-memo memo few w;
-        keeps = keeps-trans keeps (put-keeps memo few w);
-        known = all-known (put-known memo few w);
+        memo = put-memo memo (few-parts h) w;
+        keeps = keeps-trans keeps (put-keeps memo (few-parts h) w);
+        known = all-known (put-known memo (few-parts h) w);
       }
-
-  pub gives-charge : {r : ℕ} {m₀ m : List ℕ} → RulesGive rules parts R′ M′ N′ r m₀ m → (q : ℕ) → q < N′
-      → Answered d (ruleCharge d q r) m (getD m (16 * r + q) 0 - 1)
-  gives-charge g q l = record { value = omega (arith, known-at (g .memo) (g .known) q l); memo = g .memo }

@@ -1,5 +1,5 @@
 -- Rows of numbers, one for each part: entries written one after the other, and what they add up to. Assumes nothing.
-use Prim.Native.Nat.{ℕ, zero, suc, _+_, _*_, _-_, _<_, _≤_, max}
+use Prim.Native.Nat.{ℕ, zero, suc, _+_, _*_, _-_, _<_, _≤_}
 use mathlib.Core.Path.{_≡_, refl, sym, ap, _∙_}
 use mathlib.Core.Logic.{_⊎_, inl, inr, ⊎-elim}
 use mathlib.Core.Bool.{Bool, true, false, not, cond}
@@ -10,35 +10,13 @@ use native.Mathlib.Decide.{decLt}
 use native.Mathlib.Omega.{arith}
 use lib.Dec.{eqb}
 use lib.ListN.{length, getD, set, replicate, length-set}
-use mir.Syntax.{w64}
-use mir.Val.{Fits}
 use borrow.Author.Tests.{eq-eqb, ne-eqb}
 use lib.Seq.{getD-set-same, getD-set-other}
 use Rattle.lists.specs.Lists.{sum, below}
 use Rattle.lists.specs.Bits.{bit}
-use Rattle.lists.specs.Laws.Booleans.{contradiction}
 use Rattle.lists.specs.Laws.Sums.{sum-cong, sum-plus}
 use Rattle.lists.specs.Laws.Steps.{sum-start, sum-next, sum-only}
-use Rattle.charge.specs.Memo.{RowSmall, RowKnown, RowAdded, RowPut, RowLargest, capped}
-
--- what code computes for part q in a row of 16, and at rule r in a memo
-pub record Column (m : List ℕ) (r q : ℕ) : Type 0 where
-  pub here : Fits w64 (q * 4)
-  pub next : Fits w64 (q + 1)
-  pub start : Fits w64 (16 * r)
-  pub place : Fits w64 (16 * r + q)
-  pub bytes : Fits w64 ((16 * r + q) * 4)
-  pub inside : 16 * r + q < length m
-
-pub column-of : (m : List ℕ) (r q n : ℕ) → q < n → n ≤ 16 → r < 64 → 16 * r + 16 ≤ length m → Column m r q
-column-of m r q n l few low room = record {
-  here = record { fits = omega arith };
-  next = record { fits = omega arith };
-  start = record { fits = omega arith };
-  place = record { fits = omega arith };
-  bytes = record { fits = omega arith };
-  inside = omega arith;
-}
+use Rattle.charge.specs.Memo.{RowSmall, RowKnown, RowAdded, RowPut, capped}
 
 pub small-inside : {r q n : ℕ} {row : List ℕ} → RowSmall r row → q < n → n ≤ 16 → q < length row
 small-inside s l few = omega (arith, s .long)
@@ -143,37 +121,6 @@ module _ {parts m : List ℕ} {N r : ℕ} {row₀ row : List ℕ} {k : ℕ} (h :
       most : (q : ℕ) → Dec (q < N) → getD row q 0 ≤ 1 + 65536 * (r + 1)
       most q (yes l) = omega (arith, each q l, low q l, h .small .each q)
       most q (no n) = omega (arith, h .filled .rest q (inr (omega arith)), h .small .each q)
-
--- ---- the largest entry of row r, over the first k parts
-module _ {parts m : List ℕ} {r best : ℕ} where
-  pub largest-none : RowLargest parts m 0 r best best
-  largest-none = record { from = omega arith; each = λ q l t. absurd (omega arith); least = λ b l each. l }
-
-  module _ {k most : ℕ} (h : RowLargest parts m k r best most) where
-    pub largest-yes : (x : ℕ) → bit (getD parts (4 * k) 0) r ≡ true → x ≡ max most (getD m (16 * r + k) 0 - 1)
-        → RowLargest parts m (k + 1) r best x
-    largest-yes x t e =
-        record {
-          from = omega (arith, h .from);
-          each = λ q l u.
-              ⊎-elim
-              (λ (i : q ≡ k). let same = ap (λ q. getD m (16 * r + q) 0) i in omega arith)
-              (λ (v : q < k). omega (arith, h .each q v u))
-              (eq-or-lt-of-le (omega arith));
-          least = λ b l each. omega (arith, h .least b l (λ q v. each q (omega arith)), each k (omega arith) t);
-        }
-
-    pub largest-no : bit (getD parts (4 * k) 0) r ≡ false → RowLargest parts m (k + 1) r best most
-    largest-no f =
-        record {
-          from = h .from;
-          each = λ q l u.
-              ⊎-elim
-              (λ (i : q ≡ k). contradiction (ap (λ q. bit (getD parts (4 * q) 0) r) (sym i) ∙ u) f)
-              (λ (v : q < k). h .each q v u)
-              (eq-or-lt-of-le (omega arith));
-          least = λ b l each. h .least b l (λ q v. each q (omega arith));
-        }
 
 -- ---- row r of the memo is written
 

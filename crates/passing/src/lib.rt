@@ -149,7 +149,7 @@ fn judge_rules(rules: &[u64], parts: &[u64], memo: &mut [u32], counts: Deck) -> 
     if c < counts.channels {
         return refused(refusals::CYCLIC_GRAPH, c);
     }
-    let bound = charge_tables::first_above(
+    let bound = charge_bound::first_above(
         rules,
         parts,
         memo,
@@ -181,7 +181,7 @@ fn judge_whole(
     if p < counts.parts {
         return refused(refusals::OPENS_OUTSIDE, p);
     }
-    charge_tables::note_listeners(rules, parts, counts.rules, counts.parts);
+    listeners::note_listeners(rules, parts, counts.rules, counts.parts);
     judge_rules(rules, parts, memo, counts)
 }
 

@@ -8,7 +8,7 @@ ghost use lib.IntN.{pos};
 ghost use Rattle.lists.specs.Lists.{all};
 ghost use Rattle.lists.specs.Bits.{maskOf};
 ghost use Rattle.deck.specs.Shape.{shapeOf};
-ghost use Rattle.charge.specs.Memo.{Ready, capped};
+ghost use Rattle.charge.specs.Memo.{Ready};
 ghost use Rattle.pool.specs.Updates.{channels};
 ghost use Rattle.pool.specs.Places.{isZero, updateOf, wellWritten};
 ghost use Rattle.pool.specs.States.{goodLength};
@@ -191,15 +191,6 @@ pub fn place_charge(
     charge_tables::update_charge(rules, parts, memo, channels, count, parts_count, p, mask)
 }
 
-// A sum that stops at 65,536.
-fn capped_sum(a: u32, b: u32) -> u32
-    requires { ⌜ (a ≤ 65536) × (b ≤ 65536) ⌝ }
-    ensures { λ r. ⌜ r ≡ capped (a + b) ⌝ }
-{
-    let s = a + b;
-    if s < 65536 { s } else { 65536 }
-}
-
 // The charge of the pending updates, up to 65,536, and the index of them, if each place is well written and holds a known
 // update and no two are equal. A place is looked for where it and all before it are well written: equal numbers mean equal
 // updates only there.
@@ -229,7 +220,7 @@ fn weigh(
         }
         let p = number_at(&pool[at..next], 0, parts_count);
         let c = charge_tables::update_charge(rules, parts, memo, channels, count, parts_count, p, mask);
-        total = capped_sum(total, c);
+        total = charge_tables::capped_sum(total, c);
         let b = index::bucket(&pool[at..next], heads);
         if index::find(index, pool, 0, k, &pool[at..next], b) {
             return Goodness::Bad;

@@ -283,7 +283,7 @@ pub fn fire(
     requires { ⌜ Tabled (now deck) counts (now rules) (now parts) × Offering (now rules) (now parts) counts capacity (now memo) (heldOf gone (now index) (now pool)) queue × (length (now values) ≡ 512) × (p < counts .parts) ⌝ }
     ensures { λ s. ⌜ Fires (deckOf (now (deck .entry))) (now (values .entry)) p changed (shape (now (rules .entry)) (now (parts .entry)) counts) capacity (heldOf gone (now (index .entry)) (now (pool .entry))) queue (now (memo .exit)) (heldOf gone (now (index .exit)) (now (pool .exit))) s ⌝ }
 {
-    let set = charge_tables::active(rules, parts, counts.channels, counts.rules, counts.parts, p, changed);
+    let set = listeners::active(rules, parts, counts.channels, counts.rules, counts.parts, p, changed);
     if set == 0 {
         return queue;
     }

@@ -1,6 +1,6 @@
--- `charge::rule_charges` and `charge::update_charges` meet their contracts. Each calls the other with a lower rank: the
--- measure. The loop's invariant: the charges of the rules passed are added at every part, up to the cap, and the memo is
--- right. Assumes nothing.
+-- `charge_tables::rule_charges` and `charge_tables::update_charges` meet their contracts. Each calls the other with a lower
+-- rank: the measure. The loop's invariant: the charges of the rules passed are added at every part, up to the cap, and the memo
+-- is right. Assumes nothing.
 use Prim.Native.Nat.{ℕ, _+_, _*_, _≤_, _<_, _-_}
 use mathlib.Core.Path.{_≡_, refl, sym, _∙_, subst}
 use mathlib.Core.Logic.{⊎-elim}
@@ -20,10 +20,12 @@ use Rattle.lists.proofs.rest.Reads as rest-reads
 use Rattle.deck.specs.Shape.{bitsOf, shapeOf}
 use Rattle.charge.specs.Memo.{Memo, Keeps, listening}
 use Rattle.charge.specs.Laws.Tables.{Field, field, Entry, entry}
+use Rattle.listeners.specs.Laws.Listening.{is-listener}
+use Rattle.charge_tables.specs.Laws.Entries.{row-room}
 use Rattle.charge_tables.proofs.Heights.{updateRank, ruleRank}
-use Rattle.charge_tables.proofs.Tabled.{own-is, given-is, first-falls, second-falls, is-listener, listening-falls, listening-carried}
+use Rattle.charge_tables.proofs.Tabled.{own-is, given-is, first-falls, second-falls, listening-falls, listening-carried}
 use Rattle.charge_tables.proofs.Memos.{keeps-same, keeps-trans}
-use Rattle.charge_tables.proofs.RowCharges.{Hearing, ActionGives, row-same, ones-long, row-room, hearing-none, hearing-skip, hearing-more, row-written, gives-heard, action-none, action-some, gives-known, gives-written}
+use Rattle.charge_tables.proofs.RowCharges.{Hearing, ActionGives, row-same, ones-long, hearing-none, hearing-skip, hearing-more, row-written, gives-heard, action-none, action-some, gives-known, gives-written}
 use Rattle.charge_tables.proofs.rule_charges.Reads as rule
 use Rattle.charge_tables.proofs.rule_charges.Kinds as rule-kinds
 use Rattle.charge_tables.proofs.+rule_charges+update_charges.Lts-rule_charges as R
@@ -32,7 +34,7 @@ use Rattle.charge_tables.proofs.update_charges.Kinds as update-kinds
 use Rattle.charge_tables.proofs.+rule_charges+update_charges.Lts-update_charges as U
 use Rattle.charge_tables.proofs.add_row.Reads as add-row-reads
 use Rattle.charge_tables.proofs.begin.Reads as begin-reads
-use Rattle.charge_tables.proofs.listeners.Reads as listeners-reads
+use Rattle.listeners.proofs.listeners.Reads as listeners-reads
 use Rattle.charge_tables.proofs.put_row.Reads as put-row-reads
 use Rattle.charge_tables.proofs.+rule_charges+update_charges.{statement}
 use Rattle.charge_tables.proofs.+rule_charges+update_charges.Tie.{close}

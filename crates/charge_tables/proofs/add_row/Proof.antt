@@ -4,7 +4,8 @@ use mathlib.Core.Path.{refl, sym, _∙_}
 use mathlib.Core.Logic.{⊎-elim}
 use native.Mathlib.Numerals.{add-one-dec}
 use native.Mathlib.Omega.{arith}
-use Rattle.charge_tables.proofs.Rows.{Column, column-of, Adding, filled-none, as-before, adding-yes, adding-no, adding-all}
+use Rattle.charge_tables.specs.Laws.Entries.{Column, column-of}
+use Rattle.charge_tables.proofs.Rows.{Adding, filled-none, as-before, adding-yes, adding-no, adding-all}
 use Rattle.charge_tables.proofs.add_row.Statement.{statement}
 use Rattle.charge_tables.proofs.add_row.Tie as tie
 

@@ -1,4 +1,4 @@
--- `charge::begin` meets its contract. Assumes nothing.
+-- `charge_tables::begin` meets its contract. Assumes nothing.
 use mathlib.Core.Path.{refl}
 use Rattle.charge_tables.proofs.begin.Statement.{statement}
 use Rattle.charge_tables.proofs.begin.Tie as tie

@@ -1,4 +1,4 @@
--- `charge::known_charges` meets its contract: the memo has the row, or `rule_charges` writes it. Assumes nothing.
+-- `charge_tables::known_charges` meets its contract: the memo has the row, or `rule_charges` writes it. Assumes nothing.
 use borrow.Author.Needs.{needs}
 use Rattle.charge.specs.Laws.Tables.{Entry, entry}
 use Rattle.charge_tables.proofs.RowCharges.{gives-known}

@@ -9,7 +9,8 @@ use lib.Dec.{eqb}
 use lib.ListN.{getD}
 use borrow.Author.Tests.{eq-eqb}
 use Rattle.lists.specs.Lists.{sum, below}
-use Rattle.charge_tables.proofs.Rows.{Column, column-of, small-inside, Putting, filled-none, putting-more, putting-all, share-most, share-only, sum-parted, row-most}
+use Rattle.charge_tables.specs.Laws.Entries.{Column, column-of}
+use Rattle.charge_tables.proofs.Rows.{small-inside, Putting, filled-none, putting-more, putting-all, share-most, share-only, sum-parted, row-most}
 use Rattle.charge_tables.proofs.put_row.Statement.{statement}
 use Rattle.charge_tables.proofs.put_row.Tie as tie
 use Rattle.charge_tables.proofs.put_row.Reads as reads

@@ -1,4 +1,4 @@
--- `charge::row_sum` meets its contract: the entries passed are added up. Assumes nothing.
+-- `charge_tables::row_sum` meets its contract: the entries passed are added up. Assumes nothing.
 use Prim.Native.Nat.{_+_, _*_, _-_, _≤_}
 use mathlib.Core.Path.{_≡_, sym, ap, _∙_}
 use native.Mathlib.Omega.{arith}

@@ -1,4 +1,4 @@
--- `charge::share` meets its contract: the kind decides between the two charges. Assumes nothing.
+-- `charge_tables::share` meets its contract: the kind decides between the two charges. Assumes nothing.
 use Prim.Native.Nat.{ℕ, _-_}
 use mathlib.Core.Path.{sym, ap}
 use mathlib.Core.Bool.{Bool, cond}

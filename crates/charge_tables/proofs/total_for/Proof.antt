@@ -1,4 +1,4 @@
--- `charge::total_for` meets its contract: the kind decides whether the row is added up. Assumes nothing.
+-- `charge_tables::total_for` meets its contract: the kind decides whether the row is added up. Assumes nothing.
 use Prim.Native.Nat.{ℕ}
 use mathlib.Core.Path.{sym, ap, _∙_}
 use mathlib.Core.Bool.{Bool, cond}

@@ -10,8 +10,7 @@ use Rattle.deck.specs.Shape.{bitsOf, shapeOf}
 use Rattle.charge_tables.proofs.Terms.{heard}
 use Rattle.charge_tables.proofs.Sums.{Summing, same, small, none-yet, skip, more}
 use Rattle.charge_tables.proofs.Tabled.{update-all, heard-yes, heard-no, hears-carried}
-use Rattle.charge_tables.proofs.Rows.{Column, column-of}
-use Rattle.charge_tables.proofs.RowCharges.{row-room, gives-charge}
+use Rattle.charge_tables.specs.Laws.Entries.{Column, column-of, row-room, gives-charge}
 use Rattle.charge_tables.proofs.update_charge.Statement.{statement}
 use Rattle.charge_tables.proofs.update_charge.Tie as tie
 

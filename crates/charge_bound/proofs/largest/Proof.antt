@@ -1,0 +1,91 @@
+-- `charge_bound::largest` meets its contract. The loop's invariant: most is the largest charge of the carried rules passed, up
+-- to the cap, and the memo is right. Assumes nothing.
+use Prim.Native.Nat.{_-_}
+use mathlib.Core.Path.{sym, _∙_}
+use native.Mathlib.Omega.{arith}
+use Rattle.lists.specs.Laws.Through.{Through, through-next, through-here, through-all}
+use Rattle.lists.specs.Laws.Walks.{Walk, walk-first, walk-on, walk-next}
+use Rattle.deck.specs.Shape.{shapeOf}
+use Rattle.charge.specs.Memo.{Memo}
+use Rattle.charge.specs.Answer.{RulesPassed}
+use Rattle.charge_tables.specs.Laws.Entries.{row-room}
+use Rattle.charge_bound.proofs.ByRules.{rules-none, rules-skip, rules-more}
+use Rattle.charge_bound.proofs.largest.Statement.{statement}
+use Rattle.charge_bound.proofs.largest.Tie as tie
+
+abbrev Inv-loop : tie.InvT-loop
+Inv-loop rules parts memo₀ channels count parts-count carried most₀ left₀ r₀ memo most left r =
+    let d = shapeOf rules parts channels count parts-count in
+    Walk carried left r × Memo d memo × Through carried count (λ k. RulesPassed d k most) r
+
+abbrev μ-loop : tie.MeasureT-loop
+μ-loop rules parts memo₀ channels count parts-count carried most₀ left₀ r₀ memo most left r = 64 - r
+
+loop-holds : tie.Need-loop-holds Inv-loop μ-loop
+loop-holds c =
+    let s = c .before .before .before .before .before in
+    let n = c .lowest .ensures in
+    let all = c .before .carried-by-some .ensures in (
+      walk-first n,
+      s .pre .memo,
+      through-next n (omega arith) (s .pre .tables .few-rules)
+          (λ i a b f w. rules-skip (s .pre .tables) w (sym (all .each i) ∙ f)) rules-none,
+    )
+
+known-charges-requires : tie.Need-known-charges-requires Inv-loop μ-loop
+known-charges-requires c κs =
+    let s = c .before .before .before .before .before .before .before .before in
+    let i = c .before .before .loop in
+    let k = c .before .loop-test .taken in (
+      record { tables = s .pre .tables; memo = i .inv .1 },
+      k,
+      sym (c .before .before .before .before .carried-by-some .ensures .each (i .r)) ∙ i .inv .2 .found (omega arith),
+    )
+
+row-largest-requires : tie.Need-row-largest-requires Inv-loop μ-loop
+row-largest-requires c κs =
+    let s = c .before .before .before .before .before .before .before .before .before .before .before .before in
+    let g = c .before .before .before .known-charges .ensures in
+    let room = row-room (s .pre .tables) (g .memo) _ (c .before .before .before .before .before .loop-test .taken) in
+    (s .pre .tables .parts-long, room, s .pre .tables .few-parts, omega arith, g .known)
+
+loop-less : tie.Need-loop-less Inv-loop μ-loop
+loop-less c =
+    let w = c .before .before .before .before .before .before .before .before .before .loop .inv .0 in
+    let n = walk-on w (c .before .rest .ensures) (c .lowest2 .ensures) in
+    omega (arith, n .on (omega arith), n .most)
+
+loop-again : tie.Need-loop-again Inv-loop μ-loop
+loop-again c =
+    let s = c .before .before .before .before .before .before .before .before .before .before .before .before .before .before .before in
+    let h = s .pre .tables in
+    let all = c .before .before .before .before .before .before .before .before .before .before .before .carried-by-some .ensures in
+    let i = c .before .before .before .before .before .before .before .before .before .loop in
+    let k = c .before .before .before .before .before .before .before .before .loop-test .taken in
+    let g = c .before .before .before .before .before .before .known-charges .ensures in
+    let left = c .before .rest .ensures in
+    let low = c .lowest2 .ensures in (
+      walk-next (i .inv .0) left low,
+      g .memo,
+      through-next (walk-on (i .inv .0) left low) (omega arith) (h .few-rules)
+          (λ i a b f w. rules-skip h w (sym (all .each i) ∙ f))
+          (rules-more h (through-here (i .inv .2) k) k (g .memo) (g .known) (c .before .before .row-largest .ensures)),
+    )
+
+pub largest-spec : {M : Type 1} → statement M
+largest-spec =
+    tie.close
+    (tie.spec
+    Inv-loop
+    μ-loop
+    (λ c κs. omega arith)
+    (λ c κs. tt)
+    loop-holds
+    known-charges-requires
+    row-largest-requires
+    (λ c κs. tt)
+    (λ c κs. tt)
+    loop-less
+    loop-again
+    (λ c. c .before .loop .inv .1 .long ∙ sym (c .before .before .before .before .before .before .before .pre .memo .long))
+    (λ c. (through-all (c .before .loop .inv .2) (c .loop-test .left), c .before .loop .inv .1)))

@@ -1,0 +1,2 @@
+-- Laws of the memo that the crates above cite too.
+pub mod Entries

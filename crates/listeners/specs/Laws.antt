@@ -1,0 +1,2 @@
+-- Laws of the listeners that the crates above cite too.
+pub mod Listening

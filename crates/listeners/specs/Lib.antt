@@ -1,0 +1,2 @@
+-- Laws only. The definitions are in `charge`.
+pub mod Laws
