@@ -9,7 +9,7 @@ ghost use Rattle.calls.specs.Answers.{settleOutcome, memoryAt, replyAt};
 ghost use Rattle.call_tests.specs.Tested.{Usable};
 ghost use Rattle.settle_call.specs.Settled.{Settles};
 ghost use Rattle.passing.specs.Judged.{ZeroRules, ZeroMemo};
-ghost use Rattle.steps.specs.Queue.{heldOf};
+ghost use Rattle.offers.specs.Queue.{heldOf};
 ghost use Rattle.steps.specs.Commits.{Committing};
 use call_tests::Tested;
 use calls::SettleAnswer;
