@@ -9,7 +9,7 @@ ghost use Rattle.passing.specs.Tabled.{deckOf, Tabled};
 ghost use Rattle.passing.specs.Judged.{shape};
 ghost use Rattle.firing.specs.Firing.{firedHere, firedThere};
 ghost use Rattle.offers.specs.Queue.{heldOf, Offering, Offered};
-ghost use Rattle.reactions.specs.Reactions.{FiresAll, Fires, Reacting, Reacts};
+ghost use Rattle.reactions.specs.Reactions.{FiresAll, Reacting, Reacts};
 use deck::Deck;
 use offers::Queue;
 
@@ -179,34 +179,7 @@ fn fire_all_others(
     out
 }
 
-// The firing at part p for the changed channels, reading the new values.
-pub fn fire(
-    deck: &[u8],
-    counts: Deck,
-    rules: &[u64],
-    parts: &[u64],
-    memo: &mut [u32],
-    index: &mut [u16],
-    pool: &mut [i32],
-    gone: usize,
-    capacity: u32,
-    queue: Queue,
-    values: &[i32],
-    p: usize,
-    changed: u64,
-) -> Queue
-    requires { ⌜ Tabled (now deck) counts (now rules) (now parts) × Offering (now rules) (now parts) counts capacity (now memo) (heldOf gone (now index) (now pool)) queue × (length (now values) ≡ 512) × (p < counts .parts) ⌝ }
-    ensures { λ s. ⌜ Fires (deckOf (now (deck .entry))) (now (values .entry)) p changed (shape (now (rules .entry)) (now (parts .entry)) counts) capacity (heldOf gone (now (index .entry)) (now (pool .entry))) queue (now (memo .exit)) (heldOf gone (now (index .exit)) (now (pool .exit))) s ⌝ }
-{
-    let set = charge_tables::active(rules, parts, counts.channels, counts.rules, counts.parts, p, changed);
-    if set == 0 {
-        return queue;
-    }
-    let first = fire_all_here(deck, counts, rules, parts, memo, index, pool, gone, capacity, queue, values, p, set);
-    fire_all_others(deck, counts, rules, parts, memo, index, pool, gone, capacity, first, values, p, set)
-}
-
-// The firing that follows when channels of part p changed, with the pending updates that the pool holds.
+// The firing that follows when channels of part p changed, reading the new values, with the pending updates that the pool holds.
 pub fn react(
     deck: &[u8],
     counts: Deck,
@@ -231,5 +204,10 @@ pub fn react(
         charge: charge,
         full: false,
     };
-    fire(deck, counts, rules, parts, memo, index, pool, gone, capacity, queue, values, p, changed)
+    let set = charge_tables::active(rules, parts, counts.channels, counts.rules, counts.parts, p, changed);
+    if set == 0 {
+        return queue;
+    }
+    let first = fire_all_here(deck, counts, rules, parts, memo, index, pool, gone, capacity, queue, values, p, set);
+    fire_all_others(deck, counts, rules, parts, memo, index, pool, gone, capacity, first, values, p, set)
 }
