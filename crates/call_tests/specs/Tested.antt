@@ -18,7 +18,7 @@ use Rattle.states.specs.Answer.{Fresh, goodnessOf}
 use Rattle.states.specs.declared.Goodness.the-variants.{Good, Bad}
 use Rattle.passing.specs.Judged.{shape}
 use Rattle.passing.specs.Tabled.{deckOf}
-use Rattle.steps.specs.Queue.{heldOf}
+use Rattle.offers.specs.Queue.{heldOf}
 use Rattle.steps.specs.Commits.{Stored, Committing}
 use Rattle.calls.specs.Calls.{tested}
 use Rattle.calls.specs.Answers.{memoryAt}

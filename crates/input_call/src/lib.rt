@@ -95,7 +95,7 @@ pub fn input_tested(
     let mut after = *values;
     firing::assign_pairs(&mut after, p, pairs);
     let capacity = (pool.len() / Deck::PLACE) as u32;
-    let queue = steps::react(deck, counts, rules, parts, memo, index, pool, 0, capacity, n, charge, &after, p, changed);
+    let queue = reactions::react(deck, counts, rules, parts, memo, index, pool, 0, capacity, n, charge, &after, p, changed);
     if queue.full {
         take_back(pool, n);
         return refused(refusals::OVER_CAPACITY);

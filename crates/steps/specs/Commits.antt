@@ -11,7 +11,7 @@ use Rattle.deck.specs.declared.Deck as Counted
 use Rattle.graph.specs.Laws.Cycles.{Acyclic}
 use Rattle.charge.specs.Charge.{updateCharge}
 use Rattle.charge.specs.Memo.{Memo, Ready, capped}
-use Rattle.lists.specs.Lists.{all, member}
+use Rattle.lists.specs.Lists.{all}
 use Rattle.lists.specs.Bits.{maskOf}
 use Rattle.pool.specs.Updates.{Update, channels, assign, charge}
 use Rattle.pool.specs.Places.{pairsOf}
@@ -20,33 +20,9 @@ use Rattle.pool.specs.Moves.{Laid}
 use Rattle.pool.specs.Laws.Good.{Fine}
 use Rattle.passing.specs.Tabled.{deckOf, Tabled}
 use Rattle.passing.specs.Judged.{shape}
-use Rattle.firing.specs.Firing.{fired, changed, pick, without, committed}
+use Rattle.firing.specs.Firing.{changed, pick, without, committed}
 use Rattle.firing.specs.Evaluated.{Assignable}
-use Rattle.steps.specs.Queue.{Held, Kept, Room, SameSize, Grown}
-use Rattle.steps.specs.declared.Queue.{Queue}
-
--- tables, memo and places as for the firing, with a pool that holds exactly so many pending updates of so much charge
-pub record Reacting (s : List ℕ) (k : Counted.Deck) (rules parts memo : List ℕ) (held : Held) (C pending total : ℕ) : Type 0 where
-  pub tabled : Tabled s k rules parts
-  pub ready : Ready rules parts (k .channels) (k .rules) (k .parts) memo
-  pub room : Room C held
-  pub us : List Update
-  pub kept : Kept held us
-  pub count : pending ≡ length us
-  pub charged : total ≡ charge (shape rules parts k) us
-  pub within : total ≤ C
-
--- the firing for the channels cs was offered to the updates that the pool held
-pub record Reacted (d e : Deck) (C pending total : ℕ) (values : List ℤ) (p : ℕ) (cs : List ℕ) (held₀ : Held) (m : List ℕ) (held : Held) (q : Queue) : Type 0 where
-  pub grown : (us : List Update) → Kept held₀ us → pending ≡ length us → total ≡ charge e us → Grown e C us (fired d values p cs) held q
-  pub memo : Memo e m
-  pub size : SameSize held₀ held
-
--- `mask` is the set of the channels
-abbrev pub Reacts : Deck → Deck → ℕ → ℕ → ℕ → List ℤ → ℕ → ℕ → Held → List ℕ → Held → Queue → Type 0
-Reacts d e C pending total values p mask held₀ m held q =
-    (cs : List ℕ) → ((c : ℕ) → member c cs ≡ true → c < 32) → mask ≡ maskOf cs
-    → Reacted d e C pending total values p cs held₀ m held q
+use Rattle.offers.specs.Queue.{Held, Kept, Room, SameSize}
 
 -- a pool that holds exactly so many known updates, and one of their places
 pub record Looking (k : Counted.Deck) (rules parts memo : List ℕ) (pool : List ℤ) (pending j : ℕ) : Type 0 where

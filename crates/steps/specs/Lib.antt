@@ -1,4 +1,3 @@
--- The firing and the commits in code: what its functions take and leave.
-pub mod Queue
+-- The commits in code: what their functions take and leave.
 pub mod Commits
 pub mod Laws

@@ -7,7 +7,7 @@ use lib.IntN.{ℤ}
 use Rattle.deck.specs.Deck.{Deck}
 use Rattle.pool.specs.Places.{poolOf}
 use Rattle.pool.specs.States.{Machine, store}
-use Rattle.steps.specs.Queue.{Held}
+use Rattle.offers.specs.Queue.{Held}
 use Rattle.steps.specs.Commits.{Stored}
 use Rattle.calls.specs.Answers.{memoryAt}
 use Rattle.call_tests.specs.Tested.{Left}

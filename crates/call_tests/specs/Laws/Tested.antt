@@ -30,7 +30,7 @@ use Rattle.passing.specs.Judged.{shape}
 use Rattle.passing.specs.Laws.Passing.{passing-clean}
 use Rattle.index.specs.Index.{headsOf, Indexed, keys, Roomy}
 use Rattle.index.specs.Laws.Indexed.{keys-laid}
-use Rattle.steps.specs.Queue.{heldOf}
+use Rattle.offers.specs.Queue.{heldOf}
 use Rattle.steps.specs.Commits.{Stored}
 use Rattle.calls.specs.Calls.{tested}
 use Rattle.calls.specs.Answers.{memoryAt}

@@ -18,7 +18,7 @@ use Rattle.passing.specs.Tabled.{deckOf}
 use Rattle.firing.specs.Firing.{committed}
 use Rattle.deck.specs.declared.Deck as Counted
 use Rattle.pool.specs.Laws.Good.{count-bounded}
-use Rattle.steps.specs.Queue.{heldOf}
+use Rattle.offers.specs.Queue.{heldOf}
 use Rattle.steps.specs.Commits.{Stored, Commits}
 use Rattle.calls.specs.Calls.{Answer, applied, discarded, Reply, reply, tested, commit}
 use Rattle.calls.specs.Answers.{replyAt}

@@ -25,11 +25,12 @@ use Rattle.firing.specs.Firing.{fired, changed, enqueue, setAndFire}
 use Rattle.firing.specs.Evaluated.{Assignable, Compared}
 use Rattle.firing.specs.Laws.Commits.{set-grows}
 use Rattle.firing.specs.Laws.Setting.{compared-changed}
-use Rattle.steps.specs.declared.Queue.{Queue}
-use Rattle.steps.specs.Queue.{heldOf, Grown}
-use Rattle.steps.specs.Commits.{Reacting, Reacted, Reacts, Stored}
+use Rattle.offers.specs.declared.Queue.{Queue}
+use Rattle.offers.specs.Queue.{heldOf, Grown}
+use Rattle.reactions.specs.Reactions.{Reacting, Reacted, Reacts}
+use Rattle.reactions.specs.Laws.Reacting.{changed-low}
+use Rattle.steps.specs.Commits.{Stored}
 use Rattle.steps.specs.Laws.Committing.{charge-same}
-use Rattle.steps.specs.Laws.Reacting.{changed-low}
 use Rattle.calls.specs.Calls.{Answer, added, Done, goodInput}
 use Rattle.call_tests.specs.Laws.Entering.{enter-room}
 use Rattle.call_tests.specs.Tested.{Entering, Left}

@@ -13,7 +13,7 @@ use Rattle.deck.specs.declared.Deck as Counted
 use Rattle.pool.specs.Places.{capacity}
 use Rattle.pool.specs.States.{Memory, load, store}
 use Rattle.passing.specs.Tabled.{deckOf}
-use Rattle.steps.specs.Queue.{heldOf}
+use Rattle.offers.specs.Queue.{heldOf}
 use Rattle.steps.specs.Commits.{Committing}
 use Rattle.calls.specs.Calls.{Answer, reply, tested, settling, settle}
 use Rattle.calls.specs.Answers.{replyOf, replyAt}

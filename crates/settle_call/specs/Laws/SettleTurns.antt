@@ -25,7 +25,7 @@ use Rattle.passing.specs.Judged.{shape}
 use Rattle.firing.specs.Firing.{committed}
 use Rattle.index.specs.Index.{headsOf}
 use Rattle.pool.specs.Laws.Good.{count-bounded}
-use Rattle.steps.specs.Queue.{heldOf, Room}
+use Rattle.offers.specs.Queue.{heldOf, Room}
 use Rattle.steps.specs.Laws.Looking.{tail-back}
 use Rattle.steps.specs.Commits.{Stored, Committing, CommitsFront}
 use Rattle.calls.specs.Calls.{Answer, settled, spent, Settling, oneMore, settling}

@@ -26,12 +26,13 @@ use Rattle.passing.specs.Judged.{shape}
 use Rattle.firing.specs.Firing.{fired, changed, enqueue, setAndFire, pick, without, committed}
 use Rattle.firing.specs.Laws.Commits.{Known, pick-known, commit-falls, commit-fine, without-charge}
 use Rattle.index.specs.Index.{headsOf, Roomy, forgotten}
-use Rattle.steps.specs.Queue.{Held, heldOf, Kept, Room, SameSize, Grown}
-use Rattle.steps.specs.Commits.{Reacting, Reacted, Reacts, Looking, Looks, Stored, Without, Finishing, Finishes, Committing, Commits, CommitsFront}
-use Rattle.steps.specs.Laws.Queue.{same-size, size-then, room-same}
-use Rattle.steps.specs.Laws.Reacting.{changed-low}
+use Rattle.offers.specs.Queue.{Held, heldOf, Kept, Room, SameSize, Grown}
+use Rattle.reactions.specs.Reactions.{Reacting, Reacted, Reacts}
+use Rattle.steps.specs.Commits.{Looking, Looks, Stored, Without, Finishing, Finishes, Committing, Commits, CommitsFront}
+use Rattle.offers.specs.Laws.Queue.{same-size, size-then, room-same}
+use Rattle.reactions.specs.Laws.Reacting.{changed-low}
 use Rattle.steps.specs.Laws.Looking.{taken-charge, without-kept, without-size, front-kept}
-use Rattle.steps.specs.declared.Queue.{Queue}
+use Rattle.offers.specs.declared.Queue.{Queue}
 
 -- ---- what the definition makes of place j
 

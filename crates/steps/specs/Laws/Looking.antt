@@ -35,7 +35,7 @@ use Rattle.index.specs.Hash.{bucketOf}
 use Rattle.index.specs.Index.{headsOf, Indexed, keysOf, forgotten}
 use Rattle.index.specs.Laws.Indexed.{indexed-front, indexed-forgotten, forgotten-length}
 use Rattle.index.specs.Laws.Keys.{keys-length, keys-without}
-use Rattle.steps.specs.Queue.{heldOf, Kept, SameSize}
+use Rattle.offers.specs.Queue.{heldOf, Kept, SameSize}
 use Rattle.steps.specs.Commits.{Looking, Looks}
 use Rattle.steps.specs.Laws.Applying.{held-few, held-assignable, held-long, held-update, held-back, held-undone, held-changes}
 

@@ -1,0 +1,4 @@
+-- Laws of new updates that are offered one by one.
+pub mod Queue
+pub mod Adding
+pub mod Offers

@@ -1,0 +1,3 @@
+-- New updates offered one by one: what the functions take and leave.
+pub mod Queue
+pub mod Laws

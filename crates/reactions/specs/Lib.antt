@@ -1,0 +1,3 @@
+-- The firing in code: what its functions take and leave.
+pub mod Reactions
+pub mod Laws
