@@ -104,6 +104,10 @@ unsafe extern "C" {
     ) -> u32;
 }
 
+/// The form of `reaction_commit` and `reaction_settle`.
+type Numbered =
+    unsafe extern "C" fn(*const u8, usize, *mut i32, usize, *mut i32, *mut u32, u32, *mut u32) -> u32;
+
 /// What a call hands back besides memory.
 #[derive(Clone, Copy, Debug, Default, PartialEq, Eq)]
 pub struct Returned {
@@ -245,21 +249,7 @@ impl Memory {
     /// assert_eq!(memory.commit(deck, 0).number, 14);
     /// ```
     pub fn commit(&mut self, deck: &[u8], place: u32) -> Returned {
-        let mut answer = [0; ANSWER];
-        // Safety: as in `start`.
-        let number = unsafe {
-            reaction_commit(
-                deck.as_ptr(),
-                deck.len(),
-                self.pool.as_mut_ptr(),
-                self.pool.len(),
-                self.values.as_mut_ptr(),
-                &mut self.pending,
-                place,
-                answer.as_mut_ptr(),
-            )
-        };
-        Returned { number, answer }
+        self.numbered(reaction_commit, deck, place)
     }
 
     /// Commits place 0 until nothing is pending or the budget is used.
@@ -272,17 +262,22 @@ impl Memory {
     /// assert_eq!(memory.settle(deck, 9).answer, [0, 2, 1, 0, 0]);
     /// ```
     pub fn settle(&mut self, deck: &[u8], budget: u32) -> Returned {
+        self.numbered(reaction_settle, deck, budget)
+    }
+
+    /// Calls a function that is given one number beside deck and memory.
+    fn numbered(&mut self, call: Numbered, deck: &[u8], argument: u32) -> Returned {
         let mut answer = [0; ANSWER];
         // Safety: as in `start`.
         let number = unsafe {
-            reaction_settle(
+            call(
                 deck.as_ptr(),
                 deck.len(),
                 self.pool.as_mut_ptr(),
                 self.pool.len(),
                 self.values.as_mut_ptr(),
                 &mut self.pending,
-                budget,
+                argument,
                 answer.as_mut_ptr(),
             )
         };

@@ -5,6 +5,7 @@
 
 pub mod cases;
 pub mod charge;
+pub mod comparison;
 pub mod deck;
 pub mod engine;
 pub mod expression;

@@ -4,36 +4,22 @@
 //! Deck n depends on the seed and n alone. Some decks are cut off anywhere, or followed by many
 //! bytes more, and some are fed in pieces with pauses, so that they arrive in several reads.
 
+use reference::comparison;
 use reference::generate::{deck, Kind, Size};
 use reference::random::Random;
 use std::collections::BTreeMap;
+use std::fs;
 use std::io::{self, Write};
 use std::process::{Command, ExitCode, Stdio};
 use std::thread::sleep;
 use std::time::Duration;
-use std::{env, fs};
 
 /// Where decks go that the two programs do not agree on, and how many of them.
 const KEPT: &str = "target/compare_check";
 const MOST_KEPT: usize = 20;
 
 fn main() -> ExitCode {
-    let arguments: Vec<String> = env::args().skip(1).collect();
-    let [ours, other, count, seed] = &arguments[..] else { return usage() };
-    let (Ok(count), Ok(seed)) = (count.parse(), seed.parse()) else { return usage() };
-    match compare(ours, other, count, seed) {
-        Ok(0) => ExitCode::SUCCESS,
-        Ok(_) => ExitCode::FAILURE,
-        Err(error) => {
-            eprintln!("compare_check: {error}");
-            ExitCode::from(2)
-        }
-    }
-}
-
-fn usage() -> ExitCode {
-    eprintln!("usage: compare_check OURS OTHER COUNT SEED");
-    ExitCode::from(2)
+    comparison::run("compare_check", compare)
 }
 
 /// The number of decks on which the two differ.

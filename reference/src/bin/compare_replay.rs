@@ -5,38 +5,24 @@
 //! written by hand, lines that can't be read, and pools from none to the longest; some fill all
 //! 65,535 places. Some are fed in pieces with pauses, so that lines are cut by a read.
 
+use reference::comparison;
 use reference::generate::scripts::{full, script};
 use reference::generate::{deck, Kind, Size};
 use reference::random::Random;
 use std::collections::BTreeMap;
+use std::fs;
 use std::fs::File;
 use std::io::{self, Write};
 use std::process::{Command, ExitCode, Output, Stdio};
 use std::thread::{sleep, spawn};
 use std::time::Duration;
-use std::{env, fs};
 
 /// Where the deck and the text stand that are tried, and those that the two do not agree on.
 const FOLDER: &str = "target/compare_replay";
 const MOST_KEPT: usize = 20;
 
 fn main() -> ExitCode {
-    let arguments: Vec<String> = env::args().skip(1).collect();
-    let [ours, other, count, seed] = &arguments[..] else { return usage() };
-    let (Ok(count), Ok(seed)) = (count.parse(), seed.parse()) else { return usage() };
-    match compare(ours, other, count, seed) {
-        Ok(0) => ExitCode::SUCCESS,
-        Ok(_) => ExitCode::FAILURE,
-        Err(error) => {
-            eprintln!("compare_replay: {error}");
-            ExitCode::from(2)
-        }
-    }
-}
-
-fn usage() -> ExitCode {
-    eprintln!("usage: compare_replay OURS OTHER COUNT SEED");
-    ExitCode::from(2)
+    comparison::run("compare_replay", compare)
 }
 
 /// The number of texts on which the two differ.
