@@ -84,7 +84,7 @@ pub fn test_lent(
     requires { ⌜ ZeroRules (now deck) (now rules) × (now parts ≡ replicate 64 0) × ZeroMemo (now deck) (now memo) × Usable (length (now pool)) (now index) ⌝ }
     ensures { λ r. ⌜ Tests (now (deck .entry)) (now (rules .exit)) (now (parts .exit)) (now (memo .exit)) (now (index .exit)) (now (pool .entry)) (now (values .entry)) pending r ⌝ }
 {
-    let found = passing::judge(deck, rules, parts, memo);
+    let found = judging::judge(deck, rules, parts, memo);
     match found {
         Judged::Refused { number, place } => Tested::Refused {
             number: number,

@@ -20,7 +20,7 @@ pub fn check_with(deck: &[u8], rules: &mut [u64], memo: &mut [u32]) -> CheckAnsw
     ensures { λ r. ⌜ checkOutcome r ≡ Calls.check (now (deck .entry)) ⌝ }
 {
     let mut parts = [0u64; 64];
-    let verdict = passing::judge(deck, rules, &mut parts, memo);
+    let verdict = judging::judge(deck, rules, &mut parts, memo);
     match verdict {
         Judged::Passing { counts, charge } => {
             let r = counts.channels as u32;
@@ -50,7 +50,7 @@ pub fn section_with<'a>(
     ensures { λ r. ⌜ sectionOf (now r) (now (refusal .exit)) (now (place .exit)) ≡ Calls.section (now (deck .entry)) number ⌝ }
 {
     let mut parts = [0u64; 64];
-    let judged = passing::judge(deck, rules, &mut parts, memo);
+    let judged = judging::judge(deck, rules, &mut parts, memo);
     match judged {
         Judged::Refused {
             number: n,
@@ -113,14 +113,14 @@ pub fn start_with(deck: &[u8], pool: &mut [i32], rules: &mut [u64], memo: &mut [
 {
     let mut parts = [0u64; 64];
     let mut values = [0i32; Deck::VALUES];
-    let found = passing::judge(deck, rules, &mut parts, memo);
+    let found = judging::judge(deck, rules, &mut parts, memo);
     match found {
         Judged::Refused { number, place } => start_refused(number, place),
         Judged::Passing { counts, charge: _ } => {
             if !pool::good_length(pool.len()) {
                 return start_refused(refusals::BAD_POOL, 0);
             }
-            passing::open_parts(&mut values, deck, counts, &parts);
+            judging::open_parts(&mut values, deck, counts, &parts);
             let state = State {
                 values: values,
                 pending: 0,

@@ -91,16 +91,16 @@ pub fn input_tested(
     }
     let n = *pending as usize;
     let mut back = [0i32; 2 * Deck::CHANNELS];
-    let changed = firing::compare(values, p, pairs, &mut back);
+    let changed = updates::compare(values, p, pairs, &mut back);
     let mut after = *values;
-    firing::assign_pairs(&mut after, p, pairs);
+    updates::assign_pairs(&mut after, p, pairs);
     let capacity = (pool.len() / Deck::PLACE) as u32;
     let queue = reactions::react(deck, counts, rules, parts, memo, index, pool, 0, capacity, n, charge, &after, p, changed);
     if queue.full {
         take_back(pool, n);
         return refused(refusals::OVER_CAPACITY);
     }
-    firing::assign_pairs(values, p, pairs);
+    updates::assign_pairs(values, p, pairs);
     *pending = queue.pending as u32;
     Response::Done { flag: true, number: queue.charge - charge }
 }

@@ -88,6 +88,6 @@ pub fn offer(
     if deck[at] == 0 {
         return queue;
     }
-    let row = firing::evaluate(deck, at, part, own, far);
+    let row = updates::evaluate(deck, at, part, own, far);
     add(counts, rules, parts, memo, index, pool, gone, capacity, queue, &row)
 }

@@ -41,7 +41,7 @@ fn fire_here(
     if rules[8 * r + 3] == 1 {
         return first;
     }
-    if passing::truth_from(deck, rules[8 * r + 5] as usize, values, from, counts.channels, 0, 0) {
+    if judging::truth_from(deck, rules[8 * r + 5] as usize, values, from, counts.channels, 0, 0) {
         let action = rules[8 * r + 6] as usize;
         offers::offer(deck, counts, rules, parts, memo, index, pool, gone, capacity, first, action, p, own, far)
     } else {
@@ -78,7 +78,7 @@ fn fire_there(
     let start = Deck::CHANNELS * q;
     let end = start + counts.channels;
     let far = &values[start..end];
-    if passing::truth_from(deck, rules[8 * r + 5] as usize, values, from, counts.channels, start, counts.channels) {
+    if judging::truth_from(deck, rules[8 * r + 5] as usize, values, from, counts.channels, start, counts.channels) {
         let action = rules[8 * r + 6] as usize;
         offers::offer(deck, counts, rules, parts, memo, index, pool, gone, capacity, queue, action, q, own, far)
     } else {

@@ -40,8 +40,8 @@ fn look(
     let c = charge_tables::update_charge(rules, parts, memo, counts.channels, counts.rules, counts.parts, part, mask);
     let to = 2 + 2 * count;
     let pairs = &place[2..to];
-    let changed = firing::compare(values, part, pairs, back);
-    firing::assign_pairs(values, part, pairs);
+    let changed = updates::compare(values, part, pairs, back);
+    updates::assign_pairs(values, part, pairs);
     Looked {
         part: part,
         count: count,
@@ -79,11 +79,11 @@ fn finish(
     requires { ⌜ Finishing (now deck) counts (now rules) (now parts) (now memo) (heldOf gone (now index) (now pool)) capacity (now back) (now values) part changed pending charge ⌝ }
     ensures { λ r. ⌜ Finishes (deckOf (now (deck .entry))) (shape (now (rules .entry)) (now (parts .entry)) counts) capacity (now (back .entry)) (now (values .entry)) part changed pending charge (heldOf gone (now (index .entry)) (now (pool .entry))) (now (memo .exit)) (heldOf gone (now (index .exit)) (now (pool .exit))) (now (values .exit)) (r .pending) (r .charge) (r .applied) ⌝ }
 {
-    if passing::within(deck, counts, parts, values, part) {
+    if judging::within(deck, counts, parts, values, part) {
         let queue = reactions::react(deck, counts, rules, parts, memo, index, pool, gone, capacity, pending, charge, values, part, changed);
         return Step { pending: queue.pending, charge: queue.charge, applied: true };
     }
-    firing::assign_pairs(values, part, back);
+    updates::assign_pairs(values, part, back);
     Step { pending: pending, charge: charge, applied: false }
 }
 

@@ -1,4 +1,4 @@
--- `passing::opens_within` meets its contract: the limit's truth on the opening values of the part alone. Assumes nothing.
+-- `judging::opens_within` meets its contract: the limit's truth on the opening values of the part alone. Assumes nothing.
 use Prim.Native.Nat.{_+_, _*_}
 use mathlib.Core.Path.{_≡_, refl, sym, ap, _∙_}
 use mathlib.Core.List.{[]}
@@ -8,12 +8,12 @@ use lib.ListN.{length, getD}
 use Rattle.expression.specs.Reading.{wholeTruth}
 use Rattle.expression.specs.Answers.{scope, truthIn}
 use Rattle.deck.specs.Deck.{partAt}
 use Rattle.passing.specs.Stands.{Stands, stretch}
 use Rattle.passing.specs.Tabled.{deckOf}
 use Rattle.passing.specs.Laws.Opening.{opening-length, known-part, opening-stands, alone-length, alone-opening}
 use Rattle.passing.specs.Laws.Limits.{limit-stands, opens-value}
-use Rattle.passing.proofs.opens_within.Statement.{statement}
-use Rattle.passing.proofs.opens_within.Tie as tie
+use Rattle.judging.proofs.opens_within.Statement.{statement}
+use Rattle.judging.proofs.opens_within.Tie as tie
 
 open-part-requires : tie.Need-open-part-requires
 open-part-requires c κs =

@@ -1,4 +1,4 @@
--- `passing::within` meets its contract: the limit's truth on the stretch of the part's channels. Assumes nothing.
+-- `judging::within` meets its contract: the limit's truth on the stretch of the part's channels. Assumes nothing.
 use Prim.Native.Nat.{_+_, _*_, _≤_, _<_}
 use mathlib.Core.Path.{_∙_}
 use native.Mathlib.Omega.{arith}
@@ -6,10 +6,10 @@ use native.Mathlib.Nat.{add-sub-cancel-left}
 use borrow.Author.Needs.{needs}
 use lib.ListN.{length}
 use Rattle.deck.specs.Deck.{R, N, partAt}
 use Rattle.passing.specs.Tabled.{deckOf}
 use Rattle.passing.specs.Laws.Limits.{stretchOf, stretch-length, limit-value, limit-stands}
-use Rattle.passing.proofs.within.Statement.{statement}
-use Rattle.passing.proofs.within.Tie as tie
+use Rattle.judging.proofs.within.Statement.{statement}
+use Rattle.judging.proofs.within.Tie as tie
 
 truth-from-requires : tie.Need-truth-from-requires
 truth-from-requires c κs =

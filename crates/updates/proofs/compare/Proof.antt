@@ -1,4 +1,4 @@
--- `firing::compare` meets its contract. The loop's invariant: the pairs before i are compared. Assumes nothing.
+-- `updates::compare` meets its contract. The loop's invariant: the pairs before i are compared. Assumes nothing.
 use Prim.Native.Nat.{ℕ, _+_, _*_, _-_, _%_, _^_, _≤_, _<_}
 use mathlib.Core.Path.{_≡_, refl, sym, ap, _∙_, subst}
 use mathlib.Core.Logic.{⊎-elim}
@@ -12,11 +12,11 @@ use mir.Val.{toZ, ofZ}
 use mir.ValLaws.{toZ-ofZ}
 use Rattle.lists.specs.Laws.Bits.{bit-shifted}
 use Rattle.pool.specs.Updates.{updates}
 use Rattle.firing.specs.Laws.Pairs.{Comparing, comparing-none, comparing-other, comparing-same, compared, unequal, equal}
-use Rattle.firing.proofs.Bits.{bits-same}
-use Rattle.firing.proofs.Naturals.{back-small, index-there, index-is}
-use Rattle.firing.proofs.compare.Statement.{statement}
-use Rattle.firing.proofs.compare.Tie as tie
+use Rattle.updates.proofs.Bits.{bits-same}
+use Rattle.updates.proofs.Naturals.{back-small, index-there, index-is}
+use Rattle.updates.proofs.compare.Statement.{statement}
+use Rattle.updates.proofs.compare.Tie as tie
 
 abbrev Inv-loop : tie.InvT-loop
 Inv-loop values part pairs back₀ n mask₀ i₀ back mask i =

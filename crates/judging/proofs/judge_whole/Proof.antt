@@ -1,11 +1,11 @@
--- `passing::judge_whole` meets its contract: 6, and then 7 and 8. Assumes nothing.
+-- `judging::judge_whole` meets its contract: 6, and then 7 and 8. Assumes nothing.
 use native.Mathlib.Omega.{arith}
 use borrow.Author.Needs.{needs}
 use Rattle.passing.specs.Tabled.{deckOf}
 use Rattle.passing.specs.Laws.Tabled.{tabled-kept}
 use Rattle.passing.specs.Laws.Judged.{parts-known, rules-sized, rules-known, outside-found, outside-none, outside-refused, rules-judged}
-use Rattle.passing.proofs.judge_whole.Statement.{statement}
-use Rattle.passing.proofs.judge_whole.Tie as tie
+use Rattle.judging.proofs.judge_whole.Statement.{statement}
+use Rattle.judging.proofs.judge_whole.Tie as tie
 
 refused-requires : tie.Need-refused-requires
 refused-requires c κs =

@@ -1,4 +1,4 @@
--- `firing::number_from` meets its contract: the length byte, and the value of the bytes that it counts. Assumes nothing.
+-- `updates::number_from` meets its contract: the length byte, and the value of the bytes that it counts. Assumes nothing.
 use mathlib.Core.Path.{sym, _∙_}
 use native.Mathlib.Omega.{arith}
 use native.Mathlib.Nat.{add-sub-cancel-left}
@@ -6,9 +6,9 @@ use mir.Syntax.{w32}
 use mir.Val.{SFits}
 use mir.ValLaws.{toZ-ofZ}
 use borrow.Author.Needs.{needs}
 use Rattle.firing.specs.Laws.Evaluated.{number-there, told, not-none}
-use Rattle.firing.proofs.number_from.Statement.{statement}
-use Rattle.firing.proofs.number_from.Tie as tie
+use Rattle.updates.proofs.number_from.Statement.{statement}
+use Rattle.updates.proofs.number_from.Tie as tie
 
 read-n : tie.Need-shared-slice-read-n
 read-n c = omega (arith, c .before .before .pre .1 .inside)

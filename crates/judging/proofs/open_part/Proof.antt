@@ -1,4 +1,4 @@
--- `passing::open_part` meets its contract. The loop's invariant: the first c numbers are the values, and the others are as they
+-- `judging::open_part` meets its contract. The loop's invariant: the first c numbers are the values, and the others are as they
 -- were. Assumes nothing.
 use Prim.Native.Nat.{_+_, _*_, _-_, _≤_, _<_}
 use mathlib.Core.Path.{_≡_, refl, sym, ap, _∙_}
@@ -13,10 +13,10 @@ use mir.Syntax.{w32}
 use mir.ValLaws.{toZ-ofZ}
 use borrow.Author.Needs.{needs}
 use Rattle.expression.specs.Reading.{signed}
 use Rattle.passing.specs.Stands.{valuesFrom, valueFrom}
 use Rattle.passing.specs.Laws.Stands.{values-length, values-at, value-is}
-use Rattle.passing.proofs.open_part.Statement.{statement}
-use Rattle.passing.proofs.open_part.Tie as tie
+use Rattle.judging.proofs.open_part.Statement.{statement}
+use Rattle.judging.proofs.open_part.Tie as tie
 
 abbrev Inv-loop : tie.InvT-loop
 Inv-loop stretch₀ deck at count c₀ stretch c =

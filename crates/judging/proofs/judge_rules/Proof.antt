@@ -1,11 +1,11 @@
--- `passing::judge_rules` meets its contract. Assumes nothing.
+-- `judging::judge_rules` meets its contract. Assumes nothing.
 use mathlib.Core.Path.{refl, sym, _∙_}
 use mathlib.Core.Logic.{inl, inr}
 use native.Mathlib.Omega.{arith}
 use borrow.Author.Needs.{needs}
 use Rattle.passing.specs.Laws.Judged.{above-place, acyclic-tables, cycle-none, memo-zeros, memo-length}
-use Rattle.passing.proofs.judge_rules.Statement.{statement}
-use Rattle.passing.proofs.judge_rules.Tie as tie
+use Rattle.judging.proofs.judge_rules.Statement.{statement}
+use Rattle.judging.proofs.judge_rules.Tie as tie
 
 first-cycle-requires : tie.Need-first-cycle-requires
 first-cycle-requires c κs = let w = c .before .before .before .pre .0 in (w .sized, omega (arith, w .few))

@@ -1,4 +1,4 @@
--- `firing::assign_pairs` meets its contract. The loop's invariant: setting the pairs from i on gives what setting all of them
+-- `updates::assign_pairs` meets its contract. The loop's invariant: setting the pairs from i on gives what setting all of them
 -- gave at first. Assumes nothing.
 use Prim.Native.Nat.{ℕ, _+_, _*_, _-_, _≤_, _<_}
 use mathlib.Core.Path.{_≡_, refl, _∙_}
@@ -10,10 +10,10 @@ use mir.Val.{toZ, ofZ}
 use mir.ValLaws.{toZ-ofZ}
 use Rattle.pool.specs.Updates.{assign}
 use Rattle.pool.specs.Places.{pairsOf}
 use Rattle.firing.specs.Laws.Pairs.{assign-next, assign-end}
-use Rattle.firing.proofs.Naturals.{index-there, index-is}
-use Rattle.firing.proofs.assign_pairs.Statement.{statement}
-use Rattle.firing.proofs.assign_pairs.Tie as tie
+use Rattle.updates.proofs.Naturals.{index-there, index-is}
+use Rattle.updates.proofs.assign_pairs.Statement.{statement}
+use Rattle.updates.proofs.assign_pairs.Tie as tie
 
 abbrev Inv-loop : tie.InvT-loop
 Inv-loop values₀ part pairs n i₀ values i =

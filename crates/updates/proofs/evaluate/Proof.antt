@@ -1,4 +1,4 @@
--- `firing::evaluate` meets its contract. The loop's invariant: i assignments of the action are written, and the others stand at
+-- `updates::evaluate` meets its contract. The loop's invariant: i assignments of the action are written, and the others stand at
 -- `place`. Assumes nothing.
 use Prim.Native.Nat.{ℕ, _+_, _-_, _≤_, _<_}
 use mathlib.Core.Path.{_≡_, refl}
@@ -13,11 +13,11 @@ use Rattle.expression.specs.Answers.{scope}
 use Rattle.deck.specs.Deck.{Action}
 use Rattle.deck.specs.Layout.{action}
 use Rattle.deck.specs.Laws.Points.{ReadsAt}
 use Rattle.firing.specs.Laws.Lined.{ActionStands, action-stands}
 use Rattle.firing.specs.Laws.Written.{Writing, Turn, writing-none, writing-next, writing-end}
-use Rattle.firing.proofs.Naturals.{cast-small}
-use Rattle.firing.proofs.evaluate.Statement.{statement}
-use Rattle.firing.proofs.evaluate.Tie as tie
+use Rattle.updates.proofs.Naturals.{cast-small}
+use Rattle.updates.proofs.evaluate.Statement.{statement}
+use Rattle.updates.proofs.evaluate.Tie as tie
 
 abbrev Inv-loop : tie.InvT-loop
 Inv-loop deck at part own far row₀ count place₀ i₀ row place i =

@@ -1,13 +1,13 @@
--- `passing::judge` meets its contract: the pass, and then the other tests. Assumes nothing.
+-- `judging::judge` meets its contract: the pass, and then the other tests. Assumes nothing.
 use Prim.Native.Nat.{ℕ}
 use mathlib.Core.Path.{ap, _∙_}
 use native.Mathlib.Omega.{arith}
 use borrow.Author.Needs.{needs}
 use lib.ListN.{length, length-replicate}
 use Rattle.passing.specs.Laws.Passing.{passing-reads}
 use Rattle.passing.specs.Laws.Judged.{rules-fit, loaded-tabled, loaded-memo, loaded-wrong, wrong-place, bytes-known}
-use Rattle.passing.proofs.judge.Statement.{statement}
-use Rattle.passing.proofs.judge.Tie as tie
+use Rattle.judging.proofs.judge.Statement.{statement}
+use Rattle.judging.proofs.judge.Tie as tie
 
 read-requires : tie.Need-read-requires
 read-requires c κs =

@@ -1,14 +1,14 @@
--- `passing::truth_from` meets its contract: the length byte, and the value of the bytes that it counts. Assumes nothing.
+-- `judging::truth_from` meets its contract: the length byte, and the value of the bytes that it counts. Assumes nothing.
 use Prim.Native.Nat.{_+_, _-_}
 use mathlib.Core.Path.{_≡_, sym, ap, _∙_}
 use native.Mathlib.Omega.{arith}
 use borrow.Author.Needs.{needs}
 use lib.ListN.{getD, take, drop}
 use Rattle.expression.specs.Answers.{wholeTruthValue}
 use Rattle.passing.specs.Stands.{stretch}
 use Rattle.passing.specs.Laws.Stands.{truth-there, told, not-none}
-use Rattle.passing.proofs.truth_from.Statement.{statement}
-use Rattle.passing.proofs.truth_from.Tie as tie
+use Rattle.judging.proofs.truth_from.Statement.{statement}
+use Rattle.judging.proofs.truth_from.Tie as tie
 
 read-n : tie.Need-shared-slice-read-n
 read-n c = omega (arith, c .before .before .pre .2 .1 .inside)

@@ -1,4 +1,4 @@
--- `passing::open_parts` meets its contract. The loop's invariant: the first p parts have their opening values. Assumes nothing.
+-- `judging::open_parts` meets its contract. The loop's invariant: the first p parts have their opening values. Assumes nothing.
 use Prim.Native.Nat.{ℕ, _+_, _*_, _-_, _≤_, _<_}
 use mathlib.Core.Path.{_≡_, refl, sym, ap, ap₂, _∙_}
 use mathlib.Core.List.{List, _++_}
@@ -8,12 +8,12 @@ use lib.ListN.{length, take, drop, length-take, length-drop}
 use lib.IntN.{ℤ}
 use Rattle.deck.specs.Deck.{N}
 use Rattle.pool.specs.Places.{zeros}
 use Rattle.passing.specs.Tabled.{deckOf, PartsKnown}
 use Rattle.passing.specs.Laws.Opening.{zeros-length, openTo, open-none, open-length, open-next, open-all, known-part, opening-stands}
 use Rattle.deck.specs.declared.Deck as Counted
 use Rattle.deck.specs.Laws.Formed.{Formed}
-use Rattle.passing.proofs.open_parts.Statement.{statement}
-use Rattle.passing.proofs.open_parts.Tie as tie
+use Rattle.judging.proofs.open_parts.Statement.{statement}
+use Rattle.judging.proofs.open_parts.Tie as tie
 
 abbrev Inv-loop : tie.InvT-loop
 Inv-loop values₀ deck parts n channels p₀ values p =

@@ -1,4 +1,4 @@
--- `passing::first_outside` meets its contract. The loop's invariant: the parts before p open within their limits. Assumes nothing.
+-- `judging::first_outside` meets its contract. The loop's invariant: the parts before p open within their limits. Assumes nothing.
 use Prim.Native.Nat.{ℕ, _-_, _≤_, _<_}
 use mathlib.Core.Path.{_≡_, sym, ap, _∙_}
 use mathlib.Core.Bool.{Bool, true, false, not}
@@ -7,10 +7,10 @@ use borrow.Author.Count.{below-more}
 use borrow.Author.Needs.{needs}
 use Rattle.deck.specs.Deck.{Deck, N}
 use Rattle.lists.specs.Laws.First.{first-is}
 use Rattle.passing.specs.Check.{within, openingValues, outside}
 use Rattle.passing.specs.Tabled.{deckOf}
-use Rattle.passing.proofs.first_outside.Statement.{statement}
-use Rattle.passing.proofs.first_outside.Tie as tie
+use Rattle.judging.proofs.first_outside.Statement.{statement}
+use Rattle.judging.proofs.first_outside.Tie as tie
 
 abbrev opens : Deck → ℕ → Bool
 opens d p = within d p (openingValues d)
