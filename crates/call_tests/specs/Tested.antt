@@ -19,7 +19,7 @@ use Rattle.states.specs.declared.Goodness.the-variants.{Good, Bad}
 use Rattle.passing.specs.Judged.{shape}
 use Rattle.passing.specs.Tabled.{deckOf}
 use Rattle.offers.specs.Queue.{heldOf}
-use Rattle.steps.specs.Commits.{Stored, Committing}
+use Rattle.offers.specs.Stored.{Stored, Committing}
 use Rattle.calls.specs.Calls.{tested}
 use Rattle.calls.specs.Answers.{memoryAt}
 use Rattle.call_tests.specs.declared.Tested.{Tested}

@@ -12,7 +12,7 @@ use Rattle.pool.specs.States.{Machine}
 use Rattle.passing.specs.Tabled.{deckOf}
 use Rattle.firing.specs.Firing.{committed}
 use Rattle.offers.specs.Queue.{heldOf}
-use Rattle.steps.specs.Commits.{Stored}
+use Rattle.offers.specs.Stored.{Stored}
 use Rattle.calls.specs.Calls.{Answer, applied, discarded}
 use Rattle.call_tests.specs.Tested.{Left}
 

@@ -15,7 +15,7 @@ use Rattle.pool.specs.States.{Machine}
 use Rattle.passing.specs.Tabled.{deckOf}
 use Rattle.firing.specs.Firing.{setAndFire}
 use Rattle.offers.specs.Queue.{heldOf}
-use Rattle.steps.specs.Commits.{Stored}
+use Rattle.offers.specs.Stored.{Stored}
 use Rattle.calls.specs.Calls.{Answer, added, Done, goodInput}
 use Rattle.call_tests.specs.Tested.{Left}
 

@@ -9,7 +9,7 @@ use Rattle.refusals.specs.Outcome.{Outcome, accepted}
 use Rattle.pool.specs.States.{Machine}
 use Rattle.passing.specs.Tabled.{deckOf}
 use Rattle.offers.specs.Queue.{heldOf}
-use Rattle.steps.specs.Commits.{Stored}
+use Rattle.offers.specs.Stored.{Stored}
 use Rattle.calls.specs.Calls.{Answer, settled, spent, Settling, settling}
 use Rattle.call_tests.specs.Tested.{Left}
 

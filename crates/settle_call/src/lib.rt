@@ -7,7 +7,7 @@ ghost use Rattle.calls.specs.declared.Request.the-variants as Asked;
 ghost use Rattle.call_tests.specs.Tested.{Passed};
 ghost use Rattle.settle_call.specs.Settled.{Settles};
 ghost use Rattle.offers.specs.Queue.{heldOf};
-ghost use Rattle.steps.specs.Commits.{Committing};
+ghost use Rattle.offers.specs.Stored.{Committing};
 use calls::Response;
 use deck::Deck;
 

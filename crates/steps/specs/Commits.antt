@@ -23,6 +23,7 @@ use Rattle.passing.specs.Judged.{shape}
 use Rattle.firing.specs.Firing.{changed, pick, without, committed}
 use Rattle.firing.specs.Evaluated.{Assignable}
 use Rattle.offers.specs.Queue.{Held, Kept, Room, SameSize}
+use Rattle.offers.specs.Stored.{Stored}
 
 -- a pool that holds exactly so many known updates, and one of their places
 pub record Looking (k : Counted.Deck) (rules parts memo : List ℕ) (pool : List ℤ) (pending j : ℕ) : Type 0 where
@@ -46,14 +47,6 @@ pub record Looks (e : Deck) (j : ℕ) (vs pool : List ℤ) (m : List ℕ) (after
   pub undone : assign part (pairsOf (take (2 * count) back)) after ≡ vs
   pub changes : mask ≡ maskOf (changed e part vs after)
   pub memo : Memo e m
-
--- the numbers stand for the values and pending updates x, a good state with C places
-pub record Stored (d : Deck) (C : ℕ) (x : Machine) (vs : List ℤ) (pending total : ℕ) (held : Held) : Type 0 where
-  pub fine : Fine d C x
-  pub values : vs ≡ x .values
-  pub count : pending ≡ length (x .pending)
-  pub kept : Kept held (x .pending)
-  pub charged : total ≡ charge d (x .pending)
 
 -- place j was taken out of the pending updates of x and applied: the others are held, with room for C. The pairs of `back` set
 -- its channels back, and `mask` is the set of those that it changes
@@ -84,14 +77,6 @@ pub record Finishes (d e : Deck) (C : ℕ) (back after : List ℤ) (part mask pe
       → Stored d C (committed d j x .machine) values pending total held × (applied ≡ committed d j x .applied)
   pub memo : Memo e m
   pub size : SameSize held₀ held
-
-pub record Committing (s : List ℕ) (k : Counted.Deck) (rules parts memo : List ℕ) (held : Held) (C : ℕ) (values : List ℤ) (pending total : ℕ) : Type 0 where
-  pub tabled : Tabled s k rules parts
-  pub ready : Ready rules parts (k .channels) (k .rules) (k .parts) memo
-  pub acyclic : Acyclic (deckOf s)
-  pub room : Room C held
-  pub machine : Machine
-  pub stored : Stored (deckOf s) C machine values pending total held
 
 -- the commit of place k: what the numbers stand for afterwards is what the definition says
 pub record Commits (d e : Deck) (C k : ℕ) (held₀ : Held) (values₀ : List ℤ) (pending₀ total₀ : ℕ) (m : List ℕ) (held : Held) (values : List ℤ) (pending total : ℕ) (applied : Bool) : Type 0 where

@@ -5,7 +5,8 @@ ghost use lib.ListN.{length, drop};
 ghost use Rattle.passing.specs.Tabled.{deckOf};
 ghost use Rattle.passing.specs.Judged.{shape};
 ghost use Rattle.offers.specs.Queue.{heldOf};
-ghost use Rattle.steps.specs.Commits.{Looking, Looks, Finishing, Finishes, Committing, Commits, CommitsFront};
+ghost use Rattle.offers.specs.Stored.{Committing};
+ghost use Rattle.steps.specs.Commits.{Looking, Looks, Finishing, Finishes, Commits, CommitsFront};
 use deck::Deck;
 
 // The part of an update and the number of its pairs, its charge, up to 65,536, and the channels that it changes, as a set.

@@ -8,7 +8,7 @@ use Rattle.deck.specs.Deck.{Deck}
 use Rattle.pool.specs.Places.{poolOf}
 use Rattle.pool.specs.States.{Machine, store}
 use Rattle.offers.specs.Queue.{Held}
-use Rattle.steps.specs.Commits.{Stored}
+use Rattle.offers.specs.Stored.{Stored}
 use Rattle.calls.specs.Answers.{memoryAt}
 use Rattle.call_tests.specs.Tested.{Left}
 

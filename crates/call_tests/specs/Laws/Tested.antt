@@ -31,7 +31,7 @@ use Rattle.passing.specs.Laws.Passing.{passing-clean}
 use Rattle.index.specs.Index.{headsOf, Indexed, keys, Roomy}
 use Rattle.index.specs.Laws.Indexed.{keys-laid}
 use Rattle.offers.specs.Queue.{heldOf}
-use Rattle.steps.specs.Commits.{Stored}
+use Rattle.offers.specs.Stored.{Stored}
 use Rattle.calls.specs.Calls.{tested}
 use Rattle.calls.specs.Answers.{memoryAt}
 use Rattle.call_tests.specs.Tested.{Usable, TestsState, Passed, Tests}

@@ -19,7 +19,8 @@ use Rattle.firing.specs.Firing.{committed}
 use Rattle.deck.specs.declared.Deck as Counted
 use Rattle.pool.specs.Laws.Good.{count-bounded}
 use Rattle.offers.specs.Queue.{heldOf}
-use Rattle.steps.specs.Commits.{Stored, Commits}
+use Rattle.offers.specs.Stored.{Stored}
+use Rattle.steps.specs.Commits.{Commits}
 use Rattle.calls.specs.Calls.{Answer, applied, discarded, Reply, reply, tested, commit}
 use Rattle.calls.specs.Answers.{replyAt}
 use Rattle.call_tests.specs.Tested.{Entering}

@@ -29,7 +29,7 @@ use Rattle.offers.specs.declared.Queue.{Queue}
 use Rattle.offers.specs.Queue.{heldOf, Grown}
 use Rattle.reactions.specs.Reactions.{Reacting, Reacted, Reacts}
 use Rattle.reactions.specs.Laws.Reacting.{changed-low}
-use Rattle.steps.specs.Commits.{Stored}
+use Rattle.offers.specs.Stored.{Stored}
 use Rattle.steps.specs.Laws.Committing.{charge-same}
 use Rattle.calls.specs.Calls.{Answer, added, Done, goodInput}
 use Rattle.call_tests.specs.Laws.Entering.{enter-room}

@@ -14,7 +14,7 @@ use Rattle.pool.specs.Places.{capacity}
 use Rattle.pool.specs.States.{Memory, load, store}
 use Rattle.passing.specs.Tabled.{deckOf}
 use Rattle.offers.specs.Queue.{heldOf}
-use Rattle.steps.specs.Commits.{Committing}
+use Rattle.offers.specs.Stored.{Committing}
 use Rattle.calls.specs.Calls.{Answer, reply, tested, settling, settle}
 use Rattle.calls.specs.Answers.{replyOf, replyAt}
 use Rattle.call_tests.specs.Tested.{Passed}

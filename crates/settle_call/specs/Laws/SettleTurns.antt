@@ -27,7 +27,8 @@ use Rattle.index.specs.Index.{headsOf}
 use Rattle.pool.specs.Laws.Good.{count-bounded}
 use Rattle.offers.specs.Queue.{heldOf, Room}
 use Rattle.steps.specs.Laws.Looking.{tail-back}
-use Rattle.steps.specs.Commits.{Stored, Committing, CommitsFront}
+use Rattle.offers.specs.Stored.{Stored, Committing}
+use Rattle.steps.specs.Commits.{CommitsFront}
 use Rattle.calls.specs.Calls.{Answer, settled, spent, Settling, oneMore, settling}
 use Rattle.call_tests.specs.Tested.{Left}
 use Rattle.settle_call.specs.Settled.{settledAs, Settles}

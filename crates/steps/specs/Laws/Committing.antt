@@ -28,7 +28,8 @@ use Rattle.firing.specs.Laws.Commits.{Known, pick-known, commit-falls, commit-f
 use Rattle.index.specs.Index.{headsOf, Roomy, forgotten}
 use Rattle.offers.specs.Queue.{Held, heldOf, Kept, Room, SameSize, Grown}
 use Rattle.reactions.specs.Reactions.{Reacting, Reacted, Reacts}
-use Rattle.steps.specs.Commits.{Looking, Looks, Stored, Without, Finishing, Finishes, Committing, Commits, CommitsFront}
+use Rattle.offers.specs.Stored.{Stored, Committing}
+use Rattle.steps.specs.Commits.{Looking, Looks, Without, Finishing, Finishes, Commits, CommitsFront}
 use Rattle.offers.specs.Laws.Queue.{same-size, size-then, room-same}
 use Rattle.reactions.specs.Laws.Reacting.{changed-low}
 use Rattle.steps.specs.Laws.Looking.{taken-charge, without-kept, without-size, front-kept}
