@@ -1,26 +1,18 @@
 -- Document 01, "Calls": the line that the program prints. Assumes nothing.
-use Prim.Native.Nat.{ℕ, zero, suc, _+_, _/_, _%_}
+use Prim.Native.Nat.{ℕ}
 use Prim.Native.Char.{code}
 use Prim.Native.String as Text
 use Prim.Native.String.{String}
-use mathlib.Core.Bool.{cond}
 use mathlib.Core.List.{List, [], _∷_, _++_}
-use lib.Dec.{ltb}
 use Rattle.lists.specs.Lists.{flatMap}
 use Rattle.refusals.specs.Outcome.{Outcome, refused, accepted}
+use Rattle.text.specs.Digits.{digits}
 use Rattle.calls.specs.Calls.{Answer, passed, started, added, applied, discarded, settled, spent}
 
 -- the bytes of a text
 unfoldable pub ascii : String → List ℕ
 ascii Text.[] = []
 ascii (Text._∷_ c s) = code c ∷ ascii s
-
--- n in decimal, with at most k divisions
-unfoldable pub digits : ℕ → ℕ → List ℕ
-digits zero n = (48 + n % 10) ∷ []
-digits (suc k) n =
-    let longer = digits k (n / 10) ++ (48 + n % 10) ∷ [] in
-    cond (ltb n 10) ((48 + n) ∷ []) longer
 
 -- a word and numbers "with single spaces and a newline"
 unfoldable pub words : String → List ℕ → List ℕ
@@ -37,7 +29,7 @@ line (accepted (discarded c)) = []
 line (accepted (settled n)) = []
 line (accepted (spent n)) = []
 
--- to open all definitions of this file, on an `unfolding` line
+-- to open all definitions of this file and `digits`, on an `unfolding` line
 unfoldable pub lines : Unit {0}
 unfolding ascii digits words line
 lines = tt

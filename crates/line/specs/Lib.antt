@@ -1,3 +1,2 @@
--- What is promised of the functions that write the line, and laws of it.
-pub mod Put
+-- Laws of the line.
 pub mod Laws

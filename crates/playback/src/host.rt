@@ -2,7 +2,7 @@
 ghost use mathlib.Core.Path.{_≡_};
 ghost use Prim.Native.Nat.{_≤_};
 ghost use lib.ListN.{length};
-use crate::lines::Answer;
+use answer_lines::Answer;
 use calls::CommitAnswer;
 use calls::InputAnswer;
 use calls::SettleAnswer;
@@ -261,6 +261,23 @@ fn said(answer: Answer, host: Host) -> Turn
     }
 }
 
+// Does what a line asks for where that is no call: writes into memory, or nothing.
+fn change(pool: &mut [i32; LONGEST_POOL], host: Host, request: Request, v: i32) -> Turn
+    requires { ⌜ host .length ≤ 700000 ⌝ }
+    ensures { λ r. ⌜ r .host .length ≤ 700000 ⌝ }
+{
+    match request {
+        Request::Value(index) => set_value(host, index, v),
+        Request::Pending(pending) => set_pending(host, pending),
+        Request::Pool(index) => {
+            let answer = set_pool(pool, host.length, index, v);
+            said(answer, host)
+        }
+        Request::Unreadable => said(Answer::Unreadable, host),
+        _ => said(Answer::Nothing, host),
+    }
+}
+
 // Does what a line asks for.
 pub fn perform(
     deck: &[u8],
@@ -280,17 +297,10 @@ pub fn perform(
         Request::Input(part) => input(deck, pool, n, state, part, numbers, count),
         Request::Commit(place) => commit(deck, pool, n, state, place),
         Request::Settle(budget) => settle(deck, pool, n, state, budget),
-        Request::Value(index) => set_value(host, index, second(numbers)),
-        Request::Pending(pending) => set_pending(host, pending),
         Request::Section(number) => {
             let answer = section(deck, number);
             said(answer, host)
         }
-        Request::Pool(index) => {
-            let answer = set_pool(pool, n, index, second(numbers));
-            said(answer, host)
-        }
-        Request::Nothing => said(Answer::Nothing, host),
-        Request::Unreadable => said(Answer::Unreadable, host),
+        _ => change(pool, host, request, second(numbers)),
     }
 }

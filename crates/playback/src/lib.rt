@@ -1,7 +1,6 @@
 // Goes through a text of calls on the memory of one host, and prints an answer for each and at the end what is left in memory.
 // What is read and written is tested and not proved.
 mod host;
-mod lines;
 mod output;
 
 ghost use Prim.Native.Nat.{_≤_};

@@ -4,7 +4,7 @@ ghost use Prim.Native.Nat.{_+_, _≤_};
 ghost use lib.ListN.{length};
 use crate::host::Host;
 use crate::host::LONGEST_POOL;
-use crate::lines::Answer;
+use answer_lines::Answer;
 use deck::Deck;
 
 // Bytes of output that may wait.
@@ -24,7 +24,7 @@ fn put_part(text: &[u8], n: usize, out: &mut [u8], at: usize) -> usize
     requires { ⌜ (n ≤ length (now text)) × (at + n ≤ length (now out)) ⌝ }
     ensures { λ r. ⌜ r ≡ at + n ⌝ }
 {
-    line::put_text(out, at, &text[..n])
+    text::put_text(out, at, &text[..n])
 }
 
 // Puts the first n bytes of a text behind what waits, and answers how much waits then.
@@ -45,7 +45,7 @@ pub fn print(answer: Answer, out: &mut [u8; ROOM], waiting: usize) -> usize
     ensures { λ r. ⌜ r ≤ 65536 ⌝ }
 {
     let mut text = [0u8; 64];
-    let n = crate::lines::put_answer(answer, &mut text);
+    let n = answer_lines::put_answer(answer, &mut text);
     put(&text, n, out, waiting)
 }
 

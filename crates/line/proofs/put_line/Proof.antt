@@ -3,7 +3,8 @@ use mathlib.Core.Path.{_∙_}
 use native.Mathlib.Omega.{arith}
 use borrow.Author.Needs.{needs}
 use Rattle.calls.specs.Line.{ascii}
-use Rattle.line.specs.Laws.{put-more, put-counts, line-passed, line-refused}
+use Rattle.text.specs.Laws.{put-more}
+use Rattle.line.specs.Laws.{put-counts, line-passed, line-refused}
 use Rattle.line.proofs.put_line.Statement.{statement}
 use Rattle.line.proofs.put_line.Tie as tie
 

@@ -1,4 +1,4 @@
--- `line::put_text` meets its contract. The invariant: the first i bytes of the text are pasted at the place. Assumes nothing.
+-- `text::put_text` meets its contract. The invariant: the first i bytes of the text are pasted at the place. Assumes nothing.
 use Prim.Native.Nat.{ℕ, _+_, _-_, _≤_, _<_}
 use mathlib.Core.Path.{_≡_, refl, sym, ap, _∙_}
 use mathlib.Core.List.{List, _++_}
@@ -7,8 +7,8 @@ use native.Mathlib.Omega.{arith}
 use borrow.Author.Needs.{needs}
 use lib.ListN.{length, take, set, getD, length-set}
 use lib.Seq.{paste, paste-zero, paste-suc, take-paste, take-all}
-use Rattle.line.proofs.put_text.Statement.{statement}
-use Rattle.line.proofs.put_text.Tie as tie
+use Rattle.text.proofs.put_text.Statement.{statement}
+use Rattle.text.proofs.put_text.Tie as tie
 
 abbrev Inv-loop : tie.InvT-loop
 Inv-loop out₀ at text i₀ out i = (i ≤ length text) × (length out ≡ length out₀) × (out ≡ paste out₀ at text i)

@@ -1,10 +1,10 @@
--- `playback::lines::natural` is safe and ends. Assumes nothing.
+-- `answer_lines::natural` is safe and ends. Assumes nothing.
 use mir.Syntax.{w32}
 use mir.ValLaws.{toZ-ofZ}
-use Rattle.playback.proofs.Numbers.{from-zero, at-most}
+use Rattle.answer_lines.proofs.Numbers.{from-zero, at-most}
 use borrow.Author.Needs.{needs}
-use Rattle.playback.proofs.lines.natural.Statement.{statement}
-use Rattle.playback.proofs.lines.natural.Tie as tie
+use Rattle.answer_lines.proofs.natural.Statement.{statement}
+use Rattle.answer_lines.proofs.natural.Tie as tie
 
 returns : tie.Need-returns
 returns c = search needs

@@ -1,4 +1,4 @@
-// The lines that are printed.
+// The lines that `replay` prints.
 ghost use Prim.Native.Nat.{_≤_, _+_};
 ghost use lib.ListN.{length};
 
@@ -45,12 +45,12 @@ fn put_signed(out: &mut [u8], at: usize, v: i32) -> usize
     let n = magnitude(v);
     if v < 0 {
         // the minus sign goes where the number has its space
-        let a = line::put_byte(out, at, b' ');
-        let b = line::put_number(out, a, n);
-        line::put_byte(out, a, b'-');
+        let a = text::put_byte(out, at, b' ');
+        let b = text::put_number(out, a, n);
+        text::put_byte(out, a, b'-');
         return b;
     }
-    line::put_number(out, at, n)
+    text::put_number(out, at, n)
 }
 
 // A word alone.
@@ -58,8 +58,8 @@ fn put_word(out: &mut [u8; 64], word: &[u8]) -> usize
     requires { ⌜ length (now word) ≤ 10 ⌝ }
     ensures { λ r. ⌜ r ≤ 64 ⌝ }
 {
-    let a = line::put_text(out, 0, word);
-    line::put_byte(out, a, b'\n')
+    let a = text::put_text(out, 0, word);
+    text::put_byte(out, a, b'\n')
 }
 
 // A word and a number.
@@ -67,9 +67,9 @@ fn put_one(out: &mut [u8; 64], word: &[u8], n: u32) -> usize
     requires { ⌜ length (now word) ≤ 10 ⌝ }
     ensures { λ r. ⌜ r ≤ 64 ⌝ }
 {
-    let a = line::put_text(out, 0, word);
-    let b = line::put_number(out, a, n);
-    line::put_byte(out, b, b'\n')
+    let a = text::put_text(out, 0, word);
+    let b = text::put_number(out, a, n);
+    text::put_byte(out, b, b'\n')
 }
 
 // A word and two numbers.
@@ -77,10 +77,10 @@ fn put_two(out: &mut [u8; 64], word: &[u8], n: u32, m: u32) -> usize
     requires { ⌜ length (now word) ≤ 10 ⌝ }
     ensures { λ r. ⌜ r ≤ 64 ⌝ }
 {
-    let a = line::put_text(out, 0, word);
-    let b = line::put_number(out, a, n);
-    let c = line::put_number(out, b, m);
-    line::put_byte(out, c, b'\n')
+    let a = text::put_text(out, 0, word);
+    let b = text::put_number(out, a, n);
+    let c = text::put_number(out, b, m);
+    text::put_byte(out, c, b'\n')
 }
 
 // A word, an index and a signed number.
@@ -88,10 +88,38 @@ fn put_entry(out: &mut [u8; 64], word: &[u8], i: u32, v: i32) -> usize
     requires { ⌜ length (now word) ≤ 10 ⌝ }
     ensures { λ r. ⌜ r ≤ 64 ⌝ }
 {
-    let a = line::put_text(out, 0, word);
-    let b = line::put_number(out, a, i);
+    let a = text::put_text(out, 0, word);
+    let b = text::put_number(out, a, i);
     let c = put_signed(out, b, v);
-    line::put_byte(out, c, b'\n')
+    text::put_byte(out, c, b'\n')
+}
+
+// The line of an answer that holds two numbers.
+fn put_pair(answer: Answer, out: &mut [u8; 64]) -> usize
+    ensures { λ r. ⌜ r ≤ 64 ⌝ }
+{
+    match answer {
+        Answer::Section(from, to) => put_two(out, b"section", from, to),
+        Answer::Refused(number, place) => put_two(out, b"refused", number, place),
+        Answer::Value(i, v) => put_entry(out, b"value", i, v),
+        Answer::Pool(i, v) => put_entry(out, b"pool", i, v),
+        _ => 0,
+    }
+}
+
+// The line of an answer that holds a number or two.
+fn put_numbers(answer: Answer, out: &mut [u8; 64]) -> usize
+    ensures { λ r. ⌜ r ≤ 64 ⌝ }
+{
+    match answer {
+        Answer::Added(n) => put_one(out, b"added", n),
+        Answer::Applied(n) => put_one(out, b"applied", n),
+        Answer::Discarded(n) => put_one(out, b"discarded", n),
+        Answer::Settled(n) => put_one(out, b"settled", n),
+        Answer::Spent(n) => put_one(out, b"spent", n),
+        Answer::Pending(n) => put_one(out, b"pending", n),
+        _ => put_pair(answer, out),
+    }
 }
 
 // Puts a line with its newline at the start of a buffer, and answers its length.
@@ -102,15 +130,6 @@ pub fn put_answer(answer: Answer, out: &mut [u8; 64]) -> usize
         Answer::Nothing => 0,
         Answer::Unreadable => put_word(out, b"unreadable"),
         Answer::Started => put_word(out, b"started"),
-        Answer::Added(n) => put_one(out, b"added", n),
-        Answer::Applied(n) => put_one(out, b"applied", n),
-        Answer::Discarded(n) => put_one(out, b"discarded", n),
-        Answer::Settled(n) => put_one(out, b"settled", n),
-        Answer::Spent(n) => put_one(out, b"spent", n),
-        Answer::Section(from, to) => put_two(out, b"section", from, to),
-        Answer::Refused(number, place) => put_two(out, b"refused", number, place),
-        Answer::Pending(n) => put_one(out, b"pending", n),
-        Answer::Value(i, v) => put_entry(out, b"value", i, v),
-        Answer::Pool(i, v) => put_entry(out, b"pool", i, v),
+        _ => put_numbers(answer, out),
     }
 }

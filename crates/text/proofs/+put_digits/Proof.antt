@@ -1,4 +1,4 @@
--- `line::put_digits` meets its contract. The measure is the number: without its last digit it is less. Assumes nothing.
+-- `text::put_digits` meets its contract. The measure is the number: without its last digit it is less. Assumes nothing.
 use Prim.Native.Nat.{ℕ, _+_, _/_, _%_, _<_}
 use mathlib.Core.Path.{ap, _∙_}
 use mathlib.Core.List.{[], _∷_}
@@ -7,14 +7,14 @@ use borrow.Author.Needs.{needs}
 use borrow.Fn.Kinds.{In}
 use borrow.Fn.PlainCycle.{Measures, is, falls, and}
 use lib.ListN.{length, length-append}
-use Rattle.calls.specs.Line.{digits}
-use Rattle.line.specs.Laws.{put-more, digits-one, digits-more}
-use Rattle.line.proofs.put_digits.Reads as put-digits
-use Rattle.line.proofs.put_digits.Kinds as put-digits-kinds
-use Rattle.line.proofs.+put_digits.Lts-put_digits as lts
-use Rattle.line.proofs.put_byte.Reads as put-byte-reads
-use Rattle.line.proofs.+put_digits.{statement}
-use Rattle.line.proofs.+put_digits.Tie.{close}
+use Rattle.text.specs.Digits.{digits}
+use Rattle.text.specs.Laws.{put-more, digits-one, digits-more}
+use Rattle.text.proofs.put_digits.Reads as put-digits
+use Rattle.text.proofs.put_digits.Kinds as put-digits-kinds
+use Rattle.text.proofs.+put_digits.Lts-put_digits as lts
+use Rattle.text.proofs.put_byte.Reads as put-byte-reads
+use Rattle.text.proofs.+put_digits.{statement}
+use Rattle.text.proofs.+put_digits.Tie.{close}
 
 abbrev μ-put-digits : Measures 1 put-digits-kinds.ps ℕ
 μ-put-digits κs a = a .1 .1 .0

@@ -1,12 +1,12 @@
--- `line::put_byte` meets its contract. Assumes nothing.
+-- `text::put_byte` meets its contract. Assumes nothing.
 use Prim.Native.Nat.{ℕ}
 use borrow.Author.Needs.{needs}
 use mathlib.Core.Path.{ap, _∙_, refl}
 use native.Mathlib.Numerals.{add-one}
 use lib.ListN.{take, set}
 use lib.Seq.{take-suc-set}
-use Rattle.line.proofs.put_byte.Statement.{statement}
-use Rattle.line.proofs.put_byte.Tie as tie
+use Rattle.text.proofs.put_byte.Statement.{statement}
+use Rattle.text.proofs.put_byte.Tie as tie
 
 slice-write-out : tie.Need-slice-write-out
 slice-write-out c = search needs

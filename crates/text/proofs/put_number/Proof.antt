@@ -1,4 +1,4 @@
--- `line::put_number` meets its contract: a number of 32 bits has at most ten digits. Assumes nothing.
+-- `text::put_number` meets its contract: a number of 32 bits has at most ten digits. Assumes nothing.
 use Prim.Native.Nat.{ℕ, _≤_}
 use native.Mathlib.Nat.{lt-trans}
 use native.Mathlib.Omega.{arith}
@@ -7,10 +7,10 @@ use lib.Dec.{lit<}
 use lib.ListN.{length}
 use mir.Syntax.{w32}
 use mir.Val.{Fits}
-use Rattle.calls.specs.Line.{digits}
-use Rattle.line.specs.Laws.{put-more, digits-long}
-use Rattle.line.proofs.put_number.Statement.{statement}
-use Rattle.line.proofs.put_number.Tie as tie
+use Rattle.text.specs.Digits.{digits}
+use Rattle.text.specs.Laws.{put-more, digits-long}
+use Rattle.text.proofs.put_number.Statement.{statement}
+use Rattle.text.proofs.put_number.Tie as tie
 
 -- at most ten digits
 ten : (n : ℕ) → Fits w32 n → length (digits n n) ≤ 10
