@@ -1,6 +1,6 @@
 -- Document 01, "Calls": each call is given exactly what a host gives it, and hands back its answer and what the host then
 -- holds. Assumes nothing.
-use Prim.Native.Nat.{ℕ, zero, suc, _+_, _*_, _-_, _%_}
+use Prim.Native.Nat.{ℕ, zero, suc, _*_, _-_, _%_}
 use mathlib.Core.Bool.{Bool, _&&_, cond}
 use mathlib.Core.List.{List, [], _∷_, map}
 use lib.Dec.{leb, ltb, eqb}
@@ -18,7 +18,7 @@ use Rattle.pool.specs.Updates.{charge}
 use Rattle.pool.specs.Places.{zeros, capacity, pairsOf}
 use Rattle.pool.specs.States.{Machine, Memory, load, store, goodLength, good}
 use Rattle.passing.specs.Check.{passing, openingValues}
-use Rattle.firing.specs.Firing.{Commit, setAndFire, committed}
+use Rattle.firing.specs.Firing.{setAndFire, committed}
 
 -- what an accepted call answers
 pub data Answer : Type 0 where

@@ -6,8 +6,8 @@ use mathlib.Core.List.{List, [], _∷_, map}
 use lib.IntN.{pos}
 use Rattle.lists.specs.Lists.{lists}
 use Rattle.expression.specs.Syntax.{literal, constant}
-use Rattle.deck.specs.Deck.{Assignment, Action, Rule, Part, Deck, decks}
-use Rattle.charge.specs.Charge.{Charged, updateCharge, carriedCharges, aboveBound, charges}
+use Rattle.deck.specs.Deck.{Action, Rule, Part, Deck, decks}
+use Rattle.charge.specs.Charge.{updateCharge, carriedCharges, aboveBound, charges}
 
 abbrev sets : ℕ → Action
 sets t = record { target = t; value = literal (pos 0) } ∷ []

@@ -1,11 +1,11 @@
 -- Document 01, "Dependency graph and charge": "On an acyclic deck the charge of an update and the charge of a rule are defined
 -- from each other". An update stands here by its targets. Assumes nothing.
 use Prim.Native.Nat.{ℕ, zero, suc, _+_, _*_}
-use mathlib.Core.Bool.{Bool, true, false, not, cond}
+use mathlib.Core.Bool.{not, cond}
 use mathlib.Core.List.{List, [], _∷_, map}
 use lib.Dec.{eqb, ltb}
 use Rattle.lists.specs.Lists.{filter, flatMap, sum, largest, below}
-use Rattle.deck.specs.Deck.{Deck, Rule, R, M, N, ruleAt, carries, targets, active}
+use Rattle.deck.specs.Deck.{Deck, R, M, N, ruleAt, carries, targets, active}
 
 -- "all other parts", rising
 unfoldable pub others : Deck → ℕ → List ℕ

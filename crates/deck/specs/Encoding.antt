@@ -5,7 +5,7 @@ use mathlib.Core.List.{List, [], _∷_, _++_}
 use lib.Dec.{leb, ltb, eqb}
 use lib.ListN.{length}
 use Rattle.lists.specs.Lists.{all, flatMap, distinct}
-use Rattle.expression.specs.Syntax.{Num, Truth}
+use Rattle.expression.specs.Syntax.{Truth}
 use Rattle.expression.specs.Reading.{Scope}
 use Rattle.expression.specs.Encoding.{encodeValue, encodeNum, encodeTruth, fits, goodNum, goodTruth}
 use Rattle.deck.specs.Limits.{limits}

@@ -6,10 +6,9 @@ use lib.Dec.{eqb}
 use Rattle.lists.specs.Lists.{member}
 use Rattle.refusals.specs.Outcome.{Outcome, refused, accepted}
 use Rattle.refusals.specs.Numbers.{badExpression, repeatedTarget}
-use Rattle.expression.specs.Syntax.{Num, Truth}
 use Rattle.expression.specs.Reading.{Read, got, nothing, Scope, wholeNum, wholeTruth}
 use Rattle.deck.specs.Limits.{limits}
-use Rattle.deck.specs.Deck.{Assignment, Action, Rule, Part, Deck}
+use Rattle.deck.specs.Deck.{Action, Rule, Part, Deck}
 use Rattle.deck.specs.Reader.{Got, Reader, _>>=_, _>>_, give, fault, here, require, byte, end, number, times, rising, value}
 
 -- 3: the bytes break the rules of expressions. The place is the first byte after the length byte

@@ -1,5 +1,4 @@
 -- Document 01, "The deck": "These limits belong to the deck and are written down once". Assumes nothing.
-use Prim.Native.Nat.{ℕ}
 use Rattle.deck.specs.declared.Limits.{Limits}
 
 -- R, M and N are at most these; so are a rule's events, an action's assignments and an expression's bytes. A value table has

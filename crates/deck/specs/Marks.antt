@@ -1,6 +1,6 @@
 -- The reading of a deck once more, with the offsets of what is looked up later, and the tables that a pass over the bytes
 -- fills. Assumes nothing.
-use Prim.Native.Nat.{ℕ, zero, suc, _+_, _*_, _-_, _≤_, _<_}
+use Prim.Native.Nat.{ℕ, suc, _+_, _*_, _-_, _≤_, _<_}
 use mathlib.Core.Path.{_≡_}
 use mathlib.Core.Bool.{Bool, true, false, not}
 use mathlib.Core.List.{List, [], _∷_, _++_, map}
@@ -11,11 +11,11 @@ use Rattle.lists.specs.Bits.{bit, maskOf}
 use Rattle.refusals.specs.Outcome.{Outcome, refused, accepted}
 use Rattle.refusals.specs.Numbers.{repeatedTarget}
 use Rattle.expression.specs.Syntax.{Num, Truth}
-use Rattle.expression.specs.Reading.{Scope, Read, wholeNum, wholeTruth}
+use Rattle.expression.specs.Reading.{Scope, wholeNum, wholeTruth}
 use Rattle.expression.specs.Answers.{isGot}
 use Rattle.deck.specs.Limits.{limits}
-use Rattle.deck.specs.Deck.{Assignment, Action, Rule, Part, Deck, targets}
-use Rattle.deck.specs.Reader.{Got, Reader, _>>=_, _>>_, give, here, require, byte, end, number, times, rising, value}
+use Rattle.deck.specs.Deck.{Assignment, Action, Rule, Part, targets}
+use Rattle.deck.specs.Reader.{Got, Reader, _>>=_, _>>_, give, here, require, end, number, times, rising, value}
 use Rattle.deck.specs.Layout.{expression, ownOnly, taskScope, action, Layout}
 use Rattle.deck.specs.Encoding.{kindByte}
 use Rattle.deck.specs.declared.Step.{Step}

@@ -2,14 +2,14 @@
 -- carried rules. Values and conditions play no role there. Assumes nothing.
 use Prim.Native.Nat.{ℕ, _+_, _*_}
 use mathlib.Core.Bool.{true}
-use mathlib.Core.List.{List, [], _∷_, map}
+use mathlib.Core.List.{List, [], map}
 use lib.Dec.{eqb}
 use lib.ListN.{getD, replicate}
 use lib.IntN.{pos}
 use Rattle.lists.specs.Lists.{filter, below}
 use Rattle.lists.specs.Bits.{bit}
 use Rattle.expression.specs.Syntax.{literal, constant}
-use Rattle.deck.specs.Deck.{Assignment, Action, Rule, Part, Deck}
+use Rattle.deck.specs.Deck.{Action, Rule, Part, Deck}
 
 -- the numbers below n in a set
 unfoldable pub bitsOf : ℕ → ℕ → List ℕ

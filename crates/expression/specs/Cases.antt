@@ -1,9 +1,9 @@
 -- Cases: what is easy to get wrong in reading and evaluating an expression. Assumes nothing.
 use mathlib.Core.Path.{_≡_, refl}
-use mathlib.Core.Bool.{Bool, true, false}
+use mathlib.Core.Bool.{Bool, false}
 use mathlib.Core.List.{List, [], _∷_, map}
-use Prim.Native.Nat.{ℕ, _+_}
-use lib.IntN.{ℤ, pos, negsuc}
+use Prim.Native.Nat.{_+_}
+use lib.IntN.{ℤ, pos}
 use Rattle.lists.specs.Lists.{lists}
 use Rattle.expression.specs.Syntax.{Num, Truth}
 use Rattle.expression.specs.Values.{numValue, truthValue, evaluation}

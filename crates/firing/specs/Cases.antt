@@ -5,18 +5,16 @@ use mathlib.Core.Bool.{Bool, true, false}
 use mathlib.Core.List.{List, [], _∷_, map}
 use lib.IntN.{ℤ, pos}
 use Rattle.lists.specs.Lists.{flatMap, lists}
-use Rattle.refusals.specs.Outcome.{refused, requireNone, outcomes}
-use Rattle.refusals.specs.Numbers.{opensOutside}
 use Rattle.expression.specs.Syntax.{Num, Truth, literal, own, far, two, constant, compared}
 use Rattle.expression.specs.Values.{evaluation}
 use Rattle.expression.specs.declared.Arith.the-variants.{Difference}
 use Rattle.expression.specs.declared.Compare.the-variants.{Less}
-use Rattle.deck.specs.Deck.{Assignment, Action, Rule, Part, Deck, decks}
+use Rattle.deck.specs.Deck.{Action, Part, Deck, decks}
 use Rattle.charge.specs.Charge.{charges}
-use Rattle.pool.specs.Updates.{Pair, Update, valueAt, updates}
+use Rattle.pool.specs.Updates.{Update, valueAt, updates}
 use Rattle.pool.specs.Places.{pools}
 use Rattle.pool.specs.States.{Machine}
-use Rattle.passing.specs.Check.{outside, openingValues, checks}
+use Rattle.passing.specs.Check.{openingValues, checks}
 use Rattle.firing.specs.Firing.{Commit, setAndFire, committed, firing}
 
 abbrev sets : ℕ → Num → Action

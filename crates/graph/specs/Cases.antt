@@ -6,7 +6,7 @@ use mathlib.Core.List.{List, [], _∷_, map}
 use lib.IntN.{pos}
 use Rattle.lists.specs.Lists.{lists}
 use Rattle.expression.specs.Syntax.{literal, constant}
-use Rattle.deck.specs.Deck.{Assignment, Action, Rule, Part, Deck, decks}
+use Rattle.deck.specs.Deck.{Action, Rule, Deck, decks}
 use Rattle.graph.specs.Graph.{cyclic, graphs}
 
 abbrev sets : ℕ → Action

@@ -4,7 +4,7 @@ use mathlib.Core.Bool.{Bool, true, _&&_, _||_}
 use mathlib.Core.Path.{_≡_}
 use mathlib.Core.List.{List, [], _∷_}
 use Rattle.lists.specs.Lists.{any, filter, below, member}
-use Rattle.deck.specs.Deck.{Deck, Action, Rule, R, M, N, ruleAt, carries, targets}
+use Rattle.deck.specs.Deck.{Deck, R, M, N, ruleAt, carries, targets}
 
 -- some part carries rule r. "Part numbers play no role"
 unfoldable pub carried : Deck → ℕ → Bool

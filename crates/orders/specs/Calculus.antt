@@ -11,8 +11,8 @@ use Rattle.lists.specs.Lists.{any, filter, below, member, isEmpty, eqZ, eqList}
 use Rattle.expression.specs.Syntax.{Num, literal, own, far, two, negation}
 use Rattle.expression.specs.Syntax.{Truth, constant, opposite, both, compared}
 use Rattle.expression.specs.Values.{numValue, truthValue}
-use Rattle.deck.specs.Deck.{Deck, Assignment, Action, Rule, R, M, N, ruleAt, partAt, carries}
-use Rattle.pool.specs.Updates.{Pair, Update, valueAt, eqPair, isAmong}
+use Rattle.deck.specs.Deck.{Deck, Action, Rule, R, M, N, ruleAt, partAt, carries}
+use Rattle.pool.specs.Updates.{Pair, valueAt, eqPair, isAmong}
 use Rattle.pool.specs.States.{Machine}
 
 -- ---- states and sets of updates

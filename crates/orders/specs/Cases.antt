@@ -11,20 +11,20 @@ use Rattle.lists.specs.Lists.{flatMap, lists}
 use Rattle.refusals.specs.Outcome.{Outcome, refused, accepted, outcomes}
 use Rattle.expression.specs.Values.{evaluation}
 use Rattle.expression.specs.Reading.{readingExpressions}
-use Rattle.deck.specs.Deck.{Deck, decks}
+use Rattle.deck.specs.Deck.{decks}
 use Rattle.deck.specs.Reader.{readers}
 use Rattle.deck.specs.Layout.{Layout, layouts}
 use Rattle.graph.specs.Graph.{graphs}
 use Rattle.charge.specs.Charge.{charges}
 use Rattle.pool.specs.Updates.{valueAt, updates}
 use Rattle.pool.specs.Places.{zeros, pools}
-use Rattle.pool.specs.States.{Machine, Memory, store, states}
+use Rattle.pool.specs.States.{Memory, store, states}
 use Rattle.passing.specs.Check.{passing, checks}
 use Rattle.firing.specs.Firing.{firing}
 use Rattle.calls.specs.Calls.{Answer, passed, added, applied, discarded, check, calls}
 use Rattle.calls.specs.Line.{ascii, line, lines}
-use Rattle.orders.specs.Calling.{Call, input, commit, Run, run, running}
-use Rattle.orders.specs.Listed.{Listed, listed, listing}
+use Rattle.orders.specs.Calling.{Call, input, commit, run, running}
+use Rattle.orders.specs.Listed.{listed, listing}
 
 -- bytes in hexadecimal, each followed by a space or a bar
 unfoldable pub nibble : ℕ → ℕ

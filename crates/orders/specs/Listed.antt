@@ -5,16 +5,15 @@ use mathlib.Core.Bool.{Bool, cond}
 use mathlib.Core.List.{List, [], _∷_, _++_}
 use lib.Dec.{leb, ltb}
 use lib.ListN.{length}
-use lib.IntN.{ℤ}
 use Rattle.lists.specs.Lists.{sum, isEmpty}
 use Rattle.refusals.specs.Outcome.{Outcome, refused, accepted, _>>=_, _>>_, require}
 use Rattle.refusals.specs.Numbers.{unknownPart, badInput, overCapacity, placeNotPending, budgetTooLarge}
 use Rattle.deck.specs.Deck.{Deck, N}
-use Rattle.pool.specs.Updates.{Update, charge}
+use Rattle.pool.specs.Updates.{charge}
 use Rattle.pool.specs.Places.{capacity, pairsOf}
 use Rattle.pool.specs.States.{Machine}
 use Rattle.passing.specs.Check.{openingValues}
-use Rattle.firing.specs.Firing.{setAndFire, pick, Commit, committed}
+use Rattle.firing.specs.Firing.{setAndFire, pick, committed}
 use Rattle.calls.specs.Calls.{Answer, passed, started, added, applied, discarded, settled, spent, goodInput}
 use Rattle.orders.specs.Calling.{Call, input, commit, settle}
 

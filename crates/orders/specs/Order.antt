@@ -11,11 +11,11 @@ use Rattle.refusals.specs.Numbers.{placeNotPending}
 use Rattle.deck.specs.Deck.{Deck}
 use Rattle.pool.specs.Updates.{charge}
 use Rattle.pool.specs.Places.{capacity}
-use Rattle.pool.specs.States.{Machine, Memory, store}
+use Rattle.pool.specs.States.{Machine, store}
 use Rattle.passing.specs.Check.{within, openingValues}
-use Rattle.calls.specs.Calls.{Answer, settled}
-use Rattle.orders.specs.Calling.{Call, input, commit, settle, Run, run}
-use Rattle.orders.specs.Listed.{Turn, turns, Taken, taken, machineAfter, Listed, listed, commitsMade, chargeAdded, chargePending}
+use Rattle.calls.specs.Calls.{settled}
+use Rattle.orders.specs.Calling.{Call, input, commit, settle, run}
+use Rattle.orders.specs.Listed.{Turn, turns, Taken, taken, machineAfter, listed, commitsMade, chargeAdded, chargePending}
 
 -- a property of where the list is and of the call that comes next, for every call of the list
 unfoldable pub Along : (Machine → Call → Type 0) → Deck → ℕ → Machine → List Call → Type 0

@@ -1,21 +1,17 @@
 -- Cases: the place of 6. Assumes nothing.
 use Prim.Native.Nat.{ℕ}
 use mathlib.Core.Path.{_≡_, refl}
-use mathlib.Core.Bool.{Bool, true, false}
-use mathlib.Core.List.{List, [], _∷_, map}
-use lib.IntN.{ℤ, pos}
-use Rattle.lists.specs.Lists.{flatMap, lists}
+use mathlib.Core.List.{[], _∷_}
+use lib.IntN.{pos}
+use Rattle.lists.specs.Lists.{lists}
 use Rattle.refusals.specs.Outcome.{refused, requireNone, outcomes}
 use Rattle.refusals.specs.Numbers.{opensOutside}
-use Rattle.expression.specs.Syntax.{Num, Truth, literal, own, far, two, constant, compared}
+use Rattle.expression.specs.Syntax.{literal, own, compared}
 use Rattle.expression.specs.Values.{evaluation}
-use Rattle.expression.specs.declared.Arith.the-variants.{Difference}
 use Rattle.expression.specs.declared.Compare.the-variants.{Less}
-use Rattle.deck.specs.Deck.{Assignment, Action, Rule, Part, Deck, decks}
-use Rattle.charge.specs.Charge.{charges}
-use Rattle.pool.specs.Updates.{Pair, Update, valueAt, updates}
+use Rattle.deck.specs.Deck.{Part, Deck, decks}
+use Rattle.pool.specs.Updates.{updates}
 use Rattle.pool.specs.Places.{pools}
-use Rattle.pool.specs.States.{Machine}
 use Rattle.passing.specs.Check.{outside, checks}
 
 -- a part with this value of b, which keeps b below 5

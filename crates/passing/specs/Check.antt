@@ -1,14 +1,14 @@
 -- Document 01, "When a call declines": the tests of a deck, 1 to 8 in their order. Assumes nothing.
 use Prim.Native.Nat.{ℕ, _-_, _*_}
 use mathlib.Core.Bool.{Bool, not}
-use mathlib.Core.List.{List, [], _∷_, _++_}
+use mathlib.Core.List.{List, _++_}
 use lib.IntN.{ℤ}
 use Rattle.lists.specs.Lists.{filter, flatMap, below}
 use Rattle.refusals.specs.Outcome.{Outcome, accepted, _>>=_, _>>_, requireNone}
 use Rattle.refusals.specs.Numbers.{opensOutside, cyclicGraph, overcharged}
 use Rattle.expression.specs.Values.{truthValue}
 use Rattle.deck.specs.Limits.{limits}
-use Rattle.deck.specs.Deck.{Deck, Part, R, N, partAt}
+use Rattle.deck.specs.Deck.{Deck, R, N, partAt}
 use Rattle.deck.specs.Layout.{Layout, read}
 use Rattle.graph.specs.Graph.{cyclic}
 use Rattle.charge.specs.Charge.{carriedCharges, aboveBound}

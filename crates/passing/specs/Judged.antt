@@ -7,7 +7,7 @@ use lib.ListN.{length, replicate}
 use Rattle.refusals.specs.Outcome.{refused, accepted}
 use Rattle.refusals.specs.Numbers.{cyclicGraph, overcharged}
 use Rattle.expression.specs.Laws.Bytes.{Bytes}
-use Rattle.deck.specs.Deck.{Deck, R}
+use Rattle.deck.specs.Deck.{Deck}
 use Rattle.deck.specs.Layout.{read}
 use Rattle.deck.specs.Shape.{shapeOf}
 use Rattle.deck.specs.Marks.{RulesFit, Marked, markedSections}

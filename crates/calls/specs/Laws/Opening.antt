@@ -1,11 +1,11 @@
 -- A start makes a good state. Assumes nothing.
-use Prim.Native.Nat.{ℕ, zero, suc, _+_, _*_, _-_, _/_, _%_, _≤_, _<_}
-use mathlib.Core.Path.{_≡_, refl, sym, _∙_, ap, ap₂}
-use mathlib.Core.Bool.{Bool, true, false, _&&_, _||_}
+use Prim.Native.Nat.{ℕ, zero, suc, _+_, _*_, _-_, _≤_, _<_}
+use mathlib.Core.Path.{_≡_, refl, sym, _∙_, ap}
+use mathlib.Core.Bool.{true, _||_}
 use mathlib.Core.List.{List, [], _∷_, _++_}
 use native.Mathlib.Omega.{arith}
 use native.Mathlib.Nat.{add-zero}
-use lib.Dec.{ltb, eqb}
+use lib.Dec.{eqb}
 use lib.ListN.{length, replicate, length-append, length-replicate}
 use lib.IntN.{ℤ, pos}
 use borrow.Author.Tests.{eqb-true}
@@ -15,9 +15,9 @@ use Rattle.lists.specs.Laws.Alls.{all-head, all-tail}
 use Rattle.lists.specs.Laws.Equalities.{eqZ-refl}
 use Rattle.deck.specs.Deck.{Deck, Part, R, N}
 use Rattle.deck.specs.Laws.Formed.{Formed}
-use Rattle.pool.specs.Updates.{indexOf, charge, updates}
+use Rattle.pool.specs.Updates.{indexOf, updates}
 use Rattle.pool.specs.Places.{zeros, isZero}
-use Rattle.pool.specs.States.{Machine, unusedZero, states}
+use Rattle.pool.specs.States.{unusedZero}
 use Rattle.pool.specs.Laws.Values.{used, used-index}
 use Rattle.pool.specs.Laws.Good.{Fine}
 use Rattle.passing.specs.Check.{openingValues}

@@ -1,9 +1,8 @@
 -- Commit answers what the tests come to, and what the definition makes of the place. Assumes nothing.
 use Prim.Native.Nat.{ℕ, _≤_, _<_}
-use mathlib.Core.Path.{_≡_, refl, sym, ap, ap₂, _∙_}
-use mathlib.Core.Bool.{Bool, cond}
+use mathlib.Core.Path.{_≡_, sym, ap, ap₂, _∙_}
+use mathlib.Core.Bool.{Bool}
 use mathlib.Core.List.{List}
-use lib.Dec.{ltb}
 use native.Mathlib.Omega.{arith}
 use lib.ListN.{length}
 use lib.IntN.{ℤ}
@@ -13,7 +12,7 @@ use Rattle.refusals.specs.Numbers.{placeNotPending}
 use Rattle.deck.specs.Deck.{Deck}
 use Rattle.pool.specs.Updates.{charge}
 use Rattle.pool.specs.Places.{capacity}
-use Rattle.pool.specs.States.{Machine, Memory, load, store}
+use Rattle.pool.specs.States.{Memory, load, store}
 use Rattle.passing.specs.Tabled.{deckOf}
 use Rattle.firing.specs.Firing.{committed}
 use Rattle.deck.specs.declared.Deck as Counted
@@ -21,7 +20,7 @@ use Rattle.pool.specs.Laws.Good.{count-bounded}
 use Rattle.offers.specs.Queue.{heldOf}
 use Rattle.offers.specs.Stored.{Stored}
 use Rattle.steps.specs.Commits.{Commits}
-use Rattle.calls.specs.Calls.{Answer, applied, discarded, Reply, reply, tested, commit}
+use Rattle.calls.specs.Calls.{Answer, applied, reply, tested, commit}
 use Rattle.calls.specs.Answers.{replyAt}
 use Rattle.call_tests.specs.Tested.{Entering}
 use Rattle.commit_call.specs.Committed.{committedAs, CommitsAs}

@@ -3,12 +3,12 @@ use Prim.Native.Nat.{ℕ, zero, suc}
 use mathlib.Core.Path.{_≡_, refl, sym, _∙_, ap, subst}
 use mathlib.Core.List.{List, [], _∷_}
 use lib.ListN.{drop}
-use Rattle.refusals.specs.Outcome.{Outcome, accepted}
+use Rattle.refusals.specs.Outcome.{accepted}
 use Rattle.refusals.specs.Laws.Outcomes.{refused≢accepted, accepted-inj}
 use Rattle.expression.specs.Reading.{wholeTruth}
-use Rattle.deck.specs.Reader.{Got, Reader, _>>=_, _>>_, andThen, give, here, end, number, times, rising, value}
+use Rattle.deck.specs.Reader.{Got, Reader, _>>=_, _>>_, here, end, number, times, rising, value}
 use Rattle.deck.specs.Layout.{expression, action, ownOnly}
-use Rattle.deck.specs.Marks.{markedTask, MarkedRule, markedRule, MarkedFront, markedFront, MarkedPart, markedPart, Marked, markedSections}
+use Rattle.deck.specs.Marks.{markedTask, markedRule, MarkedFront, markedFront, markedPart, Marked, markedSections}
 use Rattle.deck.specs.Laws.Points.{
   Tracks,
   then-tracks,

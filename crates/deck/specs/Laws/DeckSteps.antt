@@ -1,18 +1,16 @@
 -- The reading of a deck section by section, as the code makes it. Assumes nothing.
-use Prim.Native.Nat.{ℕ, zero, suc, _*_, _≤_}
-use mathlib.Core.Path.{_≡_, refl, sym, _∙_, ap, ap₂, subst}
-use mathlib.Core.List.{List, [], _∷_, _++_}
-use lib.ListN.{length, drop, drop-of-length-le}
-use Rattle.lists.specs.Lists.{flatMap}
+use Prim.Native.Nat.{ℕ}
+use mathlib.Core.Path.{_≡_, sym, _∙_, ap, ap₂, subst}
+use mathlib.Core.List.{List, [], _∷_}
+use lib.ListN.{drop}
 use Rattle.refusals.specs.Outcome.{Outcome, refused, accepted}
 use Rattle.refusals.specs.Numbers.{bytesFollow}
-use Rattle.deck.specs.Reader.{Got, Reader, _>>=_, _>>_, andThen, give, here, end, number, times, readers}
-use Rattle.deck.specs.Marks.{MarkedRule, markedRule, MarkedFront, markedFront, MarkedPart, markedPart, Marked, markedSections, ruleRow, partRow, Reads}
+use Rattle.deck.specs.Reader.{Got, _>>=_, _>>_, andThen, give, end, number, times}
+use Rattle.deck.specs.Marks.{MarkedRule, markedRule, MarkedFront, markedFront, MarkedPart, markedPart, markedSections, Reads}
 use Rattle.deck.specs.Laws.Offsets.{then-next, then-fault, reads-last}
 use Rattle.deck.specs.Laws.PartSteps.{gotAt, here-next}
 use Rattle.deck.specs.declared.Deck.{Deck}
 use Rattle.deck.specs.declared.Step.{Step}
-use Rattle.deck.specs.declared.Step.the-variants.{Next, Fault}
 
 abbrev deckOf : ℕ → ℕ → ℕ → ℕ → ℕ → Deck
 deckOf R M N second third = record { channels = R; rules = M; parts = N; second = second; third = third }

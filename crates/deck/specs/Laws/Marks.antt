@@ -1,17 +1,13 @@
 -- The reading with offsets is the reading, and what an offset points at is what was read there. Assumes nothing.
-use Prim.Native.Nat.{ℕ, zero, suc, _+_, _≤_}
-use mathlib.Core.Path.{_≡_, refl, sym, _∙_, ap, ap₂}
-use mathlib.Core.Bool.{Bool, true, false}
-use mathlib.Core.List.{List, [], _∷_, map}
+use Prim.Native.Nat.{ℕ, zero, suc}
+use mathlib.Core.Path.{_≡_, refl, _∙_, ap}
+use mathlib.Core.List.{List, map}
 use lib.Dec.{eqb}
-use lib.ListN.{drop}
 use Rattle.refusals.specs.Outcome.{Outcome, refused, accepted}
 use Rattle.expression.specs.Reading.{wholeTruth}
-use Rattle.deck.specs.Limits.{limits}
-use Rattle.deck.specs.Deck.{Rule, Part, Deck}
-use Rattle.deck.specs.Reader.{Got, Reader, andThen, give, number, times, rising, value, end, readers}
-use Rattle.deck.specs.Layout.{expression, ownOnly, taskScope, action, rule, part, Layout, sections, valueOf, read, layouts}
-use Rattle.deck.specs.Marks.{MarkedRule, markedTask, markedRule, ruleOf, MarkedPart, markedPart, Marked, markedFront, markedSections, unmarked, marks}
+use Rattle.deck.specs.Reader.{Got, Reader, andThen, number, times, rising, value, end, readers}
+use Rattle.deck.specs.Layout.{expression, ownOnly, taskScope, action, rule, part, sections, valueOf, read}
+use Rattle.deck.specs.Marks.{markedTask, markedRule, ruleOf, markedPart, markedFront, markedSections, unmarked}
 
 -- ---- forgetting the offsets
 

@@ -1,20 +1,18 @@
 -- The reading of a part step by step, as the code makes it. Assumes nothing.
-use Prim.Native.Nat.{ℕ, zero, suc, _≤_}
+use Prim.Native.Nat.{ℕ, suc}
 use mathlib.Core.Path.{_≡_, refl, sym, _∙_, ap, subst}
 use mathlib.Core.Bool.{true}
 use mathlib.Core.List.{List, [], _∷_}
 use lib.IntN.{ℤ}
-use lib.ListN.{length, drop}
+use lib.ListN.{drop}
 use Rattle.lists.specs.Bits.{maskOf}
 use Rattle.refusals.specs.Outcome.{Outcome, refused, accepted}
-use Rattle.expression.specs.Syntax.{Truth}
 use Rattle.expression.specs.Reading.{wholeTruth}
-use Rattle.deck.specs.Reader.{Got, Reader, _>>=_, andThen, give, here, number, times, rising, value, readers}
-use Rattle.deck.specs.Layout.{expression, ownOnly, layouts}
+use Rattle.deck.specs.Reader.{Got, Reader, _>>=_, andThen, give, here, number, times, rising, value}
+use Rattle.deck.specs.Layout.{expression, ownOnly}
 use Rattle.deck.specs.Marks.{MarkedPart, markedPart, partRow, Reads, scopeOf, expressionFor, marks}
 use Rattle.deck.specs.Laws.Offsets.{then-next, then-fault, reads-last}
 use Rattle.deck.specs.declared.Step.{Step}
-use Rattle.deck.specs.declared.Step.the-variants.{Next, Fault}
 
 -- what was read at n of s
 abbrev pub gotAt : {A : Type 0} → List ℕ → A → ℕ → Outcome (Got A)

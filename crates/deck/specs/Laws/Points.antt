@@ -1,6 +1,6 @@
 -- What stands at a rule's and a part's offsets is what was read there. Assumes nothing.
-use Prim.Native.Nat.{ℕ, zero, suc, _+_}
-use mathlib.Core.Path.{_≡_, refl, sym, _∙_, ap, ap₂, subst}
+use Prim.Native.Nat.{ℕ, zero, suc}
+use mathlib.Core.Path.{_≡_, refl, sym, _∙_, ap, subst}
 use mathlib.Core.Bool.{Bool, true, false, not, _&&_}
 use mathlib.Core.List.{List, [], _∷_}
 use lib.Dec.{leb, ltb, eqb}
@@ -11,11 +11,9 @@ use Rattle.lists.specs.Lists.{member}
 use Rattle.refusals.specs.Outcome.{Outcome, refused, accepted}
 use Rattle.refusals.specs.Laws.Outcomes.{refused≢accepted, accepted-inj}
 use Rattle.expression.specs.Reading.{Read, got, nothing, Scope, wholeNum, wholeTruth}
-use Rattle.deck.specs.Limits.{limits}
-use Rattle.deck.specs.Deck.{Assignment, Action, Rule, Part}
-use Rattle.deck.specs.Reader.{Got, Reader, _>>=_, _>>_, andThen, give, fault, here, require, byte, number, times, rising, value, readers}
-use Rattle.deck.specs.Layout.{judged, expression, ownOnly, taskScope, assignments, action, layouts}
-use Rattle.deck.specs.Marks.{MarkedTask, markedTask, MarkedRule, markedRule, MarkedPart, markedPart, marks}
+use Rattle.deck.specs.Reader.{Got, Reader, _>>=_, _>>_, andThen, give, fault, here, require, byte, number, times, rising, value}
+use Rattle.deck.specs.Layout.{judged, expression, ownOnly, taskScope, assignments, action}
+use Rattle.deck.specs.Marks.{MarkedTask, markedTask, MarkedRule, markedRule, MarkedPart, markedPart}
 
 -- what a reader leaves is the bytes from its place on
 abbrev pub Tracks : {A : Type 0} → Reader A → Type 0

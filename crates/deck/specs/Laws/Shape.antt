@@ -1,18 +1,18 @@
 -- The parts of a deck's shape, in the form in which the code tests them. Assumes nothing.
-use Prim.Native.Nat.{ℕ, zero, suc, _+_, _*_, _<_, _≤_}
-use mathlib.Core.Path.{_≡_, refl, sym, ap, _∙_}
-use mathlib.Core.Bool.{Bool, true, false, _&&_}
+use Prim.Native.Nat.{ℕ, zero, suc, _+_, _*_, _<_}
+use mathlib.Core.Path.{_≡_, refl, ap, _∙_}
+use mathlib.Core.Bool.{Bool, true, false}
 use mathlib.Core.List.{List, [], _∷_, map}
 use native.Mathlib.Omega.{arith}
 use native.Mathlib.Nat.{not-suc-le-zero, le-of-suc-le-suc, zero-add}
 use lib.Dec.{eqb}
-use lib.ListN.{length, getD, replicate, length-replicate, length-map}
+use lib.ListN.{getD, length-replicate, length-map}
 use Rattle.lists.specs.Lists.{lists, filter, from, below, member}
 use Rattle.lists.specs.Bits.{bit}
-use Rattle.lists.specs.Laws.Booleans.{contradiction, true-or-false, not-true→false}
+use Rattle.lists.specs.Laws.Booleans.{contradiction, not-true→false}
 use Rattle.lists.specs.Laws.Filters.{filter-member}
 use Rattle.lists.specs.Laws.Below.{below-length, below-member}
-use Rattle.deck.specs.Deck.{Assignment, Action, Rule, Part, Deck, R, M, N, ruleAt, partAt, carries, targets}
+use Rattle.deck.specs.Deck.{Deck, R, M, N, ruleAt, partAt, carries, targets}
 use Rattle.deck.specs.Shape.{bitsOf, setting, ruleShape, partShape, shapeOf, shapes}
 
 -- the element at a place of f over the numbers below n

@@ -1,7 +1,6 @@
 -- The offsets of a deck's sections. Assumes nothing.
 use Prim.Native.Nat.{ℕ, zero, suc, _≤_}
 use mathlib.Core.Path.{_≡_, refl}
-use mathlib.Core.List.{[], _∷_}
 use native.Mathlib.Omega.{arith}
 use Rattle.deck.specs.Marks.{offsetOf}
 

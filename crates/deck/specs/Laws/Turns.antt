@@ -18,7 +18,6 @@ use Rattle.refusals.specs.Numbers.{deckEnds, outOfRange}
 use Rattle.expression.specs.Reading.{word, signed}
 use Rattle.deck.specs.Reader.{Got, Reader, andThen, _>>=_, give, require, number, times, rising, value, readers}
 use Rattle.deck.specs.Marks.{Reads}
-use Rattle.deck.specs.declared.Step.{Step}
 use Rattle.deck.specs.declared.Step.the-variants.{Next}
 use Rattle.deck.specs.Laws.Exact.{Accepts, accepting, refusing, accepts}
 

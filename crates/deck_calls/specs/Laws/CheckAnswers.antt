@@ -1,8 +1,8 @@
 -- Check answers what passing comes to. Assumes nothing.
 use Prim.Native.Nat.{ℕ}
-use mathlib.Core.Path.{_≡_, refl}
+use mathlib.Core.Path.{_≡_}
 use mathlib.Core.List.{List}
-use Rattle.refusals.specs.Outcome.{Outcome, refused, accepted, outcomes}
+use Rattle.refusals.specs.Outcome.{refused, accepted, outcomes}
 use Rattle.deck.specs.Deck.{R, M, N}
 use Rattle.deck.specs.Layout.{Layout}
 use Rattle.charge.specs.Charge.{largestCharge}
@@ -10,7 +10,7 @@ use Rattle.deck.specs.declared.Deck as Counted
 use Rattle.passing.specs.Check.{passing}
 use Rattle.passing.specs.Tabled.{layoutOf}
 use Rattle.passing.specs.Judged.{Passed}
-use Rattle.calls.specs.Calls.{Answer, passed, check}
+use Rattle.calls.specs.Calls.{passed, check}
 
 pub check-refused : (bytes : List ℕ) (n p : ℕ) → passing bytes ≡ refused n p → check bytes ≡ refused n p
 unfolding check outcomes

@@ -1,16 +1,13 @@
 -- Section answers what passing comes to, and a stretch between two offsets of the deck. Assumes nothing.
 use Prim.Native.Nat.{ℕ, suc, _+_, _-_, _≤_, _<_}
-use mathlib.Core.Path.{_≡_, refl, sym, ap, ap₂, _∙_}
-use mathlib.Core.Bool.{true, false}
+use mathlib.Core.Path.{_≡_, sym, ap, ap₂, _∙_}
 use mathlib.Core.List.{List, [], _∷_, _++_}
 use native.Mathlib.Omega.{arith}
-use lib.Dec.{leb}
 use lib.ListN.{length, getD, take, drop, length-append}
 use borrow.Author.Tests.{le-leb, lt-leb}
-use Rattle.refusals.specs.Outcome.{Outcome, refused, accepted, require, outcomes}
+use Rattle.refusals.specs.Outcome.{refused, outcomes}
 use Rattle.refusals.specs.Numbers.{unknownSection}
 use Rattle.deck.specs.Deck.{Deck}
-use Rattle.deck.specs.Layout.{Layout}
 use Rattle.deck.specs.Encoding.{encodeChannels, encodeRules, encodeParts, encode}
 use Rattle.deck.specs.Marks.{offsetOf, stretchOf}
 use Rattle.deck.specs.declared.Deck as Counted
@@ -19,7 +16,7 @@ use Rattle.passing.specs.Check.{passing}
 use Rattle.passing.specs.Tabled.{layoutOf}
 use Rattle.passing.specs.Judged.{Passed}
 use Rattle.passing.specs.Laws.Passing.{passing-clean}
-use Rattle.calls.specs.Calls.{Section, sectionReply, sectionAt, section}
+use Rattle.calls.specs.Calls.{sectionReply, sectionAt, section}
 use Rattle.calls.specs.Answers.{sectionOf}
 
 pub section-refused : (s : List ℕ) (k n p : ℕ) → passing s ≡ refused n p → section s k ≡ sectionOf [] n p

@@ -1,21 +1,20 @@
 -- Start answers what the tests come to. Assumes nothing.
 use Prim.Native.Nat.{ℕ, _*_, _-_}
-use mathlib.Core.Path.{_≡_, refl, ap, ap₂, _∙_}
+use mathlib.Core.Path.{_≡_, ap, ap₂, _∙_}
 use mathlib.Core.Bool.{true, false}
-use mathlib.Core.List.{List, []}
+use mathlib.Core.List.{List}
 use native.Mathlib.Omega.{arith}
 use lib.ListN.{length, replicate}
 use lib.IntN.{ℤ, pos}
 use Rattle.lists.specs.Lists.{lists}
 use Rattle.refusals.specs.Outcome.{Outcome, refused, accepted, outcomes}
 use Rattle.refusals.specs.Numbers.{badPool}
-use Rattle.deck.specs.Deck.{Deck}
 use Rattle.pool.specs.Places.{zeros, poolOf}
 use Rattle.pool.specs.States.{goodLength, store}
 use Rattle.pool.specs.declared.State.{State}
 use Rattle.passing.specs.Check.{passing, openingValues}
 use Rattle.passing.specs.Tabled.{layoutOf, deckOf}
-use Rattle.calls.specs.Calls.{Answer, started, Reply, reply, opened, start}
+use Rattle.calls.specs.Calls.{Answer, started, reply, opened, start}
 use Rattle.calls.specs.Answers.{memoryAt, replyOf, replyAt}
 
 -- the reply of a call whose answer, values and pending number are known

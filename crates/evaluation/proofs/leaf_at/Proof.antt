@@ -1,5 +1,4 @@
 -- `evaluation::leaf_at` meets its contract: the byte says which leaf it is. Assumes nothing.
-use Prim.Native.Nat.{_<_}
 use mathlib.Core.Path.{_≡_, refl, ap}
 use native.Mathlib.Omega.{arith}
 use borrow.Author.Needs.{needs}

@@ -7,9 +7,8 @@ use mathlib.Core.List.{List, [], _∷_, _++_}
 use native.Mathlib.Omega.{arith}
 use lib.ListN.{length}
 use borrow.Author.Tests.{not-true}
-use Rattle.lists.specs.Lists.{lists, all}
+use Rattle.lists.specs.Lists.{lists}
 use Rattle.lists.specs.Laws.Booleans.{and-left, and-right, or-left, or-right, or-cases, not-true→false, contradiction}
-use Rattle.lists.specs.Laws.Alls.{all-head, all-tail}
 use Rattle.lists.specs.Laws.Anys.{any-append}
 use Rattle.pool.specs.Updates.{Update, eqUpdate, isAmong, allDifferent}
 use Rattle.pool.specs.Laws.Equal.{update-true, update-refl}

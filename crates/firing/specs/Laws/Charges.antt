@@ -1,31 +1,28 @@
 -- A firing adds at most the charges of the active rules, so that setting channels adds less than the charge of an update that
 -- sets them. Assumes nothing.
-use Prim.Native.Nat.{ℕ, zero, suc, _+_, _≤_, _<_, zero-le}
+use Prim.Native.Nat.{ℕ, _+_, _≤_, _<_}
 use mathlib.Core.Path.{_≡_, refl, sym, _∙_, ap, subst}
 use mathlib.Core.Logic.{⊎-elim}
 use mathlib.Core.Bool.{Bool, true, false, not, _&&_, cond}
 use mathlib.Core.List.{List, [], _∷_, _++_, map}
 use native.Mathlib.Omega.{arith}
-use native.Mathlib.Nat.{add-zero, not-suc-le-zero, le-of-suc-le-suc}
-use lib.ListN.{length, take, drop}
+use native.Mathlib.Nat.{add-zero}
 use lib.IntN.{ℤ}
 use borrow.Author.Tests.{not-true}
-use Rattle.lists.specs.Lists.{lists, filter, flatMap, sum, below, member, eqZ}
+use Rattle.lists.specs.Lists.{lists, flatMap, sum, below, member, eqZ}
 use Rattle.lists.specs.Laws.Booleans.{true-or-false, contradiction}
 use Rattle.lists.specs.Laws.Filters.{filter-member}
 use Rattle.lists.specs.Laws.Equalities.{eqZ-refl}
-use Rattle.lists.specs.Laws.Sums.{sum-append, sum-mono, sum-map, sum-flatMap, sum-plus, sum-zero}
-use Rattle.deck.specs.Deck.{Deck, Action, Assignment, Rule, R, N, ruleAt, targets, active}
+use Rattle.lists.specs.Laws.Sums.{sum-mono, sum-map, sum-flatMap, sum-plus, sum-zero}
+use Rattle.deck.specs.Deck.{Deck, Action, Rule, R, N, ruleAt, targets, active}
 use Rattle.graph.specs.Laws.Cycles.{KnownTargets, Acyclic}
 use Rattle.charge.specs.Charge.{others, receivers, unlessEmpty, updateCharge, ruleCharge, charges}
-use Rattle.charge.specs.Laws.Active.{active-sub}
-use Rattle.charge.specs.Laws.Equations.{charge-of-update, charge-of-rule, update-at-least-one}
+use Rattle.charge.specs.Laws.Equations.{charge-of-rule}
 use Rattle.pool.specs.Updates.{Pair, Update, channels, valueAt, assign, charge}
-use Rattle.pool.specs.States.{Machine}
 use Rattle.pool.specs.Laws.Values.{channelsIn, assign-other}
-use Rattle.firing.specs.Firing.{evaluated, sent, holds, firedHere, firedThere, fired, enqueue, changed, setAndFire, pick, without}
+use Rattle.firing.specs.Firing.{evaluated, sent, holds, firedHere, firedThere, fired, changed}
 use Rattle.firing.specs.Laws.Firing.{sent-channels}
-use Rattle.firing.specs.Laws.Enqueue.{one, charge-append, enqueue-grows, enqueue-most}
+use Rattle.firing.specs.Laws.Enqueue.{one, charge-append}
 
 module _ (d : Deck) where
   -- what an action is charged at part q

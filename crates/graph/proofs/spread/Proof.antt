@@ -1,5 +1,5 @@
 -- `graph::spread` meets its contract: the edges from the channels below `b` are added. Assumes nothing.
-use Prim.Native.Nat.{_≤_, _-_}
+use Prim.Native.Nat.{_-_}
 use native.Mathlib.Omega.{arith}
 use Rattle.lists.specs.Laws.Walks.{Walk, walk-first, walk-on, walk-next}
 use Rattle.lists.specs.Laws.Through.{Through, through-next, through-here, through-all}

@@ -1,7 +1,7 @@
 -- Two decks that pass the same tests have the same graph; a deck that was read and the shape of its tables are such decks.
 -- Assumes nothing.
 use Prim.Native.Nat.{ℕ}
-use mathlib.Core.Path.{_≡_, refl, ap, ap₂, _∙_, sym}
+use mathlib.Core.Path.{_≡_, ap, ap₂, _∙_, sym}
 use mathlib.Core.Bool.{_&&_, _||_}
 use Rattle.lists.specs.Lists.{any, filter, below, member, firstOr}
 use Rattle.lists.specs.Laws.Agreement.{any-agree}

@@ -1,6 +1,6 @@
 -- `index::bucket` meets its contract: the low half of the hash, as a part of all buckets. Assumes nothing.
 use Prim.Native.Nat.{_*_, _/_, _%_}
-use mathlib.Core.Path.{ap, _∙_}
+use mathlib.Core.Path.{ap}
 use native.Mathlib.Omega.{arith}
 use borrow.Author.Needs.{needs}
 use Rattle.index.specs.Hash.{bucketOf}

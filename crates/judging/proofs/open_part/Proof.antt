@@ -13,7 +13,7 @@ use mir.Syntax.{w32}
 use mir.ValLaws.{toZ-ofZ}
 use borrow.Author.Needs.{needs}
 use Rattle.expression.specs.Reading.{signed}
-use Rattle.passing.specs.Stands.{valuesFrom, valueFrom}
+use Rattle.passing.specs.Stands.{valuesFrom}
 use Rattle.passing.specs.Laws.Stands.{values-length, values-at, value-is}
 use Rattle.judging.proofs.open_part.Statement.{statement}
 use Rattle.judging.proofs.open_part.Tie as tie

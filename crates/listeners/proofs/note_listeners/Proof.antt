@@ -1,5 +1,5 @@
 -- `listeners::note_listeners` meets its contract: the carried rules below `r` are noted. Assumes nothing.
-use Prim.Native.Nat.{_≤_, _-_}
+use Prim.Native.Nat.{_-_}
 use mathlib.Core.Path.{_≡_, sym, _∙_}
 use native.Mathlib.Omega.{arith}
 use lib.ListN.{length}

@@ -1,5 +1,4 @@
 -- `lists::lowest` meets its contract. Assumes nothing.
-use native.Mathlib.Omega.{arith}
 use lib.Count.{trailing-le}
 use borrow.Author.Needs.{needs}
 use Rattle.lists.specs.Laws.Lowest.{lowest-of}

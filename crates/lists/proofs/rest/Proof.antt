@@ -1,6 +1,5 @@
 -- `lists::rest` meets its contract. Assumes nothing.
 use native.Mathlib.Omega.{arith}
-use borrow.Author.Needs.{needs}
 use Rattle.lists.specs.Laws.Lowest.{rest-none, rest-of}
 use Rattle.lists.proofs.rest.Statement.{statement}
 use Rattle.lists.proofs.rest.Tie as tie

@@ -1,6 +1,6 @@
 -- `offers::add` meets its contract: each way out leaves what the offered update makes of the pool. Assumes nothing.
 use Prim.Native.Nat.{_/_, _<_, _≤_}
-use mathlib.Core.Path.{_≡_, refl, sym, _∙_}
+use mathlib.Core.Path.{refl, sym, _∙_}
 use native.Mathlib.Omega.{arith}
 use borrow.Author.Needs.{needs}
 use lib.ListN.{length}

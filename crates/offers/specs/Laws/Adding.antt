@@ -15,7 +15,7 @@ use Rattle.charge.specs.Charge.{updateCharge}
 use Rattle.charge.specs.Memo.{Memo, capped}
 use Rattle.pool.specs.Updates.{Update, channels, isAmong, charge}
 use Rattle.pool.specs.Places.{updateOf, place, places, updatesOf}
-use Rattle.pool.specs.Moves.{written, Laid}
+use Rattle.pool.specs.Moves.{written}
 use Rattle.pool.specs.Laws.Places.{short}
 use Rattle.pool.specs.Laws.Good.{count-bounded, written-same, updates-short}
 use Rattle.pool.specs.Laws.Laid.{laid-pushed, pushed-length, laid-pending}

@@ -1,17 +1,14 @@
 -- Laws of new updates that are offered one by one. Assumes nothing.
-use Prim.Native.Nat.{ℕ, _+_, _*_, _≤_, _<_}
-use mathlib.Core.Path.{_≡_, refl, sym, ap, _∙_, subst}
-use mathlib.Core.Bool.{Bool, true, false}
-use mathlib.Core.List.{List, [], _∷_, _++_, append-assoc, append-nil}
+use Prim.Native.Nat.{ℕ, _+_}
+use mathlib.Core.Path.{_≡_, refl, sym, _∙_, subst}
+use mathlib.Core.List.{List, [], _++_, append-assoc, append-nil}
 use native.Mathlib.Omega.{arith}
-use lib.ListN.{length}
-use lib.IntN.{ℤ}
 use Rattle.deck.specs.Deck.{Deck}
 use Rattle.deck.specs.declared.Deck as Counted
-use Rattle.charge.specs.Memo.{Memo, Ready}
-use Rattle.pool.specs.Updates.{Update, charge}
+use Rattle.charge.specs.Memo.{Memo}
+use Rattle.pool.specs.Updates.{Update}
 use Rattle.passing.specs.Judged.{shape}
-use Rattle.index.specs.Index.{headsOf, Roomy}
+use Rattle.index.specs.Index.{headsOf}
 use Rattle.offers.specs.Queue.{Held, Room, SameSize, Grown, Offering, Offered}
 use Rattle.offers.specs.declared.Queue.{Queue}
 

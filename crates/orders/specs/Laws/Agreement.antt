@@ -1,8 +1,8 @@
 -- Each call on a stored state answers and leaves what the definition of a list has for it. Assumes nothing.
-use Prim.Native.Nat.{ℕ, zero, suc, _-_, _≤_, _<_}
-use mathlib.Core.Path.{_≡_, refl, sym, _∙_, ap, ap₂}
+use Prim.Native.Nat.{ℕ, zero, suc, _-_}
+use mathlib.Core.Path.{_≡_, refl, _∙_, ap, ap₂}
 use mathlib.Core.Bool.{Bool, true, false, cond}
-use mathlib.Core.List.{List, [], _∷_, _++_}
+use mathlib.Core.List.{List, [], _∷_}
 use lib.Dec.{leb, ltb}
 use lib.ListN.{length}
 use lib.IntN.{ℤ}
@@ -16,11 +16,11 @@ use Rattle.pool.specs.Places.{capacity, pairsOf}
 use Rattle.pool.specs.States.{Machine, Memory, load, store, goodLength, good}
 use Rattle.pool.specs.Laws.Good.{Fine, load-store, store-length, good-stored}
 use Rattle.passing.specs.Check.{passing}
-use Rattle.firing.specs.Firing.{Commit, setAndFire, committed}
+use Rattle.firing.specs.Firing.{setAndFire, committed}
 use Rattle.calls.specs.Calls as Calls
-use Rattle.calls.specs.Calls.{Answer, added, applied, discarded, settled, spent, Reply, Done, reply, tested, goodInput, Settling, settling, oneMore, calls}
-use Rattle.orders.specs.Calling.{Call, input, commit, settle, made, running}
-use Rattle.orders.specs.Listed.{Turn, turn, turns, ending, Taken, taken, machineAfter, listing}
+use Rattle.calls.specs.Calls.{Answer, added, applied, discarded, settled, spent, Reply, Done, reply, tested, goodInput, settling, oneMore}
+use Rattle.orders.specs.Calling.{Call, input, commit, settle, made}
+use Rattle.orders.specs.Listed.{Turn, turn, turns, ending, Taken, taken}
 
 -- a settle's commits one by one, against its count
 pub settling-made : (d : Deck) (budget : ℕ) (x : Machine) → settling d budget x .made ≡ length (turns d budget x)

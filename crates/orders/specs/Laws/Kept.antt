@@ -1,31 +1,31 @@
 -- Good states are kept: a start makes one, and every call leaves one that is handed one. Assumes nothing.
 use Prim.Native.Nat.{ℕ}
-use mathlib.Core.Path.{_≡_, refl, sym, _∙_, ap, ap₂, subst}
+use mathlib.Core.Path.{_≡_, refl, sym, _∙_, ap}
 use mathlib.Core.Bool.{Bool, true, false}
-use mathlib.Core.List.{List, [], _∷_}
+use mathlib.Core.List.{List}
 use lib.ListN.{length}
 use lib.IntN.{ℤ}
 use Rattle.refusals.specs.Outcome.{Outcome, refused, accepted, _>>=_, _>>_, require, outcomes}
 use Rattle.refusals.specs.Numbers.{badPool, badState}
-use Rattle.refusals.specs.Laws.Outcomes.{refused≢accepted, accepted-inj}
+use Rattle.refusals.specs.Laws.Outcomes.{refused≢accepted}
 use Rattle.expression.specs.Laws.Bytes.{Bytes}
 use Rattle.deck.specs.Deck.{Deck}
 use Rattle.deck.specs.Layout.{Layout}
 use Rattle.deck.specs.Laws.Formed.{Formed, formed}
 use Rattle.graph.specs.Laws.Cycles.{Acyclic}
 use Rattle.pool.specs.Places.{capacity}
-use Rattle.pool.specs.States.{Machine, Memory, load, store, goodLength, good}
-use Rattle.pool.specs.Laws.Good.{Fine, good-stored, fine-loaded, store-load}
+use Rattle.pool.specs.States.{Memory, load, goodLength, good}
+use Rattle.pool.specs.Laws.Good.{good-stored, fine-loaded, store-load}
 use Rattle.passing.specs.Check.{passing}
 use Rattle.calls.specs.Calls as Calls
-use Rattle.calls.specs.Calls.{Answer, started, Reply, Done, reply, tested, opened}
+use Rattle.calls.specs.Calls.{Answer, started, Done, reply, tested, opened}
 use Rattle.calls.specs.Laws.Opening.{fine-opened}
-use Rattle.passing.specs.Laws.Passes.{Passes, passes-exactly}
+use Rattle.passing.specs.Laws.Passes.{passes-exactly}
 use Rattle.orders.specs.Calling.{Call, input, commit, settle, made}
-use Rattle.orders.specs.Listed.{Taken, taken, machineAfter}
+use Rattle.orders.specs.Listed.{taken, machineAfter}
 use Rattle.orders.specs.Laws.Agreement.{made-agrees}
-use Rattle.orders.specs.Laws.Taking.{Taking, taking}
-use Rattle.orders.specs.Laws.Listing.{Fresh, start-fresh, handed-memory}
+use Rattle.orders.specs.Laws.Taking.{taking}
+use Rattle.orders.specs.Laws.Listing.{start-fresh, handed-memory}
 
 -- a deck that passes is well formed and has no cycle
 module _ (bytes : List ℕ) (b : Bytes bytes) (l : Layout) (passes : passing bytes ≡ accepted l) where

@@ -1,20 +1,19 @@
 -- Whatever the list of calls: the calls agree with the definition of the list, the commits are paid by the charge added, and a
 -- settle that is paid for settles. Assumes nothing.
-use Prim.Native.Nat.{ℕ, zero, suc, _+_, _≤_, _<_}
+use Prim.Native.Nat.{ℕ, _+_, _≤_}
 use mathlib.Core.Path.{_≡_, refl, sym, _∙_, ap, ap₂, subst}
-use mathlib.Core.Bool.{Bool, true, false, not, _&&_, cond}
+use mathlib.Core.Bool.{Bool, true, false, cond}
 use mathlib.Core.List.{List, [], _∷_, _++_}
 use native.Mathlib.Omega.{arith}
 use lib.Dec.{leb, ltb}
 use lib.ListN.{length}
 use lib.IntN.{ℤ}
 use borrow.Author.Tests.{le-ltb, lt-ltb}
-use Rattle.lists.specs.Lists.{lists, all, sum, isEmpty}
+use Rattle.lists.specs.Lists.{lists, all, sum}
 use Rattle.lists.specs.Laws.Alls.{all-append}
 use Rattle.refusals.specs.Outcome.{Outcome, refused, accepted, _>>=_, _>>_, require, outcomes}
 use Rattle.refusals.specs.Numbers.{badPool, placeNotPending, budgetTooLarge}
 use Rattle.refusals.specs.Laws.Outcomes.{refused≢accepted, accepted-inj}
-use Rattle.expression.specs.Laws.Bytes.{Bytes}
 use Rattle.deck.specs.Deck.{Deck}
 use Rattle.deck.specs.Layout.{Layout}
 use Rattle.deck.specs.Laws.Formed.{Formed}
@@ -23,15 +22,15 @@ use Rattle.pool.specs.Updates.{charge}
 use Rattle.pool.specs.Places.{capacity}
 use Rattle.pool.specs.States.{Machine, Memory, store, goodLength}
 use Rattle.pool.specs.Laws.Good.{Fine}
-use Rattle.passing.specs.Check.{within, openingValues, passing}
+use Rattle.passing.specs.Check.{passing}
 use Rattle.calls.specs.Calls as Calls
-use Rattle.calls.specs.Calls.{Answer, started, settled, spent, Reply, reply, opened}
+use Rattle.calls.specs.Calls.{started, settled, spent, Reply, reply, opened}
 use Rattle.calls.specs.Laws.Opening.{fine-opened}
-use Rattle.orders.specs.Calling.{Call, input, commit, settle, Run, made, runFrom, run}
-use Rattle.orders.specs.Listed.{Turn, turn, turns, ending, Taken, taken, machineAfter, Listed, inFront, listFrom, listed, commitsOf, addedOf, commitsMade, chargeAdded, chargePending}
+use Rattle.orders.specs.Calling.{Call, input, commit, settle, runFrom, run}
+use Rattle.orders.specs.Listed.{turn, turns, Taken, taken, machineAfter, Listed, inFront, listFrom, listed, commitsOf, addedOf, commitsMade, chargeAdded, chargePending}
 use Rattle.orders.specs.Order.{Along, Accepted, yes-accepted, RefusedAsPlaced, Settles, leavesWithin, Order}
 use Rattle.orders.specs.Laws.Agreement.{handed, made-agrees}
-use Rattle.orders.specs.Laws.Taking.{answered, turnsOf, guard, Turning, turning, Taking, taking}
+use Rattle.orders.specs.Laws.Taking.{answered, turnsOf, guard, turning, taking}
 
 -- one call in front of a list
 front-answers : (o : Outcome Taken) (l : Listed) → inFront o l .answers ≡ answered o ∷ l .answers

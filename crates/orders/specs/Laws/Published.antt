@@ -19,24 +19,24 @@ use Rattle.deck.specs.Laws.Formed.{Formed}
 use Rattle.deck.specs.Laws.Scoped.{Scoped, scoped}
 use Rattle.pool.specs.Updates.{Pair, charge}
 use Rattle.pool.specs.Places.{capacity, pairsOf}
-use Rattle.pool.specs.States.{Machine, Memory, load, store}
+use Rattle.pool.specs.States.{Machine, Memory, load}
 use Rattle.pool.specs.Laws.Good.{Fine, load-store, fine-loaded, store-load}
 use Rattle.passing.specs.Check.{passing}
 use Rattle.firing.specs.Firing.{setAndFire, pick, committed}
 use Rattle.calls.specs.Calls as Calls
-use Rattle.calls.specs.Calls.{Answer, added, applied, discarded, Reply, goodInput}
+use Rattle.calls.specs.Calls.{Answer, added, applied, discarded, goodInput}
 use Rattle.calls.specs.Laws.Inputs.{input-known}
 use Rattle.passing.specs.Laws.Passes.{passes-exactly}
-use Rattle.orders.specs.Calling.{Call, input, commit, made, running}
-use Rattle.orders.specs.Listed.{Turn, turn, Taken, taken, machineAfter}
+use Rattle.orders.specs.Calling.{Call, input, commit, made}
+use Rattle.orders.specs.Listed.{turn, Taken, taken, machineAfter}
 use Rattle.orders.specs.Order.{Accepted, yes-accepted}
 use Rattle.orders.specs.Calculus.{Task, Agree, executes, enters, sentTasks, Exec, ExecFail, programOf, Step, System, systemOf}
 use Rattle.orders.specs.Laws.Agreement.{handed, made-agrees}
 use Rattle.orders.specs.Laws.Taking.{answered, guard, taking}
 use Rattle.orders.specs.Laws.Listing.{handed-answer, handed-memory}
 use Rattle.orders.specs.Laws.Kept.{Tested, accepted-tested, passed-formed, passed-acyclic}
-use Rattle.orders.specs.Laws.Steps.{sending, input-step, Committing, commit-step}
-use Rattle.orders.specs.Laws.Reaches.{Reached, commit-reaches}
+use Rattle.orders.specs.Laws.Steps.{sending, input-step, commit-step}
+use Rattle.orders.specs.Laws.Reaches.{commit-reaches}
 
 -- the channels of a deck that passes are known wherever its expressions name one
 module _ (bytes : List ℕ) (b : Bytes bytes) (m : Memory) (t : Tested bytes m) where

@@ -2,12 +2,12 @@
 use Prim.Native.Nat.{ℕ, _<_}
 use mathlib.Core.Path.{_≡_, refl, sym, _∙_, ap, subst, fun-ext}
 use mathlib.Core.Logic.{_⊎_, _↔_, inl, inr, ⊎-elim}
-use mathlib.Core.Bool.{Bool, true, false, not, _&&_, cond, false≢true}
+use mathlib.Core.Bool.{true, false, not, _&&_, cond, false≢true}
 use mathlib.Core.List.{List, []}
 use lib.Dec.{ltb}
 use lib.ListN.{length}
-use borrow.Author.Tests.{ltb-true, ne-eqb, not-true}
-use Rattle.lists.specs.Lists.{lists, all, distinct, isEmpty, eqList}
+use borrow.Author.Tests.{ne-eqb, not-true}
+use Rattle.lists.specs.Lists.{lists, all, eqList}
 use Rattle.lists.specs.Laws.Booleans.{and-both, and-left, and-right, not-true→false, contradiction}
 use Rattle.deck.specs.Deck.{Deck, R, N, partAt}
 use Rattle.deck.specs.Laws.Formed.{Formed}

@@ -1,34 +1,31 @@
 -- One call of a list: it keeps a good state good, its commits are paid by the charge that it adds or that was pending, and its
 -- applied commits leave their parts within their limits. Assumes nothing.
-use Prim.Native.Nat.{ℕ, zero, suc, _+_, _-_, _%_, _≤_, _<_}
-use mathlib.Core.Path.{_≡_, refl, sym, _∙_, ap, subst}
-use mathlib.Core.Bool.{Bool, true, false, not, _&&_, _||_, cond}
-use mathlib.Core.List.{List, [], _∷_, _++_, map}
+use Prim.Native.Nat.{ℕ, zero, suc, _+_, _-_, _≤_, _<_}
+use mathlib.Core.Path.{_≡_, refl}
+use mathlib.Core.Bool.{Bool, true, false, not, _||_, cond}
+use mathlib.Core.List.{List, [], _∷_}
 use native.Mathlib.Omega.{arith}
 use native.Mathlib.Nat.{not-suc-le-zero}
-use lib.Dec.{leb, ltb, eqb}
+use lib.Dec.{leb, ltb}
 use lib.ListN.{length}
-use lib.IntN.{ℤ, pos, negsuc, natAbs}
-use lib.Signed.{leZ, ltZ}
-use borrow.Author.Tests.{leb-true, ltb-true, le-leb, lt-ltb}
-use Rattle.lists.specs.Lists.{lists, all, distinct, isEmpty}
-use Rattle.lists.specs.Laws.Booleans.{and-left, and-right, contradiction}
-use Rattle.lists.specs.Laws.Alls.{all-cons, all-none, all-head, all-tail}
+use borrow.Author.Tests.{leb-true, ltb-true}
+use Rattle.lists.specs.Lists.{lists, all, isEmpty}
+use Rattle.lists.specs.Laws.Booleans.{contradiction}
+use Rattle.lists.specs.Laws.Alls.{all-cons}
 use Rattle.refusals.specs.Outcome.{Outcome, refused, accepted, _>>_, require, outcomes}
 use Rattle.refusals.specs.Numbers.{unknownPart, badInput, overCapacity, placeNotPending, budgetTooLarge}
-use Rattle.deck.specs.Deck.{Deck, R, N}
+use Rattle.deck.specs.Deck.{Deck, N}
 use Rattle.deck.specs.Laws.Formed.{Formed}
 use Rattle.graph.specs.Laws.Cycles.{Acyclic}
-use Rattle.pool.specs.Updates.{Pair, Update, assign, charge}
-use Rattle.pool.specs.Places.{capacity, pairsOf, pools}
+use Rattle.pool.specs.Updates.{Update, assign, charge}
+use Rattle.pool.specs.Places.{pairsOf}
 use Rattle.pool.specs.States.{Machine}
-use Rattle.pool.specs.Laws.Values.{channelsIn}
 use Rattle.pool.specs.Laws.Good.{Fine, count-bounded}
 use Rattle.passing.specs.Check.{within}
-use Rattle.firing.specs.Firing.{setAndFire, pick, without, Commit, committed}
-use Rattle.calls.specs.Calls.{Answer, added, applied, discarded, settled, spent, goodInput, channelsOf}
+use Rattle.firing.specs.Firing.{setAndFire, pick, without, committed}
+use Rattle.calls.specs.Calls.{Answer, applied, discarded, settled, spent, goodInput}
 use Rattle.calls.specs.Laws.Inputs.{input-known}
-use Rattle.firing.specs.Laws.Commits.{Known, pick-known, set-fine, set-grows, commit-falls, commit-fine}
+use Rattle.firing.specs.Laws.Commits.{pick-known, set-fine, commit-falls, commit-fine}
 use Rattle.orders.specs.Calling.{Call, input, commit, settle}
 use Rattle.orders.specs.Listed.{Turn, turn, turns, ending, Taken, taken, machineAfter, commitsOf, addedOf, listing}
 use Rattle.orders.specs.Order.{leavesWithin}

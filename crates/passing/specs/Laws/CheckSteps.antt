@@ -6,9 +6,9 @@ use mathlib.Core.Bool.{not}
 use mathlib.Core.List.{List, [], _∷_}
 use Rattle.lists.specs.Lists.{firstOr}
 use Rattle.lists.specs.Laws.First.{first-none, first-found}
-use Rattle.refusals.specs.Outcome.{Outcome, refused, accepted, _>>=_, outcomes}
+use Rattle.refusals.specs.Outcome.{refused, accepted, _>>=_, outcomes}
 use Rattle.refusals.specs.Numbers.{opensOutside, cyclicGraph, overcharged}
-use Rattle.deck.specs.Deck.{Deck, R, M, N}
+use Rattle.deck.specs.Deck.{Deck, R, N}
 use Rattle.deck.specs.Layout.{Layout, read}
 use Rattle.graph.specs.Graph.{edge, reachesItself, cyclic}
 use Rattle.graph.specs.FirstCycle.{firstCycle}

@@ -1,9 +1,9 @@
 -- From what the pass and the searches give to the answer of the tests of a deck. Assumes nothing.
-use Prim.Native.Nat.{ℕ, suc, _+_, _*_, _≤_, _<_}
+use Prim.Native.Nat.{ℕ, suc, _≤_, _<_}
 use mathlib.Core.Path.{_≡_, refl, sym, ap, _∙_, subst}
 use mathlib.Core.Logic.{inl, inr}
 use mathlib.Core.Bool.{Bool, not}
-use mathlib.Core.List.{List, [], _∷_, _++_}
+use mathlib.Core.List.{List, [], _∷_}
 use native.Mathlib.Omega.{arith}
 use native.Mathlib.Decide.{decLt}
 use lib.ListN.{length, getD, replicate, length-replicate, getD-replicate, List·getD-eq-default}
@@ -13,8 +13,8 @@ use borrow.Author.Tests.{lt-ltb}
 use Rattle.lists.specs.Lists.{filter, below, firstOr, lists}
 use Rattle.lists.specs.Laws.Below.{filter-first}
 use Rattle.lists.specs.Laws.Booleans.{and-both}
-use Rattle.refusals.specs.Outcome.{Outcome, refused, accepted}
-use Rattle.refusals.specs.Numbers.{opensOutside, cyclicGraph, overcharged}
+use Rattle.refusals.specs.Outcome.{refused, accepted}
+use Rattle.refusals.specs.Numbers.{opensOutside}
 use Rattle.expression.specs.Laws.Bytes.{Bytes}
 use Rattle.deck.specs.Deck.{Deck, R, M, N}
 use Rattle.deck.specs.Layout.{read, valueOf}
@@ -29,23 +29,21 @@ use Rattle.deck.specs.Laws.TablesRead.{Zeros}
 use Rattle.graph.specs.Graph.{edge, reachesItself, cyclic}
 use Rattle.graph.specs.FirstCycle.{firstCycle}
 use Rattle.graph.specs.Masks.{Sized}
-use Rattle.graph.specs.Laws.Cycles.{KnownTargets}
 use Rattle.graph.specs.Laws.Targets.{known-targets}
 use Rattle.graph.specs.Laws.Same.{same-first, same-known}
 use Rattle.graph.specs.Laws.FirstCycle.{first-acyclic}
 use Rattle.charge.specs.Charge.{carriedCharges, aboveBound, largestCharge}
 use Rattle.charge.specs.Memo.{Noted, AcyclicTables, memoSize, Memo}
 use Rattle.charge.specs.Answer.{boundOf}
-use Rattle.charge.specs.declared.Bound.the-variants.{Within, Above}
+use Rattle.charge.specs.declared.Bound.the-variants.{Above}
 use Rattle.charge.specs.Laws.Bound.{first-above}
 use Rattle.charge.specs.Laws.Shape.{shape-bound}
 use Rattle.charge.specs.Laws.Tables.{memo-new, memo-long}
 use Rattle.passing.specs.Check.{within, openingValues, outside, passing}
-use Rattle.passing.specs.Tabled.{layoutOf, deckOf, TablesIn, Tabled, PartsKnown}
+use Rattle.passing.specs.Tabled.{layoutOf, deckOf, Tabled, PartsKnown}
 use Rattle.passing.specs.Judged.{shape, RulesKnown, JudgesRules, ZeroRules, ZeroMemo, WholeKnown, Passed, Judges}
 use Rattle.passing.specs.declared.Judged.{Judged}
 use Rattle.passing.specs.declared.Judged.the-variants.{Passing, Refused}
-use Rattle.passing.specs.Laws.Passing.{passing-reads}
 use Rattle.passing.specs.Laws.CheckSteps.{firstOutside, above-bound, passing-6, passing-7, passing-8, passing-whole}
 use Rattle.passing.specs.Laws.Places.{read-place}
 use Rattle.passing.specs.Laws.Tabled.{marked-read, marked-layout, tabled}

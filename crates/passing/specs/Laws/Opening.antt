@@ -1,7 +1,6 @@
 -- A table of zeros that is filled with the opening values part by part, and a row of them alone. Assumes nothing.
 use Prim.Native.Nat.{ℕ, zero, suc, _+_, _*_, _-_, _≤_, _<_}
 use mathlib.Core.Path.{_≡_, refl, sym, ap, ap₂, _∙_}
-use mathlib.Core.Bool.{true}
 use mathlib.Core.List.{List, [], _∷_, _++_, append-assoc, append-nil}
 use native.Mathlib.Omega.{arith}
 use native.Mathlib.Numerals.{add-one}
@@ -10,7 +9,7 @@ use lib.ListN.{length, getD, take, drop, replicate, length-append, length-drop, 
 use lib.Seq.{take-suc, take-at, take-all, take-length, drop-at, split-at}
 use lib.IntN.{ℤ, pos}
 use borrow.Author.Tests.{eqb-true}
-use Rattle.lists.specs.Lists.{flatMap, all, lists}
+use Rattle.lists.specs.Lists.{flatMap, lists}
 use Rattle.lists.specs.Laws.Alls.{all-at}
 use Rattle.deck.specs.Deck.{Deck, Part, R, N, partAt}
 use Rattle.deck.specs.Laws.Formed.{Formed}

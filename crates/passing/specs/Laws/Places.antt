@@ -11,9 +11,8 @@ use Rattle.refusals.specs.Outcome.{Outcome, refused, accepted}
 use Rattle.refusals.specs.Numbers.{outOfRange, repeatedTarget}
 use Rattle.refusals.specs.Laws.Outcomes.{refused≢accepted}
 use Rattle.expression.specs.Reading.{Read, got, nothing, Scope, wholeNum, wholeTruth}
-use Rattle.deck.specs.Limits.{limits}
-use Rattle.deck.specs.Reader.{Got, Reader, andThen, _>>=_, _>>_, give, fault, here, require, byte, end, number, times, rising, value, readers}
-use Rattle.deck.specs.Layout.{judged, expression, ownOnly, taskScope, assignments, action, rule, part, Layout, sections, valueOf, read}
+use Rattle.deck.specs.Reader.{Got, Reader, andThen, _>>=_, _>>_, give, fault, require, byte, end, number, times, rising, value, readers}
+use Rattle.deck.specs.Layout.{judged, expression, ownOnly, taskScope, assignments, action, rule, part, sections, valueOf, read}
 use Rattle.deck.specs.Laws.Prefix.{read-prefix}
 
 -- the bytes that are left end where the bytes end, and a fault lies no further

@@ -2,23 +2,22 @@
 use Prim.Native.Nat.{ℕ, zero, suc, _+_, _*_, _≤_, _<_}
 use mathlib.Core.Path.{_≡_, refl, sym, ap, _∙_, subst}
 use mathlib.Core.Bool.{Bool, true, _&&_}
-use mathlib.Core.List.{List, [], _∷_, _++_, map}
+use mathlib.Core.List.{List, [], _∷_, _++_}
 use native.Mathlib.Omega.{arith}
 use lib.Dec.{leb}
 use borrow.Author.Tests.{leb-true}
 use lib.ListN.{length, getD, drop, length-append, length-drop, length-map}
 use Rattle.lists.specs.Lists.{all, flatMap, lists}
 use Rattle.lists.specs.Laws.Booleans.{and-left}
-use Rattle.refusals.specs.Outcome.{Outcome, refused, accepted}
+use Rattle.refusals.specs.Outcome.{accepted}
 use Rattle.expression.specs.Reading.{wholeTruth}
 use Rattle.expression.specs.Laws.Bytes.{Bytes}
-use Rattle.deck.specs.Deck.{Deck, R, M, N, ruleAt, partAt}
-use Rattle.deck.specs.Reader.{Got, Reader, times, value}
+use Rattle.deck.specs.Deck.{Deck, R, M, N, ruleAt}
+use Rattle.deck.specs.Reader.{times, value}
 use Rattle.deck.specs.Layout.{Layout, expression, ownOnly, taskScope, action, valueOf, read}
 use Rattle.deck.specs.Encoding.{inRange, goodRule, goodPart, wellFormed}
-use Rattle.deck.specs.Marks.{rulesAt, RulesFit, MarkedTask, MarkedRule, MarkedPart, Marked, markedSections, unmarked, ruleOf, ruleRow, partRow, Loads}
+use Rattle.deck.specs.Marks.{rulesAt, RulesFit, MarkedTask, Marked, markedSections, unmarked, ruleOf, ruleRow, partRow}
 use Rattle.deck.specs.declared.Deck as Counted
-use Rattle.deck.specs.declared.Loaded.the-variants.{Whole, Wrong}
 use Rattle.deck.specs.Laws.Marks.{mapGot, read-marked}
 use Rattle.deck.specs.Laws.Points.{ReadsAt, RulePoints, PartPoints}
 use Rattle.deck.specs.Laws.DeckPoints.{Each, deck-points}
@@ -28,7 +27,7 @@ use Rattle.deck.specs.Laws.Reading.{reads-exactly}
 use Rattle.deck.specs.Laws.Formed.{formed}
 use Rattle.deck.specs.Laws.Scoped.{scoped}
 use Rattle.charge.specs.Memo.{OthersKept}
-use Rattle.passing.specs.Tabled.{layoutIn, layoutOf, Counts, PartTable, RuleTable, TablesIn, Tabled}
+use Rattle.passing.specs.Tabled.{layoutIn, layoutOf, PartTable, RuleTable, TablesIn, Tabled}
 
 -- what was read is what the bytes hold
 pub layout-read : (s : List ℕ) (l : Layout) → read s ≡ accepted l → layoutOf s ≡ l

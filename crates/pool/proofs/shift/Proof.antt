@@ -1,5 +1,4 @@
 -- `pool::shift` meets its contract: the numbers move, and the stale ones behind them are lent to be cleared. Assumes nothing.
-use mathlib.Core.Path.{_∙_}
 use borrow.Author.Needs.{needs}
 use Rattle.pool.proofs.Writing.{shifted-is}
 use Rattle.pool.proofs.shift.Statement.{statement}

@@ -1,16 +1,16 @@
 -- Updates that are written into places are read back as they were. Assumes nothing.
-use Prim.Native.Nat.{ℕ, zero, suc, _+_, _*_, _-_, _≤_}
-use mathlib.Core.Path.{_≡_, refl, sym, _∙_, ap, ap₂}
-use mathlib.Core.Bool.{Bool, true, false}
+use Prim.Native.Nat.{ℕ, _+_, _*_, _-_, _≤_}
+use mathlib.Core.Path.{_≡_, refl, _∙_, ap, ap₂}
+use mathlib.Core.Bool.{Bool, true}
 use mathlib.Core.List.{List, [], _∷_, _++_, map, append-assoc}
 use native.Mathlib.Omega.{arith}
 use lib.Dec.{leb}
 use lib.ListN.{length, take, drop, replicate, length-append, length-replicate}
-use lib.Seq.{take-at, drop-at, drop-drop}
+use lib.Seq.{take-at, drop-at}
 use lib.IntN.{ℤ, pos}
 use borrow.Author.Tests.{leb-true}
 use Rattle.lists.specs.Lists.{lists, all, flatMap, eqZ, eqList}
-use Rattle.lists.specs.Laws.Alls.{all-head, all-tail, all-cons}
+use Rattle.lists.specs.Laws.Alls.{all-head, all-tail}
 use Rattle.lists.specs.Laws.Equalities.{eqZ-refl, eqList-refl}
 use Rattle.pool.specs.Updates.{Pair, Update}
 use Rattle.pool.specs.Places.{zeros, place, poolOf, pairsOf, updateOf, wellWritten, places, updatesOf, pools}

@@ -1,12 +1,12 @@
 -- Laws of the two halves of the firing: each rule that hears the changed channels has its turn, in rule order. Assumes nothing.
 use Prim.Native.Nat.{ℕ, zero, suc, _+_, _-_, _*_, _≤_, _<_, min}
 use mathlib.Core.Path.{_≡_, refl, sym, ap, ap₂, _∙_, subst}
-use mathlib.Core.Bool.{Bool, true, false, _&&_}
+use mathlib.Core.Bool.{true, false, _&&_}
 use mathlib.Core.List.{List, [], _∷_, _++_, map}
 use native.Mathlib.Omega.{arith}
-use lib.ListN.{length, getD}
+use lib.ListN.{getD}
 use lib.IntN.{ℤ}
-use Rattle.lists.specs.Lists.{lists, any, filter, flatMap, below, member}
+use Rattle.lists.specs.Lists.{lists, filter, flatMap, below, member}
 use Rattle.lists.specs.Bits.{bit, maskOf, NextIn}
 use Rattle.lists.specs.Laws.Same.{any-same}
 use Rattle.lists.specs.Laws.Bits.{maskOf-bit, bit-zero}
