@@ -9,10 +9,10 @@ use lib.IntN.{ℤ}
 use Rattle.refusals.specs.Outcome.{refused, accepted}
 use Rattle.refusals.specs.Numbers.{badPool, badState}
 use Rattle.deck.specs.declared.Deck as Counted
-use Rattle.pool.specs.Places.{capacity}
+use Rattle.pool.specs.Places.{places, capacity}
 use Rattle.pool.specs.States.{Machine, Memory, load, goodLength}
 use Rattle.charge.specs.Memo.{Memo}
-use Rattle.index.specs.Index.{headsOf, Indexed, keys, Roomy}
+use Rattle.index.specs.Index.{holeOf, Indexed, Roomy}
 use Rattle.pool.specs.Moves.{Laid}
 use Rattle.states.specs.Answer.{Fresh, goodnessOf}
 use Rattle.states.specs.declared.Goodness.the-variants.{Good, Bad}
@@ -41,8 +41,9 @@ TestsState k rules parts memo index pool vs pending (Ready c total) =
     × (goodLength (length pool) ≡ true)
     × (Good total ≡ goodnessOf (shape rules parts k) (memoryAt vs pending pool))
     × Memo (shape rules parts k) memo
-    × Indexed 0 (keys (headsOf index) pending pool) index
+    × Indexed 0 (places pending pool) index
     × Roomy (capacity (length pool)) index
+    × (holeOf index ≡ 0)
 TestsState k rules parts memo index pool vs pending (Refused n p) =
     (p ≡ 0)
     × (((n ≡ badPool) × (goodLength (length pool) ≡ false))

@@ -9,26 +9,34 @@ ghost use Rattle.passing.specs.Judged.{ZeroRules, ZeroMemo};
 use deck::Deck;
 use passing::Judged;
 
-// The numbers of an index, a third of them for the buckets and the others for places: for pools of up to 64 places, of up to 256,
-// of up to 2,048, of up to 12,288, and for the longest. It begins as zeros in each call, so that a short pool should have a short
-// one.
+// The numbers of an index, a third of them for the buckets and two for each place: for pools of up to 64 places, of up to 256, of up to
+// 1,024, of up to 2,048, of up to 4,096, of up to 12,288, and for the longest. It begins as zeros in each call, so that a short pool
+// should have a short one.
 pub const TINY_POOL: usize = 640;
 
-pub const TINY_INDEX: usize = 96;
+pub const TINY_INDEX: usize = 196;
 
 pub const SMALL_POOL: usize = 2560;
 
-pub const SMALL_INDEX: usize = 384;
+pub const SMALL_INDEX: usize = 772;
 
-pub const SHORT_POOL: usize = 20480;
+pub const SHORT_POOL: usize = 10240;
 
-pub const SHORT_INDEX: usize = 3072;
+pub const SHORT_INDEX: usize = 3076;
 
-pub const MIDDLE_POOL: usize = 122880;
+pub const MEDIUM_POOL: usize = 20480;
 
-pub const MIDDLE_INDEX: usize = 18432;
+pub const MEDIUM_INDEX: usize = 6148;
 
-pub const INDEX: usize = 98304;
+pub const LONG_POOL: usize = 40960;
+
+pub const LONG_INDEX: usize = 12292;
+
+pub const LONGER_POOL: usize = 122880;
+
+pub const LONGER_INDEX: usize = 36868;
+
+pub const INDEX: usize = 196610;
 
 // What the tests of deck, pool and state come to: the counts of the deck and the charge of the pending updates, or the refusal.
 pub enum Tested {

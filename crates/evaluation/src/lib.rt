@@ -2,12 +2,13 @@
 // definitions are in `expression`.
 ghost use mathlib.Core.Path.{_≡_};
 ghost use mathlib.Core.Bool.{true, not};
-ghost use Prim.Native.Nat.{_-_, _<_};
+ghost use Prim.Native.Nat.{_-_, _<_, _≤_};
 ghost use lib.ListN.{length, getD};
 ghost use Rattle.clamped.specs.Clamp.{negated};
 ghost use Rattle.expression.specs.Values.{arith, join, compare};
-ghost use Rattle.expression.specs.Reading.{literalAt, channelAt};
+ghost use Rattle.expression.specs.Reading.{literalAt, channelAt, truthOp};
 ghost use Rattle.expression.specs.Answers.{mapRead, Answers, valueIn, numAt, truthAt, ofNum, ofTruth, wholeNumValue, wholeTruthValue};
+ghost use Rattle.expression.specs.declared.TruthOp.the-variants.{Not};
 use expression::Arith;
 use expression::Compare;
 use expression::Join;
@@ -176,9 +177,9 @@ pub fn truth_at(s: &[u8], at: usize, own: &[i32], far: &[i32]) -> TruthAt
 
 // ---- whole expressions
 
-// Most expressions are one operator, and its operands are leaves or operators of two leaves. To enter a function that calls
-// itself costs more than to read these, so the functions for whole expressions look at the first operator and at those of its
-// operands themselves, and call the others only for what is deeper.
+// Most expressions are one operator, or the negation of one, and its operands are leaves or operators of two leaves. To enter a
+// function that calls itself costs more than to read these, so the functions for whole expressions look at the first operator and
+// at those of its operands themselves, and call the others only for what is deeper.
 
 // Whether a literal or a channel stands at a place of s.
 fn is_leaf(s: &[u8], at: usize) -> bool
@@ -242,6 +243,16 @@ fn operand_at(s: &[u8], at: usize, own: &[i32], far: &[i32]) -> NumAt
     }
 }
 
+// The same for a second operand, which is more often a leaf: the function above would be compiled once for both, and called.
+fn second_at(s: &[u8], at: usize, own: &[i32], far: &[i32]) -> NumAt
+    ensures { λ r. ⌜ Answers (numAt (now (own .entry)) (now (far .entry))) (now (s .entry)) at (ofNum r) ⌝ }
+{
+    if is_leaf(s, at) {
+        return leaf_at(s, at, own, far);
+    }
+    num_at(s, at, own, far)
+}
+
 // The number that s begins with.
 fn first_num(s: &[u8], own: &[i32], far: &[i32]) -> NumAt
     ensures { λ r. ⌜ Answers (numAt (now (own .entry)) (now (far .entry))) (now (s .entry)) 0 (ofNum r) ⌝ }
@@ -260,34 +271,53 @@ fn first_num(s: &[u8], own: &[i32], far: &[i32]) -> NumAt
     let NumAt::Value(a, n) = first else {
         return NumAt::Nothing;
     };
-    calculate_at(k, a, operand_at(s, n, own, far))
+    calculate_at(k, a, second_at(s, n, own, far))
 }
 
-// The truth that s begins with.
-fn first_truth(s: &[u8], own: &[i32], far: &[i32]) -> TruthAt
-    ensures { λ r. ⌜ Answers (truthAt (now (own .entry)) (now (far .entry))) (now (s .entry)) 0 (ofTruth r) ⌝ }
+// The truth at a place: a constant and the comparison of two leaves are read at once.
+fn compared_at(s: &[u8], at: usize, own: &[i32], far: &[i32]) -> TruthAt
+    ensures { λ r. ⌜ Answers (truthAt (now (own .entry)) (now (far .entry))) (now (s .entry)) at (ofTruth r) ⌝ }
 {
-    if s.len() == 0 {
+    if s.len() <= at {
         return TruthAt::Nothing;
     }
-    let op = expression::truth_op(s[0]);
+    let op = expression::truth_op(s[at]);
     if let TruthOp::Constant(p) = op {
-        return TruthAt::Value(p, 1);
+        return TruthAt::Value(p, at + 1);
     }
     let TruthOp::Two(k) = op else {
-        return truth_at(s, 0, own, far);
+        return truth_at(s, at, own, far);
     };
-    if !is_leaf(s, 1) {
-        return truth_at(s, 0, own, far);
+    if !is_leaf(s, at + 1) {
+        return truth_at(s, at, own, far);
     }
-    let first = leaf_at(s, 1, own, far);
+    let first = leaf_at(s, at + 1, own, far);
     let NumAt::Value(a, n) = first else {
         return TruthAt::Nothing;
     };
     if !is_leaf(s, n) {
-        return truth_at(s, 0, own, far);
+        return truth_at(s, at, own, far);
     }
     compare_at(k, a, leaf_at(s, n, own, far))
+}
+
+// How many bytes the negation takes that s begins with: 1, or 0 where it begins with none.
+fn negation(s: &[u8]) -> usize
+    ensures { λ r. ⌜ (r ≤ 1) × (r ≡ 1 → (0 < length (now (s .entry))) × (truthOp (getD (now (s .entry)) 0 0) ≡ Not)) ⌝ }
+{
+    if s.len() == 0 {
+        return 0;
+    }
+    if s[0] == 18 { 1 } else { 0 }
+}
+
+// The truth that s begins with: one of these or the negation of one.
+fn first_truth(s: &[u8], own: &[i32], far: &[i32]) -> TruthAt
+    ensures { λ r. ⌜ Answers (truthAt (now (own .entry)) (now (far .entry))) (now (s .entry)) 0 (ofTruth r) ⌝ }
+{
+    let from = negation(s);
+    let truth = compared_at(s, from, own, far);
+    if from == 1 { not_at(truth) } else { truth }
 }
 
 // The value of the number that the bytes are.

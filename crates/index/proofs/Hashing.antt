@@ -1,9 +1,9 @@
 -- The hash of a place, and a bucket from it. Assumes nothing.
-use Prim.Native.Nat.{ℕ, _+_, _*_, _/_, _≤_, _<_}
+use Prim.Native.Nat.{ℕ, _+_, _*_, _≤_, _<_}
 use mathlib.Core.Path.{_≡_, refl, sym}
 use mathlib.Core.Bool.{true, false}
 use mathlib.Core.List.{List}
-use native.Mathlib.Nat.{add-zero, le-refl, mul-le-mul, mul-lt-mul-of-pos-right}
+use native.Mathlib.Nat.{add-zero, le-refl, mul-le-mul}
 use native.Mathlib.Omega.{arith}
 use borrow.Author.Tests.{eq-eqb, ne-eqb}
 use lib.ListN.{getD}
@@ -43,12 +43,8 @@ module _ (l : List ℤ) where
   unfolding hashOf
   more-pairs e = rw (is-other (getD l 1 (pos 0)) e) refl
 
--- a hash below 2^32, times so many buckets, fits 64 bits, and a 2^32th of it is a bucket
-module _ (h heads : ℕ) (small : h < 4294967296) where
-  pub product-fits : heads ≤ 65536 → h * heads < 281474976710656
-  product-fits few =
-      let e : h ≤ 4294967295 = omega arith in
-      omega (arith, mul-le-mul e few)
-
-  pub bucket-small : 0 < heads → h * heads / 4294967296 < heads
-  bucket-small some = omega (arith, mul-lt-mul-of-pos-right small some)
+-- a hash below 2^32, times so many buckets, fits 64 bits
+pub product-fits : (h heads : ℕ) → h < 4294967296 → heads ≤ 65536 → h * heads < 281474976710656
+product-fits h heads small few =
+    let e : h ≤ 4294967295 = omega arith in
+    omega (arith, mul-le-mul e few)

@@ -1,23 +1,79 @@
--- A search along the chain of a bucket: the places before the one in hand answer for all of them. Assumes nothing.
-use Prim.Native.Nat.{ℕ, zero, suc, _+_, _-_, _*_, _≤_, _<_}
-use mathlib.Core.Path.{_≡_, refl, sym, ap, ap₂, subst, _∙_}
+-- A way down a tree, step by step: what a search for equal numbers keeps. Assumes nothing.
+use Prim.Native.Nat.{ℕ, zero, suc, _+_, _-_, _*_, _/_, _≤_, _<_}
+use mathlib.Core.Path.{_≡_, refl, sym, ap, subst, _∙_}
+use mathlib.Core.Logic.{_⊎_, ⊎-elim, inl, inr}
 use mathlib.Core.Bool.{Bool, true, false, _||_}
-use mathlib.Core.List.{List, [], _∷_, map}
-use native.Mathlib.Nat.{le-refl}
+use mathlib.Core.List.{List, [], _∷_}
 use native.Mathlib.Omega.{arith}
-use lib.Dec.{eqb}
-use lib.ListN.{length, take, drop, getD}
-use lib.Seq.{getD-take}
+use lib.ListN.{length, getD, take, drop}
 use lib.IntN.{ℤ}
-use borrow.Author.Tests.{eqb-false}
 use Rattle.lists.specs.Lists.{any, eqZ, eqList}
-use Rattle.lists.specs.Laws.Booleans.{or-left, or-right, or-false-both, not-true→false}
-use Rattle.lists.specs.Laws.Equalities.{eqZ-true, eqList-true}
+use Rattle.lists.specs.Laws.Booleans.{or-left, or-right, or-false-both, not-true→false, contradiction}
+use Rattle.lists.specs.Laws.Equalities.{eqZ-true, eqList-true, eqZ-refl, eqList-refl}
 use Rattle.pool.specs.Places.{places}
-use Rattle.index.specs.Hash.{bucketOf}
-use Rattle.index.specs.Index.{headsOf, further, lastOf, Indexed, keys}
-use Rattle.index.specs.Laws.Last.{last-bound, last-is}
-use Rattle.index.specs.Laws.Front.{places-length, places-take, places-at, keys-length, keys-take}
+use Rattle.index.specs.Hash.{bucketOf, sideOf}
+use Rattle.index.specs.Index.{headsOf, holeOf, slotOf, ownerOf, numberOf, Leads, here, down, Ends, free, past, Ordered, Indexed, Seeking, Finds, PlaceOf, IsPlace}
+use Rattle.index.specs.Laws.Ways.{side-low, slot-inside, slot-owner}
+use Rattle.index.specs.Laws.Indexed.{number-some, number-whole}
+use Rattle.index.specs.Laws.Front.{places-length, places-at}
+
+-- the steps that are left at most
+unfoldable pub steps : ℕ → ℕ
+steps zero = 0
+steps (suc i) = 65536 - suc i
+
+steps-less : (i n : ℕ) → 0 < i → i ≤ 65535 → (n ≡ 0) ⊎ (i < n) → steps n < steps i
+unfolding steps
+steps-less zero n h m l = absurd (omega arith)
+steps-less (suc i) zero h m l = omega arith
+steps-less (suc i) (suc n) h m l = ⊎-elim (λ e. absurd (omega arith)) (λ k. omega arith) l
+
+-- ---- one step down, from the place with number i
+
+slot-suc : (heads i side : ℕ) → 0 < i → slotOf heads (suc (i - 1)) side ≡ slotOf heads i side
+slot-suc heads i side h = let e : suc (i - 1) ≡ i = omega arith in ap (λ n. slotOf heads n side) e
+
+module _ {heads top : ℕ} {index : List ℕ} (o : Ordered heads top index) (i side : ℕ) (some : 0 < i) (most : i ≤ top) (low : side < 2) where
+  abbrev next : ℕ
+  next = getD index (slotOf heads i side) 0
+
+  pub next-inside : suc (slotOf heads i side) < length index
+  next-inside = subst (λ s. suc s < length index) (slot-suc heads i side some) (slot-inside o (i - 1) side (omega arith) low)
+
+  pub next-later : (next ≡ 0) ⊎ ((i < next) × (next ≤ top))
+  next-later =
+      let owner = ap (ownerOf heads) (sym (slot-suc heads i side some)) ∙ slot-owner heads (i - 1) side low in
+      ⊎-elim (λ e. inl e) (λ r. inr (omega (arith, owner, r .0), r .1)) (o .slots (slotOf heads i side) next-inside)
+
+  pub next-less : top ≤ 65535 → steps next < steps i
+  next-less few = steps-less i next some (omega arith) (⊎-elim (λ e. inl e) (λ r. inr (r .0)) next-later)
+
+  pub next-most : next ≤ top
+  next-most = ⊎-elim (λ e. omega (arith, e)) (λ r. r .1) next-later
+
+  pub next-deep : (d : ℕ) → d < i → 0 < next → d + 1 < next
+  next-deep d l n = ⊎-elim (λ e. absurd (omega (arith, e))) (λ r. omega (arith, r .0)) next-later
+
+-- ---- the search
+
+-- from the place with number i at a depth the way comes to number n
+abbrev From : List ℕ → List ℤ → ℕ → ℕ → ℕ → Type 0
+From index row d i n = (i ≡ n) ⊎ ((0 < i) × Leads (headsOf index) index row (suc d) (slotOf (headsOf index) i (sideOf row d)) n)
+
+from-slot : {index : List ℕ} {row : List ℤ} {d s n : ℕ} → Leads (headsOf index) index row d s n → From index row d (getD index s 0) n
+from-slot (here h) = inl h
+from-slot {index} {row} {d} {n = n} (down {i = i} h w) =
+    inr (omega (arith, h), subst (λ j. Leads (headsOf index) index row (suc d) (slotOf (headsOf index) j (sideOf row d)) n) (sym h) w)
+
+-- the slot s at a depth holds the number i, the way ends where that from s on does, and it comes to each place that has these numbers
+pub record Searching (gone pending : ℕ) (pool row : List ℤ) (index : List ℕ) (s i d : ℕ) : Type 0 where
+  pub seeking : Seeking gone pending pool row index
+  pub inside : suc s < length index
+  pub value : i ≡ getD index s 0
+  pub most : i ≤ numberOf gone (holeOf index) (length (places pending pool)) - 1
+  pub deep : 0 < i → d < i
+  pub back : (e : ℕ) → Ends (headsOf index) index row d s e → Ends (headsOf index) index row 0 (bucketOf (headsOf index) row) e
+  pub way : (p : ℕ) → p < pending → take 10 (drop (10 * p) pool) ≡ row → From index row d i (numberOf gone (holeOf index) p)
 
 any-at : {A : Type 0} (f : A → Bool) (l : List A) (j : ℕ) (x : A) → j < length l → f (getD l j x) ≡ true → any f l ≡ true
 unfolding any
@@ -25,142 +81,133 @@ any-at f [] j x h t = absurd (omega arith)
 any-at f (y ∷ l) zero x h t = or-left (any f l) t
 any-at f (y ∷ l) (suc j) x h t = or-right (f y) (any-at f l j x (omega arith) t)
 
--- ---- the last place of the bucket of some numbers, among some places
+any-none : {A : Type 0} (f : A → Bool) (l : List A) (x : A) → ((j : ℕ) → j < length l → f (getD l j x) ≡ false) → any f l ≡ false
+unfolding any
+any-none f [] x h = refl
+any-none f (y ∷ l) x h = or-false-both (h 0 (omega arith)) (any-none f l x (λ j m. h (suc j) (omega arith)))
 
-module _ (heads : ℕ) (row : List ℤ) where
-  abbrev test : List ℤ → Bool
-  test w = eqList eqZ w row
+pub searching-starts : {gone pending : ℕ} {pool row : List ℤ} {index : List ℕ} (b : ℕ) → Seeking gone pending pool row index
+    → b ≡ bucketOf (headsOf index) row → b < headsOf index → Searching gone pending pool row index b (getD index b 0) 0
+searching-starts {gone} {pending} {pool} {row} {index} b k e l =
+    record {
+      seeking = k;
+      inside = omega (arith, o .inside);
+      value = refl;
+      most = ⊎-elim (λ e. omega (arith, e)) (λ r. r .1) (o .slots b (omega (arith, o .inside)));
+      deep = λ h. h;
+      back = λ n w. subst (λ s. Ends (headsOf index) index row 0 s n) e w;
+      way = way;
+    }
+  where
+    o : Ordered (headsOf index) (numberOf gone (holeOf index) (length (places pending pool)) - 1) index
+    o = k .indexed .ordered
 
-  abbrev last : List (List ℤ) → ℕ
-  last ls = lastOf (bucketOf heads row) (map (bucketOf heads) ls)
+    way : (p : ℕ) → p < pending → take 10 (drop (10 * p) pool) ≡ row → From index row 0 (getD index b 0) (numberOf gone (holeOf index) p)
+    way p m q =
+        let there = places-at pending p pool m ∙ q in
+        from-slot
+        (subst (λ s. Leads (headsOf index) index row 0 s (numberOf gone (holeOf index) p)) (sym e)
+        (subst (λ r. Leads (headsOf index) index r 0 (bucketOf (headsOf index) r) (numberOf gone (holeOf index) p)) there
+        (k .indexed .leads p (omega (arith, places-length pending pool)))))
 
-  abbrev mine : List ℤ → Bool
-  mine w = eqb (bucketOf heads w) (bucketOf heads row)
-
-  not-mine : (w : List ℤ) → mine w ≡ false → test w ≡ false
-  not-mine w h =
-      not-true→false (test w)
-      (λ t. eqb-false (bucketOf heads w) (bucketOf heads row) h (ap (bucketOf heads) (eqList-true eqZ eqZ-true w row t)))
-
-  none-there : (ls : List (List ℤ)) → last ls ≡ 0 → any test ls ≡ false
-  unfolding any lastOf further
-  none-there [] h = refl
-  none-there (w ∷ ls) h = go (none-there ls) (last ls) (mine w) refl refl h
+module _ {gone pending : ℕ} {pool row : List ℤ} {index : List ℕ} {s i d : ℕ} (w : Searching gone pending pool row index s i d) where
+  pub searching-ends : i ≡ 0 → Finds pending pool row index s
+  searching-ends e =
+      record {
+        found = λ q. absurd (omega (arith, q, w .inside));
+        none = λ _. any-none (λ w. eqList eqZ w row) (places pending pool) [] none;
+        ends = λ _. w .back s (free (sym (w .value) ∙ e));
+      }
     where
-      go : (last ls ≡ 0 → any test ls ≡ false) → (n : ℕ) (t : Bool) → last ls ≡ n → mine w ≡ t → further n t ≡ 0
-          → (test w || any test ls) ≡ false
-      go later zero true d e h = absurd (omega arith)
-      go later zero false d e h = or-false-both (not-mine w e) (later d)
-      go later (suc n) t d e h = absurd (omega arith)
+      nowhere : (p : ℕ) → p < pending → take 10 (drop (10 * p) pool) ≡ row → ⊥
+      nowhere p l q =
+          ⊎-elim (λ n. omega (arith, e, n, number-some gone (holeOf index) p)) (λ r. omega (arith, e, r .0)) (w .way p l q)
 
-  earlier : (ls : List (List ℤ)) (j : ℕ) → last ls ≡ suc j → test (getD ls j []) ≡ false → any test ls ≡ any test (take j ls)
-  unfolding any lastOf further
-  earlier [] j h f = absurd (omega arith)
-  earlier (w ∷ ls) j h f = go (λ i. earlier ls i) (last ls) (mine w) refl j h f
-    where
-      go : ((i : ℕ) → last ls ≡ suc i → test (getD ls i []) ≡ false → any test ls ≡ any test (take i ls)) → (n : ℕ) (t : Bool)
-          → last ls ≡ n → (j : ℕ) → further n t ≡ suc j → test (getD (w ∷ ls) j []) ≡ false
-          → (test w || any test ls) ≡ any test (take j (w ∷ ls))
-      go next zero t d zero h f = or-false-both f (none-there ls d)
-      go next zero true d (suc j) h f = absurd (omega arith)
-      go next zero false d (suc j) h f = absurd (omega arith)
-      go next (suc n) t d zero h f = absurd (omega arith)
-      go next (suc n) t d (suc j) h f = ap (λ b. test w || b) (next j (omega arith) f)
+      none : (p : ℕ) → p < length (places pending pool) → eqList eqZ (getD (places pending pool) p []) row ≡ false
+      none p l =
+          let m : p < pending = omega (arith, places-length pending pool) in
+          not-true→false (eqList eqZ (getD (places pending pool) p []) row)
+          (λ t. nowhere p m (sym (places-at pending p pool m) ∙ eqList-true eqZ eqZ-true (getD (places pending pool) p []) row t))
 
--- ---- the search
+  module _ (some : 0 < i) where
+    abbrev search-step : ℕ
+    search-step = slotOf (headsOf index) i (sideOf row d)
 
--- d is 1 + the last place of the bucket among the first so many, which answer for all that are pending
-pub record Searching (heads pending : ℕ) (pool row : List ℤ) (bucket d : ℕ) : Type 0 where
-  pub first : ℕ
-  pub few : first ≤ pending
-  pub here : d ≡ lastOf bucket (keys heads first pool)
-  pub same : any (λ w. eqList eqZ w row) (places first pool) ≡ any (λ w. eqList eqZ w row) (places pending pool)
+    searching-inside : suc search-step < length index
+    searching-inside = next-inside (w .seeking .indexed .ordered) i (sideOf row d) some (w .most) (side-low row d)
 
-pub searching-starts : (heads pending : ℕ) (pool row : List ℤ) (bucket d : ℕ) → d ≡ lastOf bucket (keys heads pending pool)
-    → Searching heads pending pool row bucket d
-searching-starts heads pending pool row bucket d e = record { first = pending; few = le-refl pending; here = e; same = refl }
+    -- the slot as the code computes it
+    pub step-is : {b : ℕ} → b ≡ sideOf row d → length index / 3 + 2 * (i - 1) + b ≡ slotOf (headsOf index) i (sideOf row d)
+    unfolding slotOf headsOf
+    step-is e = ap (λ x. length index / 3 + 2 * (i - 1) + x) e
 
-module _ {heads pending : ℕ} {pool row : List ℤ} {bucket d : ℕ} (s : Searching heads pending pool row bucket d) where
-  pub searching-ends : bucket ≡ bucketOf heads row → d ≡ 0 → false ≡ any (λ w. eqList eqZ w row) (places pending pool)
-  unfolding keys
-  searching-ends b e =
-      sym (none-there heads row (places (s .first) pool) (ap (λ x. lastOf x (keys heads (s .first) pool)) (sym b) ∙ sym (s .here) ∙ e))
-      ∙ s .same
+    pub step-inside : {b : ℕ} → b ≡ sideOf row d → suc (length index / 3 + 2 * (i - 1) + b) < length index
+    step-inside e = subst (λ s. suc s < length index) (sym (step-is e)) searching-inside
 
-  -- at place j
-  module _ (j : ℕ) (e : d ≡ suc j) where
-    last-here : lastOf bucket (keys heads (s .first) pool) ≡ suc j
-    last-here = sym (s .here) ∙ e
+    -- numbers are at most 65,535
+    few : numberOf gone (holeOf index) (length (places pending pool)) - 1 ≤ 65535
+    few = omega (arith, ap (numberOf gone (holeOf index)) (places-length pending pool), w .seeking .few)
 
-    below-first : j < s .first
-    below-first = omega (arith, last-here, last-bound bucket (keys heads (s .first) pool), keys-length heads pool (s .first))
+    pub searching-less : steps (getD index search-step 0) < steps i
+    searching-less = next-less (w .seeking .indexed .ordered) i (sideOf row d) some (w .most) (side-low row d) few
 
-    below : j < pending
-    below = omega (arith, below-first, s .few)
+    pub searching-few : d < 65535
+    searching-few = omega (arith, w .deep some, w .most, few)
 
-    found : test heads row (take 10 (drop (10 * j) pool)) ≡ true → true ≡ any (test heads row) (places pending pool)
-    found t =
-        sym
-        (any-at (test heads row) (places (s .first) pool) j [] (omega (arith, below-first, places-length (s .first) pool))
-        (ap (test heads row) (places-at (s .first) j pool below-first) ∙ t))
-        ∙ s .same
+    module _ {p : ℕ} {r : Bool} (place : PlaceOf i gone (holeOf index) pending p) (is : IsPlace pool pending p row r) where
+      pub searching-found : r ≡ true → Finds pending pool row index (length index)
+      searching-found t =
+          let f = is .found t in
+          record {
+            found = λ _.
+                any-at (λ w. eqList eqZ w row) (places pending pool) p [] (omega (arith, f .0, places-length pending pool))
+                (ap (λ w. eqList eqZ w row) (places-at pending p pool (f .0)) ∙ f .1);
+            none = λ n. absurd (n refl);
+            ends = λ n. absurd (n refl);
+          }
 
-    bucket-there : getD (keys heads pending pool) j 0 ≡ bucket
-    bucket-there =
-        sym (getD-take (s .first) (keys heads pending pool) j 0 below-first)
-        ∙ ap (λ l. getD l j 0) (keys-take heads pool (s .first) pending (s .few))
-        ∙ last-is bucket (keys heads (s .first) pool) j last-here
+      pub searching-next : r ≡ false → Searching gone pending pool row index search-step (getD index search-step 0) (d + 1)
+      searching-next f =
+          record {
+            seeking = w .seeking;
+            inside = searching-inside;
+            value = refl;
+            most = next-most (w .seeking .indexed .ordered) i (sideOf row d) some (w .most) (side-low row d);
+            deep = next-deep (w .seeking .indexed .ordered) i (sideOf row d) some (w .most) (side-low row d) d (w .deep some);
+            back = back;
+            way = way;
+          }
+        where
+          back : (e : ℕ) → Ends (headsOf index) index row (d + 1) search-step e → Ends (headsOf index) index row 0 (bucketOf (headsOf index) row) e
+          back e v =
+              let n : d + 1 ≡ suc d = omega arith in
+              let one : i ≡ suc (i - 1) = omega arith in
+              w .back e
+              (past (sym (w .value) ∙ one)
+              (subst (λ k. Ends (headsOf index) index row (suc d) k e) (sym (slot-suc (headsOf index) i (sideOf row d) some))
+              (subst (λ k. Ends (headsOf index) index row k search-step e) n v)))
 
-    -- the places before j answer where j does not
-    shorter : bucket ≡ bucketOf heads row → test heads row (take 10 (drop (10 * j) pool)) ≡ false
-        → any (test heads row) (places j pool) ≡ any (test heads row) (places (s .first) pool)
-    unfolding keys
-    shorter b t =
-        ap (any (test heads row)) (sym (places-take j (s .first) pool (omega (arith, below-first))))
-        ∙ sym
-        (earlier heads row (places (s .first) pool) j (ap (λ x. lastOf x (keys heads (s .first) pool)) (sym b) ∙ last-here)
-        (ap (test heads row) (places-at (s .first) j pool below-first) ∙ t))
+          here-not : (q : ℕ) → q < pending → take 10 (drop (10 * q) pool) ≡ row → i ≡ numberOf gone (holeOf index) q → ⊥
+          here-not q l e n =
+              let same = place q l n in
+              let other = is .other f (omega (arith, same)) in
+              contradiction (ap (λ w. eqList eqZ w row) (ap (λ j. take 10 (drop (10 * j) pool)) same ∙ e) ∙ eqList-refl eqZ eqZ-refl row) other
 
-    -- the link of place j leads to the last place of the bucket before it
-    module _ {gone : ℕ} {index : List ℕ} (ix : Indexed gone (keys heads pending pool) index) where
-      link-there : getD index (headsOf index + (gone + j)) 0 - gone ≡ lastOf bucket (keys heads j pool)
-      link-there =
-          ix .links j (omega (arith, below, keys-length heads pool pending))
-          ∙ ap₂ lastOf bucket-there (keys-take heads pool j pending (omega (arith, below)))
+          way : (q : ℕ) → q < pending → take 10 (drop (10 * q) pool) ≡ row → From index row (d + 1) (getD index search-step 0) (numberOf gone (holeOf index) q)
+          way q l e =
+              let n : suc d ≡ d + 1 = omega arith in
+              subst (λ k. From index row k (getD index search-step 0) (numberOf gone (holeOf index) q)) n
+              (⊎-elim (λ m. absurd (here-not q l e m)) (λ v. from-slot (v .1)) (w .way q l e))
 
-      next-there : bucket ≡ bucketOf heads row → test heads row (take 10 (drop (10 * j) pool)) ≡ false
-          → Searching heads pending pool row bucket (getD index (headsOf index + (gone + j)) 0 - gone)
-      next-there b t =
-          record { first = j; few = omega (arith, below); here = link-there; same = shorter b t ∙ s .same }
+-- where nothing is gone or taken out, a number is that of its place
+module _ {pending : ℕ} {pool row : List ℤ} {index : List ℕ} {s i d : ℕ} (w : Searching 0 pending pool row index s i d) (e : holeOf index ≡ 0)
+    (some : 0 < i) where
+  pub first-place : PlaceOf i 0 (holeOf index) pending (i - 1)
+  first-place p l n = omega (arith, n, ap (λ h. numberOf 0 h p) e ∙ number-whole 0 p)
 
--- at the place with the running number i - 1
-module _ {heads pending : ℕ} {pool row : List ℤ} {bucket : ℕ} (gone i : ℕ)
-    (s : Searching heads pending pool row bucket (i - gone)) (h : gone < i) where
-  turn : i - gone ≡ suc (i - 1 - gone)
-  turn = omega arith
+  pub first-low : i - 1 < pending
+  first-low =
+      omega (arith, w .most, some, ap (λ h. numberOf 0 h (length (places pending pool))) e ∙ number-whole 0 (length (places pending pool)), places-length pending pool)
 
-  running : gone + (i - 1 - gone) ≡ i - 1
-  running = omega arith
-
-  pub searching-below : i - 1 - gone < pending
-  searching-below = below s (i - 1 - gone) turn
-
-  pub searching-found : eqList eqZ (take 10 (drop (10 * (i - 1 - gone)) pool)) row ≡ true
-      → true ≡ any (λ w. eqList eqZ w row) (places pending pool)
-  searching-found t = found s (i - 1 - gone) turn t
-
-  module _ {index : List ℕ} (ix : Indexed gone (keys heads pending pool) index) where
-    pub searching-room : headsOf index + (i - 1) < length index
-    searching-room = omega (arith, ix .room, searching-below, keys-length heads pool pending)
-
-    pub searching-falls : getD index (headsOf index + (i - 1)) 0 - gone < i - gone
-    searching-falls =
-        let j = i - 1 - gone in
-        let e = ap (λ k. getD index (headsOf index + k) 0) running in
-        omega (arith, link-there s j turn ix, last-bound bucket (keys heads j pool), keys-length heads pool j)
-
-    pub searching-next : bucket ≡ bucketOf heads row → eqList eqZ (take 10 (drop (10 * (i - 1 - gone)) pool)) row ≡ false
-        → Searching heads pending pool row bucket (getD index (headsOf index + (i - 1)) 0 - gone)
-    searching-next b t =
-        subst (λ k. Searching heads pending pool row bucket (getD index (headsOf index + k) 0 - gone)) running
-        (next-there s (i - 1 - gone) turn ix b t)
+  pub first-is : {r : Bool} → r ≡ eqList eqZ (take 10 (drop (10 * (i - 1)) pool)) row → IsPlace pool pending (i - 1) row r
+  first-is q = record { found = λ t. (first-low, sym q ∙ t); other = λ f _. sym q ∙ f }

@@ -1,5 +1,5 @@
 -- The bucket of a place: a function of its numbers, of which nothing but that is used. Assumes nothing.
-use Prim.Native.Nat.{ℕ, _+_, _*_, _-_, _/_, _%_}
+use Prim.Native.Nat.{ℕ, _+_, _*_, _-_, _/_, _%_, _^_}
 use mathlib.Core.Bool.{cond}
 use mathlib.Core.List.{List}
 use lib.ListN.{getD}
@@ -27,3 +27,7 @@ hashOf l =
 -- one of n buckets, by the low half of the hash: numbers in a row fall far from each other there
 unfoldable pub bucketOf : ℕ → List ℤ → ℕ
 bucketOf n l = hashOf l % 4294967296 * n / 4294967296
+
+-- the way of a place down a tree: the bits of its numbers, from the first value on. Different numbers part at some bit
+unfoldable pub sideOf : List ℤ → ℕ → ℕ
+sideOf l d = raised (getD l ((d / 32 + 3) % 10) (pos 0)) / 2 ^ (d % 32) % 2

@@ -1,67 +1,123 @@
--- A hash index with chains, in one list of numbers. Each bucket has a head, and each place a link; both hold 1 + the number of the
--- last place of that bucket (for a link: the last one before it), and 0 or a number of a place that is gone where there is none.
--- Places have running numbers that are never given again: `gone` of them are gone, and the places at hand follow. Assumes nothing.
-use Prim.Native.Nat.{ℕ, zero, suc, _+_, _-_, _/_, _≤_, _<_}
+-- An index of places in one list of numbers: buckets by a hash, and a tree in each. A place has a number from 1 on; a head holds that of
+-- the first place of its bucket, and two links of each place those of places further down, 0 where there is none. A search goes down
+-- by the bits of a place's numbers, so that the ways of different numbers part after at most as many steps as these have bits. Numbers
+-- of places are never given again: the first `gone` places are gone, and one more can be taken out of the others; they stay as
+-- branches. The last number of the list is that of the place that was taken out, 0 where none was. Assumes nothing.
+use Prim.Native.Nat.{ℕ, zero, suc, _+_, _-_, _*_, _/_, _≤_, _<_}
 use mathlib.Core.Path.{_≡_}
+use mathlib.Core.Logic.{_⊎_}
 use mathlib.Core.Bool.{Bool, true, false, cond}
 use mathlib.Core.List.{List, [], _∷_, _++_, map}
-use lib.Dec.{eqb, leb}
-use lib.ListN.{length, getD, set, take, drop}
+use lib.Dec.{leb}
+use lib.ListN.{length, getD, take, drop}
 use lib.IntN.{ℤ}
+use Rattle.lists.specs.Lists.{any, eqZ, eqList}
 use Rattle.pool.specs.Updates.{Update}
 use Rattle.pool.specs.Places.{place, places}
-use Rattle.index.specs.Hash.{bucketOf}
+use Rattle.index.specs.Hash.{bucketOf, sideOf}
 
--- a third of the list are heads, the rest links
+-- a third of the list are heads
 unfoldable pub headsOf : List ℕ → ℕ
 headsOf index = length index / 3
 
--- 1 + the last place of b in a list, 0 where it has none
-unfoldable pub further : ℕ → Bool → ℕ
-further zero true = 1
-further zero false = 0
-further (suc n) b = suc (suc n)
+-- the number of the place that was taken out
+unfoldable pub holeOf : List ℕ → ℕ
+holeOf index = getD index (length index - 1) 0
 
-unfoldable pub lastOf : ℕ → List ℕ → ℕ
-lastOf b [] = 0
-lastOf b (k ∷ ks) = further (lastOf b ks) (eqb k b)
+-- a link of the place with a number
+unfoldable pub slotOf : ℕ → ℕ → ℕ → ℕ
+slotOf heads i side = heads + 2 * (i - 1) + side
 
--- the index of places with these buckets
-pub record Indexed (gone : ℕ) (ks index : List ℕ) : Type 0 where
-  pub heads : (b : ℕ) → b < headsOf index → getD index b 0 - gone ≡ lastOf b ks
-  pub links : (j : ℕ) → j < length ks → getD index (headsOf index + (gone + j)) 0 - gone ≡ lastOf (getD ks j 0) (take j ks)
-  pub room : headsOf index + (gone + length ks) ≤ length index
+-- the number of the place that a slot belongs to, 0 of a head
+unfoldable pub ownerOf : ℕ → ℕ → ℕ
+ownerOf heads s = (s + 2 - heads) / 2
 
--- the buckets of the first n places of a pool, and of updates
-unfoldable pub keys : ℕ → ℕ → List ℤ → List ℕ
-keys heads n pool = map (bucketOf heads) (places n pool)
+-- the way of these numbers, from a slot at a depth, comes to the place with number n
+pub data Leads (heads : ℕ) (index : List ℕ) (row : List ℤ) : ℕ → ℕ → ℕ → Type 0 where
+  here : {d s n : ℕ} → getD index s 0 ≡ suc n → Leads heads index row d s (suc n)
+  down : {d s i n : ℕ} → getD index s 0 ≡ suc i → Leads heads index row (suc d) (slotOf heads (suc i) (sideOf row d)) n
+      → Leads heads index row d s n
 
-unfoldable pub keysOf : ℕ → List Update → List ℕ
-keysOf heads us = map (λ u. bucketOf heads (place u)) us
+-- it ends at the free slot e
+pub data Ends (heads : ℕ) (index : List ℕ) (row : List ℤ) : ℕ → ℕ → ℕ → Type 0 where
+  free : {d s : ℕ} → getD index s 0 ≡ 0 → Ends heads index row d s s
+  past : {d s i e : ℕ} → getD index s 0 ≡ suc i → Ends heads index row (suc d) (slotOf heads (suc i) (sideOf row d)) e
+      → Ends heads index row d s e
 
--- an index with links for so many places
+-- how many numbers before that of place p belong to a place that was taken out
+unfoldable pub skipped : ℕ → ℕ → ℕ
+skipped zero p = 0
+skipped (suc h) p = cond (leb h p) 1 0
+
+-- the number of place p
+unfoldable pub numberOf : ℕ → ℕ → ℕ → ℕ
+numberOf gone hole p = gone + p + 1 + skipped hole p
+
+-- a link leads to a later place, and none to a number above the top
+pub record Ordered (heads top : ℕ) (index : List ℕ) : Type 0 where
+  pub slots : (s : ℕ) → suc s < length index → (getD index s 0 ≡ 0) ⊎ ((ownerOf heads s < getD index s 0) × (getD index s 0 ≤ top))
+  pub inside : heads + 2 * top < length index
+
+-- the index of these places
+pub record Indexed (gone : ℕ) (ks : List (List ℤ)) (index : List ℕ) : Type 0 where
+  pub leads : (p : ℕ) → p < length ks
+      → Leads (headsOf index) index (getD ks p []) 0 (bucketOf (headsOf index) (getD ks p [])) (numberOf gone (holeOf index) p)
+  pub ordered : Ordered (headsOf index) (numberOf gone (holeOf index) (length ks) - 1) index
+  pub hole : holeOf index ≤ length ks + 1
+
+-- an index with links for so many places, and for one that is taken out
 pub record Roomy (most : ℕ) (index : List ℕ) : Type 0 where
   pub some : 3 ≤ length index
-  pub few : length index ≤ 98304
-  pub links : headsOf index + most ≤ length index
+  pub few : length index ≤ 196610
+  pub links : headsOf index + 2 * (most + 1) < length index
 
--- a place with a running number and a bucket is entered
-abbrev pub noted : List ℕ → ℕ → ℕ → List ℕ
-noted index at b = set (set index (headsOf index + at) (getD index b 0)) b (at + 1)
+-- a place that was taken out keeps its number
+unfoldable pub lostOf : ℕ → ℕ
+lostOf zero = 0
+lostOf (suc h) = 1
 
--- place k is taken out, and later places move down: a number of a place becomes this, where `before` is what k's own link held
-unfoldable pub lowered : ℕ → ℕ → ℕ → ℕ
-lowered k before x = cond (leb x k) x (cond (eqb x (k + 1)) before (x - 1))
+-- what a search for a place takes
+pub record Seeking (gone pending : ℕ) (pool row : List ℤ) (index : List ℕ) : Type 0 where
+  pub long : length row ≡ 10
+  pub room : 10 * pending ≤ length pool
+  pub some : 0 < headsOf index
+  pub most : headsOf index ≤ 65536
+  pub indexed : Indexed gone (places pending pool) index
+  pub few : numberOf gone (holeOf index) pending ≤ 65536
 
-abbrev pub loweredHeads : List ℕ → ℕ → ℕ → List ℕ
-loweredHeads index k before = map (lowered k before) (take (headsOf index) index) ++ drop (headsOf index) index
+-- and what it comes to: the free slot where its way ends, or the length of the index where it is among the places
+pub record Finds (pending : ℕ) (pool row : List ℤ) (index : List ℕ) (r : ℕ) : Type 0 where
+  pub found : r ≡ length index → any (λ w. eqList eqZ w row) (places pending pool) ≡ true
+  pub none : (r ≡ length index → ⊥) → any (λ w. eqList eqZ w row) (places pending pool) ≡ false
+  pub ends : (r ≡ length index → ⊥) → Ends (headsOf index) index row 0 (bucketOf (headsOf index) row) r
 
-abbrev pub loweredLinks : List ℕ → ℕ → ℕ → ℕ → List ℕ
-loweredLinks index n k before =
-    take (headsOf index + k) index
-    ++ (map (lowered k before) (take (n - 1 - k) (drop (headsOf index + k + 1) index)) ++ drop (headsOf index + (n - 1)) index)
+-- what the entering of one more place at a slot takes, `at` being how many there were, gone ones too
+pub record Entering (at : ℕ) (row : List ℤ) (slot : ℕ) (index : List ℕ) : Type 0 where
+  pub gone : ℕ
+  pub ks : List (List ℤ)
+  pub count : gone + length ks ≡ at
+  pub indexed : Indexed gone ks index
+  pub ends : Ends (headsOf index) index row 0 (bucketOf (headsOf index) row) slot
+  pub some : 0 < headsOf index
+  pub room : headsOf index + 2 * (at + 2) < length index
+  pub few : at + 1 + lostOf (holeOf index) ≤ 65535
 
-abbrev pub forgotten : List ℕ → ℕ → ℕ → List ℕ
-forgotten index n k =
-    let before = getD index (headsOf index + k) 0 in
-    loweredLinks (loweredHeads index k before) n k before
+-- and what it leaves
+pub record Enters (at : ℕ) (row : List ℤ) (index₀ index : List ℕ) : Type 0 where
+  pub indexed : (gone : ℕ) (ks : List (List ℤ)) → gone + length ks ≡ at → Indexed gone ks index₀
+      → Indexed gone (ks ++ row ∷ []) index
+  pub long : length index ≡ length index₀
+  pub hole : holeOf index ≡ holeOf index₀
+
+-- of a number that is that of a place, the place
+abbrev pub PlaceOf : ℕ → ℕ → ℕ → ℕ → ℕ → Type 0
+PlaceOf number gone hole pending r = (p : ℕ) → p < pending → number ≡ numberOf gone hole p → r ≡ p
+
+-- whether a place is pending and has these numbers
+pub record IsPlace (pool : List ℤ) (pending p : ℕ) (row : List ℤ) (r : Bool) : Type 0 where
+  pub found : r ≡ true → (p < pending) × (eqList eqZ (take 10 (drop (10 * p) pool)) row ≡ true)
+  pub other : r ≡ false → p < pending → eqList eqZ (take 10 (drop (10 * p) pool)) row ≡ false
+
+-- the numbers of updates
+unfoldable pub rowsOf : List Update → List (List ℤ)
+rowsOf us = map place us

@@ -1,7 +1,5 @@
 -- Laws of the index.
-pub mod Last
-pub mod Lowered
-pub mod Indexed
-pub mod Keys
+pub mod Ways
 pub mod Front
+pub mod Indexed
 pub mod Entering

@@ -1,13 +1,11 @@
-// A hash index of the pending updates, so that an equal one is found without going through all of them. The definitions are in
-// specs/.
+// An index of the pending updates, so that an equal one is found without going through all of them: buckets by a hash, and a tree
+// in each. The definitions are in specs/.
 ghost use mathlib.Core.Path.{_≡_};
-ghost use Prim.Native.Nat.{_+_, _*_, _≤_, _<_};
-ghost use lib.ListN.{length, getD};
+ghost use Prim.Native.Nat.{suc, _+_, _-_, _*_, _≤_, _<_};
+ghost use lib.ListN.{length, getD, set};
 ghost use lib.IntN.{pos};
-ghost use Rattle.lists.specs.Lists.{any, eqZ, eqList};
-ghost use Rattle.pool.specs.Places.{places};
-ghost use Rattle.index.specs.Hash.{raised, factored, hashOf, bucketOf};
-ghost use Rattle.index.specs.Index.{headsOf, Indexed, keys, noted, lowered, loweredHeads, loweredLinks, forgotten};
+ghost use Rattle.index.specs.Hash.{raised, factored, hashOf, bucketOf, sideOf};
+ghost use Rattle.index.specs.Index.{holeOf, lostOf, Seeking, Finds, PlaceOf, IsPlace};
 
 // The number at an index, as one from 0 on.
 fn raise(place: &[i32], i: usize) -> u64
@@ -47,7 +45,7 @@ fn hash(place: &[i32]) -> u64
 }
 
 // The bucket of a place.
-pub fn bucket(place: &[i32], heads: usize) -> usize
+fn bucket(place: &[i32], heads: usize) -> usize
     requires { ⌜ (length (now place) ≡ 10) × (0 < heads) × (heads ≤ 65536) ⌝ }
     ensures { λ r. ⌜ (r ≡ bucketOf heads (now (place .entry))) × (r < heads) ⌝ }
 {
@@ -55,93 +53,121 @@ pub fn bucket(place: &[i32], heads: usize) -> usize
     (h * (heads as u64) / 4294967296) as usize
 }
 
-// Whether one of the places has these numbers: the chain of their bucket, from the last place on.
-pub fn find(
-    index: &[u16],
-    pool: &[i32],
-    gone: usize,
-    pending: usize,
-    row: &[i32],
-    bucket: usize,
-) -> bool
-    requires { ⌜ (length (now row) ≡ 10) × (10 * pending ≤ length (now pool)) × (bucket < headsOf (now index)) × (bucket ≡ bucketOf (headsOf (now index)) (now row)) × Indexed gone (keys (headsOf (now index)) pending (now pool)) (now index) ⌝ }
-    ensures { λ r. ⌜ r ≡ any (λ w. eqList eqZ w (now (row .entry))) (places pending (now (pool .entry))) ⌝ }
+// The side of a branch at a depth: a bit of a place's numbers. Mostly it is one of the first value.
+fn side(row: &[i32], d: usize) -> usize
+    requires { ⌜ length (now row) ≡ 10 ⌝ }
+    ensures { λ r. ⌜ (r ≡ sideOf (now (row .entry)) d) × (r < 2) ⌝ }
+{
+    if d < 32 {
+        let x = raise(row, 3);
+        return ((x >> d) % 2) as usize;
+    }
+    let y = raise(row, (d / 32 + 3) % 10);
+    ((y >> (d % 32)) % 2) as usize
+}
+
+// The place with a number; the pending number where it is gone or was taken out.
+fn place_of(number: usize, gone: usize, hole: usize, pending: usize) -> usize
+    ensures { λ r. ⌜ PlaceOf number gone hole pending r ⌝ }
+{
+    if number <= gone {
+        return pending;
+    }
+    let n = number - gone;
+    if n == hole {
+        return pending;
+    }
+    if hole == 0 {
+        return n - 1;
+    }
+    if n < hole {
+        return n - 1;
+    }
+    n - 2
+}
+
+// Whether a place is pending and has these numbers.
+fn is_place(pool: &[i32], pending: usize, p: usize, row: &[i32]) -> bool
+    requires { ⌜ (length (now row) ≡ 10) × (10 * pending ≤ length (now pool)) ⌝ }
+    ensures { λ r. ⌜ IsPlace (now (pool .entry)) pending p (now (row .entry)) r ⌝ }
+{
+    if p >= pending {
+        return false;
+    }
+    pool::same_at(pool, 10 * p, row)
+}
+
+// Where a place with these numbers is to be entered: the free slot at the end of their way down the tree of their bucket; the length of
+// the index where one of the places has them.
+pub fn find(index: &[u16], pool: &[i32], gone: usize, pending: usize, row: &[i32]) -> usize
+    requires { ⌜ Seeking gone pending (now pool) (now row) (now index) ⌝ }
+    ensures { λ r. ⌜ Finds pending (now (pool .entry)) (now (row .entry)) (now (index .entry)) r ⌝ }
 {
     let heads = index.len() / 3;
-    let mut i = index[bucket] as usize;
-    while i > gone {
-        if pool::same_at(pool, 10 * (i - 1 - gone), row) {
-            return true;
+    let hole = index[index.len() - 1] as usize;
+    let mut s = bucket(row, heads);
+    let mut i = index[s] as usize;
+    let mut d: usize = 0;
+    while i > 0 {
+        let p = place_of(i, gone, hole, pending);
+        if is_place(pool, pending, p, row) {
+            return index.len();
         }
-        i = index[heads + (i - 1)] as usize;
+        let b = side(row, d);
+        s = heads + 2 * (i - 1) + b;
+        i = index[s] as usize;
+        d += 1;
     }
-    false
+    s
 }
 
-// A place with a running number and a bucket is entered.
-pub fn note(index: &mut [u16], at: usize, bucket: usize)
-    requires { ⌜ (bucket < headsOf (now index)) × (headsOf (now index) + at < length (now index)) × (at < 65535) ⌝ }
-    ensures { λ _. ⌜ now (index .exit) ≡ noted (now (index .entry)) at bucket ⌝ }
+// The same where no place is gone or was taken out, so that a number is that of its place. A loop of its own, since the test for equal
+// pending updates goes through it for each of them.
+pub fn find_first(index: &[u16], pool: &[i32], pending: usize, row: &[i32]) -> usize
+    requires { ⌜ Seeking 0 pending (now pool) (now row) (now index) × (holeOf (now index) ≡ 0) ⌝ }
+    ensures { λ r. ⌜ Finds pending (now (pool .entry)) (now (row .entry)) (now (index .entry)) r ⌝ }
 {
     let heads = index.len() / 3;
-    let first = index[bucket];
-    index[heads + at] = first;
-    index[bucket] = (at + 1) as u16;
-}
-
-// What the number of a place becomes when place k is taken out. All are u16, so that the two loops below
-// compare 8 numbers in one vector instruction.
-fn lower(x: u16, k: u16, before: u16) -> u16
-    requires { ⌜ k < 65535 ⌝ }
-    ensures { λ r. ⌜ r ≡ lowered k before x ⌝ }
-{
-    if x <= k {
-        x
-    } else if x == k + 1 {
-        before
-    } else {
-        x - 1
+    let mut s = bucket(row, heads);
+    let mut i = index[s] as usize;
+    let mut d: usize = 0;
+    while i > 0 {
+        if pool::same_at(pool, 10 * (i - 1), row) {
+            return index.len();
+        }
+        let b = side(row, d);
+        s = heads + 2 * (i - 1) + b;
+        i = index[s] as usize;
+        d += 1;
     }
+    s
 }
 
-fn lower_heads(index: &mut [u16], k: usize, before: u16)
-    requires { ⌜ k < 65535 ⌝ }
-    ensures { λ _. ⌜ now (index .exit) ≡ loweredHeads (now (index .entry)) k before ⌝ }
+// The number of one more place.
+fn next_number(at: usize, hole: u16) -> usize
+    requires { ⌜ at + 1 + lostOf hole ≤ 65535 ⌝ }
+    ensures { λ r. ⌜ r ≡ at + 1 + lostOf hole ⌝ }
 {
-    let heads = index.len() / 3;
-    let low = k as u16;
-    let mut b: usize = 0;
-    while b < heads {
-        let x = index[b];
-        let y = lower(x, low, before);
-        index[b] = y;
-        b += 1;
+    if hole == 0 {
+        return at + 1;
     }
+    at + 2
 }
 
-fn lower_links(index: &mut [u16], pending: usize, k: usize, before: u16)
-    requires { ⌜ (k < pending) × (pending ≤ 65535) × (headsOf (now index) + pending ≤ length (now index)) ⌝ }
-    ensures { λ _. ⌜ now (index .exit) ≡ loweredLinks (now (index .entry)) pending k before ⌝ }
+// One more place is entered at a free slot; `at` is how many there were, gone ones too.
+pub fn note(index: &mut [u16], at: usize, slot: usize)
+    requires { ⌜ (at + 1 + lostOf (holeOf (now index)) ≤ 65535) × (slot < length (now index)) ⌝ }
+    ensures { λ _. ⌜ now (index .exit) ≡ set (now (index .entry)) slot (at + 1 + lostOf (holeOf (now (index .entry)))) ⌝ }
 {
-    let at = index.len() / 3 + k;
-    let count = pending - 1 - k;
-    let low = k as u16;
-    let mut i: usize = 0;
-    while i < count {
-        let x = index[at + i + 1];
-        let y = lower(x, low, before);
-        index[at + i] = y;
-        i += 1;
-    }
+    let number = next_number(at, index[index.len() - 1]);
+    index[slot] = number as u16;
 }
 
-// Place k is taken out, and later places move down.
-pub fn forget(index: &mut [u16], pending: usize, k: usize)
-    requires { ⌜ (k < pending) × (pending ≤ 65535) × (headsOf (now index) + pending ≤ length (now index)) ⌝ }
-    ensures { λ _. ⌜ now (index .exit) ≡ forgotten (now (index .entry)) pending k ⌝ }
+// Place k is taken out: its number stays as a branch.
+pub fn forget(index: &mut [u16], k: usize)
+    requires { ⌜ (k < 65535) × (0 < length (now index)) ⌝ }
+    ensures { λ _. ⌜ now (index .exit) ≡ set (now (index .entry)) (length (now (index .entry)) - 1) (suc k) ⌝ }
 {
-    let heads = index.len() / 3;
-    let before = index[heads + k];
-    lower_heads(index, k, before);
-    lower_links(index, pending, k, before);
+    let last = index.len() - 1;
+    index[last] = (k + 1) as u16;
 }

@@ -1,5 +1,6 @@
 // Input, commit and settle on memory that is lent: the tables that a call works on, the tests, and what is asked for.
 ghost use mathlib.Core.Path.{_≡_};
+ghost use Prim.Native.Nat.{_≤_};
 ghost use lib.ListN.{length};
 ghost use Rattle.calls.specs.Answers.{memoryAt, replyAt};
 ghost use Rattle.calls.specs.Requests.{requested, outcomeTo};
@@ -60,30 +61,65 @@ fn call_on(
     }
 }
 
-// The call with an index that is long enough for the pool.
-fn call_with(
+// The call with an index for a pool of up to 2,048 places.
+fn call_short(
     deck: &[u8],
     pool: &mut [i32],
     values: &mut [i32; Deck::VALUES],
     pending: &mut u32,
     request: Request,
     pairs: &[i32],
-    index: &mut [u16],
+    rules: &mut [u64],
+    memo: &mut [u32],
 ) -> Response
-    requires { ⌜ Usable (length (now pool)) (now index) ⌝ }
+    requires { ⌜ (length (now pool) ≤ 20480) × ZeroRules (now deck) (now rules) × ZeroMemo (now deck) (now memo) ⌝ }
     ensures { λ r. ⌜ replyAt (outcomeTo request r) (now (values .exit)) (now (pending .exit)) (now (pool .exit)) ≡ requested (now (deck .entry)) (memoryAt (now (values .entry)) (now (pending .entry)) (now (pool .entry))) request (now (pairs .entry)) ⌝ }
 {
-    if reading::few_rules(deck) {
-        let mut short = [0u64; passing::SHORT_RULES];
-        let mut small = [0u32; passing::SHORT_MEMO];
-        return call_on(deck, pool, values, pending, request, pairs, index, &mut short, &mut small);
+    if pool.len() <= call_tests::TINY_POOL {
+        let mut tiny = [0u16; call_tests::TINY_INDEX];
+        return call_on(deck, pool, values, pending, request, pairs, &mut tiny, rules, memo);
     }
-    let mut rules = [0u64; passing::RULES];
-    let mut memo = [0u32; passing::MEMO];
-    call_on(deck, pool, values, pending, request, pairs, index, &mut rules, &mut memo)
+    if pool.len() <= call_tests::SMALL_POOL {
+        let mut small = [0u16; call_tests::SMALL_INDEX];
+        return call_on(deck, pool, values, pending, request, pairs, &mut small, rules, memo);
+    }
+    if pool.len() <= call_tests::SHORT_POOL {
+        let mut short = [0u16; call_tests::SHORT_INDEX];
+        return call_on(deck, pool, values, pending, request, pairs, &mut short, rules, memo);
+    }
+    let mut medium = [0u16; call_tests::MEDIUM_INDEX];
+    call_on(deck, pool, values, pending, request, pairs, &mut medium, rules, memo)
 }
 
-// The call on memory that is lent: values and pending number change only when it is accepted.
+// The call with an index for any pool. It is a function of its own, so that a call on a short pool does not take the stack of a long
+// one: to take it costs more than the rest of a small call.
+fn call_long(
+    deck: &[u8],
+    pool: &mut [i32],
+    values: &mut [i32; Deck::VALUES],
+    pending: &mut u32,
+    request: Request,
+    pairs: &[i32],
+    rules: &mut [u64],
+    memo: &mut [u32],
+) -> Response
+    requires { ⌜ ZeroRules (now deck) (now rules) × ZeroMemo (now deck) (now memo) ⌝ }
+    ensures { λ r. ⌜ replyAt (outcomeTo request r) (now (values .exit)) (now (pending .exit)) (now (pool .exit)) ≡ requested (now (deck .entry)) (memoryAt (now (values .entry)) (now (pending .entry)) (now (pool .entry))) request (now (pairs .entry)) ⌝ }
+{
+    if pool.len() <= call_tests::LONG_POOL {
+        let mut long = [0u16; call_tests::LONG_INDEX];
+        return call_on(deck, pool, values, pending, request, pairs, &mut long, rules, memo);
+    }
+    if pool.len() <= call_tests::LONGER_POOL {
+        let mut longer = [0u16; call_tests::LONGER_INDEX];
+        return call_on(deck, pool, values, pending, request, pairs, &mut longer, rules, memo);
+    }
+    let mut index = [0u16; call_tests::INDEX];
+    call_on(deck, pool, values, pending, request, pairs, &mut index, rules, memo)
+}
+
+// The call on memory that is lent: values and pending number change only when it is accepted. The tables are as long as the deck
+// needs them.
 pub fn call_lent(
     deck: &[u8],
     pool: &mut [i32],
@@ -94,22 +130,18 @@ pub fn call_lent(
 ) -> Response
     ensures { λ r. ⌜ replyAt (outcomeTo request r) (now (values .exit)) (now (pending .exit)) (now (pool .exit)) ≡ requested (now (deck .entry)) (memoryAt (now (values .entry)) (now (pending .entry)) (now (pool .entry))) request (now (pairs .entry)) ⌝ }
 {
-    if pool.len() <= call_tests::TINY_POOL {
-        let mut tiny = [0u16; call_tests::TINY_INDEX];
-        return call_with(deck, pool, values, pending, request, pairs, &mut tiny);
+    if reading::few_rules(deck) {
+        let mut few = [0u64; passing::SHORT_RULES];
+        let mut small = [0u32; passing::SHORT_MEMO];
+        if pool.len() <= call_tests::MEDIUM_POOL {
+            return call_short(deck, pool, values, pending, request, pairs, &mut few, &mut small);
+        }
+        return call_long(deck, pool, values, pending, request, pairs, &mut few, &mut small);
     }
-    if pool.len() <= call_tests::SMALL_POOL {
-        let mut small = [0u16; call_tests::SMALL_INDEX];
-        return call_with(deck, pool, values, pending, request, pairs, &mut small);
+    let mut rules = [0u64; passing::RULES];
+    let mut memo = [0u32; passing::MEMO];
+    if pool.len() <= call_tests::MEDIUM_POOL {
+        return call_short(deck, pool, values, pending, request, pairs, &mut rules, &mut memo);
     }
-    if pool.len() <= call_tests::SHORT_POOL {
-        let mut short = [0u16; call_tests::SHORT_INDEX];
-        return call_with(deck, pool, values, pending, request, pairs, &mut short);
-    }
-    if pool.len() <= call_tests::MIDDLE_POOL {
-        let mut middle = [0u16; call_tests::MIDDLE_INDEX];
-        return call_with(deck, pool, values, pending, request, pairs, &mut middle);
-    }
-    let mut index = [0u16; call_tests::INDEX];
-    call_with(deck, pool, values, pending, request, pairs, &mut index)
+    call_long(deck, pool, values, pending, request, pairs, &mut rules, &mut memo)
 }

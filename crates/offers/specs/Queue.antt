@@ -15,7 +15,7 @@ use Rattle.deck.specs.Laws.Points.{ReadsAt}
 use Rattle.charge.specs.Memo.{Memo, Ready}
 use Rattle.pool.specs.Updates.{Update, charge}
 use Rattle.pool.specs.Moves.{Laid}
-use Rattle.index.specs.Index.{headsOf, Indexed, keysOf, Roomy}
+use Rattle.index.specs.Index.{holeOf, lostOf, Indexed, rowsOf, Roomy}
 use Rattle.passing.specs.Judged.{shape}
 use Rattle.firing.specs.Firing.{enqueue}
 use Rattle.firing.specs.Evaluated.{updateBy}
@@ -33,17 +33,18 @@ heldOf gone index pool = record { gone = gone; index = index; pool = pool }
 -- these updates, zeros behind them, and their index
 pub record Kept (h : Held) (us : List Update) : Type 0 where
   pub laid : Laid (h .pool) us
-  pub indexed : Indexed (h .gone) (keysOf (headsOf (h .index)) us) (h .index)
+  pub indexed : Indexed (h .gone) (rowsOf us) (h .index)
 
--- room for C updates
+-- room for C updates, and for the number of one that was taken out
 pub record Room (C : ℕ) (h : Held) : Type 0 where
-  pub bounded : h .gone + C ≤ 65535
+  pub bounded : h .gone + C + lostOf (holeOf (h .index)) ≤ 65535
   pub places : 10 * C ≤ length (h .pool)
   pub index : Roomy (h .gone + C) (h .index)
 
 pub record SameSize (h₀ h : Held) : Type 0 where
   pub gone : h .gone ≡ h₀ .gone
   pub index : length (h .index) ≡ length (h₀ .index)
+  pub hole : holeOf (h .index) ≡ holeOf (h₀ .index)
   pub pool : length (h .pool) ≡ length (h₀ .pool)
 
 -- `us` were pending at first, and `new` have been offered since. What is written behind `us` is `extra`: all that "written

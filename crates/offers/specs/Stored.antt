@@ -13,6 +13,7 @@ use Rattle.pool.specs.Updates.{charge}
 use Rattle.pool.specs.States.{Machine}
 use Rattle.pool.specs.Laws.Good.{Fine}
 use Rattle.passing.specs.Tabled.{deckOf, Tabled}
+use Rattle.index.specs.Index.{holeOf}
 use Rattle.offers.specs.Queue.{Held, Kept, Room}
 
 -- the numbers stand for the values and pending updates x, a good state with C places
@@ -29,5 +30,6 @@ pub record Committing (s : List ℕ) (k : Counted.Deck) (rules parts memo : List
   pub ready : Ready rules parts (k .channels) (k .rules) (k .parts) memo
   pub acyclic : Acyclic (deckOf s)
   pub room : Room C held
+  pub whole : holeOf (held .index) ≡ 0
   pub machine : Machine
   pub stored : Stored (deckOf s) C machine values pending total held

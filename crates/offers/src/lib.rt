@@ -47,8 +47,8 @@ fn add(
     if queue.full {
         return queue;
     }
-    let b = index::bucket(row, index.len() / 3);
-    if index::find(index, pool, gone, queue.pending, row, b) {
+    let slot = index::find(index, pool, gone, queue.pending, row);
+    if slot == index.len() {
         return queue;
     }
     let c = states::place_charge(rules, parts, memo, counts.channels, counts.rules, counts.parts, row);
@@ -57,7 +57,7 @@ fn add(
         return passed(queue);
     }
     pool::push(pool, queue.pending, row);
-    index::note(index, gone + queue.pending, b);
+    index::note(index, gone + queue.pending, slot);
     Queue {
         pending: queue.pending + 1,
         charge: total,
@@ -90,4 +90,30 @@ pub fn offer(
     }
     let row = updates::evaluate(deck, at, part, own, far);
     add(counts, rules, parts, memo, index, pool, gone, capacity, queue, &row)
+}
+
+// The same for a default action. Most of them are empty, and then there is no call.
+pub fn offer_default(
+    deck: &[u8],
+    counts: Deck,
+    rules: &[u64],
+    parts: &[u64],
+    memo: &mut [u32],
+    index: &mut [u16],
+    pool: &mut [i32],
+    gone: usize,
+    capacity: u32,
+    queue: Queue,
+    at: usize,
+    part: usize,
+    own: &[i32],
+    far: &[i32],
+) -> Queue
+    requires { ⌜ Offering (now rules) (now parts) counts capacity (now memo) (heldOf gone (now index) (now pool)) queue × Sound (now deck) at (length (now own)) (length (now far)) (counts .channels) × (part < counts .parts) ⌝ }
+    ensures { λ r. ⌜ Offers (now (deck .entry)) at (now (own .entry)) (now (far .entry)) part (shape (now (rules .entry)) (now (parts .entry)) counts) capacity (heldOf gone (now (index .entry)) (now (pool .entry))) queue (now (memo .exit)) (heldOf gone (now (index .exit)) (now (pool .exit))) r ⌝ }
+{
+    if deck[at] == 0 {
+        return queue;
+    }
+    offer(deck, counts, rules, parts, memo, index, pool, gone, capacity, queue, at, part, own, far)
 }

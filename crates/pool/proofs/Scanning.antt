@@ -1,19 +1,23 @@
 -- Scans of numbers and of places: the answer for the rest is the answer for the whole. Assumes nothing.
-use Prim.Native.Nat.{ℕ, _+_, _^_, _≤_, _<_}
+use Prim.Native.Nat.{ℕ, zero, suc, _+_, _-_, _*_, _^_, _≤_, _<_}
 use mathlib.Core.Path.{_≡_, refl, sym, ap, _∙_}
 use mathlib.Core.Bool.{Bool, true, false, _&&_, and-true, and-false}
-use mathlib.Core.List.{List}
+use mathlib.Core.Logic.{⊎-elim}
+use mathlib.Core.List.{List, [], _∷_}
 use native.Mathlib.Numerals.{add-one}
 use native.Mathlib.Omega.{arith}
+use lib.Bits.{bitOr, or-zero-l, or-zero-r, or-add-and, and-le-l}
+use lib.Dec.{eqb}
 use lib.ListN.{length, take, drop, getD, length-take, length-drop, drop-of-length-le}
-use lib.Seq.{drop-cons, getD-drop, getD-take}
+use lib.Seq.{drop-cons, drop-drop, getD-drop, getD-take}
 use lib.IntN.{ℤ, pos}
 use lib.Signed.{mag}
 use mir.Syntax.{w32}
 use mir.Val.{ofZ, toZ}
 use mir.ValLaws.{toZ-ofZ}
+use borrow.Author.Tests.{eqb-true, eqb-false, ne-eqb}
 use Rattle.lists.specs.Lists.{lists, all, eqZ, eqList}
-use Rattle.lists.specs.Laws.Booleans.{not-true→false}
+use Rattle.lists.specs.Laws.Booleans.{not-true→false, true-or-false}
 use Rattle.lists.specs.Laws.Equalities.{eqZ-true, eqZ-refl}
 use Rattle.pool.specs.Places.{isZero}
 
@@ -38,6 +42,67 @@ module _ (l : List ℤ) (i : ℕ) (clear : Bool) (h : i < length l) where
 pub zero-end : (l : List ℤ) (i : ℕ) (clear : Bool) → length l ≤ i → clear ≡ (clear && all isZero (drop i l))
 unfolding all
 zero-end l i clear h = rw (drop-of-length-le l h, and-true) refl
+
+-- ---- zeros, by the bits of all numbers together
+
+some : (a b : ℕ) → (b ≡ 0 → ⊥) → eqb (bitOr a b) 0 ≡ false
+some a b n = ne-eqb (bitOr a b) 0 (λ (e : bitOr a b ≡ 0). n (omega (arith, e, or-add-and a b, and-le-l a b)))
+
+none : (a b : ℕ) → b ≡ 0 → eqb (bitOr a b) 0 ≡ eqb a 0
+none a b e = ap (λ x. eqb x 0) (ap (bitOr a) e ∙ or-zero-r a)
+
+-- of two numbers no bit is set
+pub or-none : (a b : ℕ) → eqb (bitOr a b) 0 ≡ (eqb a 0 && eqb b 0)
+or-none a b =
+    ⊎-elim
+    (λ w. none a b (eqb-true b 0 w) ∙ sym (and-true (eqb a 0)) ∙ ap (λ x. eqb a 0 && x) (sym w))
+    (λ w. some a b (eqb-false b 0 w) ∙ sym (and-false (eqb a 0)) ∙ ap (λ x. eqb a 0 && x) (sym w))
+    (true-or-false (eqb b 0))
+
+-- the bits of one number more
+pub zero-turn : (l : List ℤ) (i bits : ℕ) → i < length l → mag (getD l i (pos 0)) < 2 ^ 31
+    → (eqb (bitOr bits (ofZ w32 (getD l i (pos 0)))) 0 && all isZero (drop (i + 1) l)) ≡ (eqb bits 0 && all isZero (drop i l))
+zero-turn l i bits h fits =
+    let x = ofZ w32 (getD l i (pos 0)) in
+    let same = bits-same (getD l i (pos 0)) (pos 0) fits (omega arith) in
+    ⊎-elim
+    (λ w. let e = eqb-true x 0 w in ap (λ b. b && all isZero (drop (i + 1) l)) (none bits x e) ∙ zero-next l i (eqb bits 0) h (same e))
+    (λ w. let e = eqb-false x 0 w in ap (λ b. b && all isZero (drop (i + 1) l)) (some bits x e)
+    ∙ zero-not l i (eqb bits 0) h (λ q. e (ap (ofZ w32) q)))
+    (true-or-false (eqb x 0))
+
+-- cut at an index
+zero-cut : (n : ℕ) (l : List ℤ) → (all isZero (take n l) && all isZero (drop n l)) ≡ all isZero l
+unfolding all
+zero-cut zero l = refl
+zero-cut (suc n) [] = refl
+zero-cut (suc n) (x ∷ l) = behind (isZero x) (all isZero (take n l)) (all isZero (drop n l)) (zero-cut n l)
+  where
+    behind : (b p q : Bool) {r : Bool} → (p && q) ≡ r → ((b && p) && q) ≡ (b && r)
+    behind true p q e = e
+    behind false p q e = refl
+
+-- two halves, behind which only zeros stand
+pub zero-halves : (l : List ℤ) (half : ℕ) → all isZero (drop (2 * half) l) ≡ true
+    → (all isZero (take half l) && all isZero (take (2 * half - half) (drop half l))) ≡ all isZero l
+zero-halves l half h =
+    let n : 2 * half - half ≡ half = omega arith in
+    let m : half + half ≡ 2 * half = omega arith in
+    let rest = ap (all isZero) (drop-drop half half l ∙ ap (λ k. drop k l) m) ∙ h in
+    let second = sym (and-true (all isZero (take half (drop half l)))) ∙ ap (λ b. all isZero (take half (drop half l)) && b) (sym rest) ∙ zero-cut half (drop half l) in
+    ap (λ k. all isZero (take half l) && all isZero (take k (drop half l))) n ∙ ap (λ b. all isZero (take half l) && b) second ∙ zero-cut half l
+
+-- another number stands behind them
+pub zero-behind : (l : List ℤ) (n : ℕ) → all isZero (drop n l) ≡ false → false ≡ all isZero l
+zero-behind l n h = sym (and-false (all isZero (take n l))) ∙ ap (λ b. all isZero (take n l) && b) (sym h) ∙ zero-cut n l
+
+-- the last number
+pub zero-last : (l : List ℤ) (i : ℕ) → i < length l → length l ≤ i + 1 → mag (getD l i (pos 0)) < 2 ^ 31
+    → eqb (ofZ w32 (getD l i (pos 0))) 0 ≡ all isZero (drop i l)
+zero-last l i h m fits =
+    zero-end l (i + 1) (eqb (ofZ w32 (getD l i (pos 0))) 0) m
+    ∙ ap (λ x. eqb x 0 && all isZero (drop (i + 1) l)) (sym (or-zero-l (ofZ w32 (getD l i (pos 0)))))
+    ∙ zero-turn l i 0 h fits
 
 -- ---- equal numbers
 

@@ -1,5 +1,6 @@
 // The state that a host holds, and the places of the pool that it lends. The definitions are in specs/.
 ghost use mathlib.Core.Path.{_≡_};
+ghost use mathlib.Core.Bool.{_&&_};
 ghost use mathlib.Core.List.{_++_};
 ghost use Prim.Native.Nat.{_+_, _*_, _≤_, _<_};
 ghost use lib.ListN.{length, take, drop};
@@ -104,19 +105,47 @@ pub fn clear(tail: &mut [i32])
     }
 }
 
-// Whether the pool's tail is zeros. The loop has no exit and no test, so that it is compiled to few vector instructions.
+// Whether two lists of one length are zeros. The loop has no exit and no test, so that it is compiled to few vector instructions, and with
+// two lists to enough of them in each turn.
+fn both_zero(a: &[i32], b: &[i32]) -> bool
+    requires { ⌜ length (now a) ≡ length (now b) ⌝ }
+    ensures { λ r. ⌜ r ≡ (all isZero (now (a .entry)) && all isZero (now (b .entry))) ⌝ }
+{
+    let n = a.len();
+    let mut first: i32 = 0;
+    let mut second: i32 = 0;
+    let mut i: usize = 0;
+    while i < n {
+        let x = a[i];
+        let y = b[i];
+        first = first | x;
+        second = second | y;
+        i += 1;
+    }
+    first | second == 0
+}
+
+// Whether the number at an index is 0, or the list ends there.
+fn last_zero(tail: &[i32], end: usize) -> bool
+    requires { ⌜ length (now tail) ≤ end + 1 ⌝ }
+    ensures { λ r. ⌜ r ≡ all isZero (drop end (now (tail .entry))) ⌝ }
+{
+    if end < tail.len() {
+        return tail[end] == 0;
+    }
+    true
+}
+
+// Whether the pool's tail is zeros: its two halves, and the number that they may leave.
 pub fn all_zero(tail: &[i32]) -> bool
     ensures { λ r. ⌜ r ≡ all isZero (now (tail .entry)) ⌝ }
 {
-    let n = tail.len();
-    let mut all: i32 = 0;
-    let mut i: usize = 0;
-    while i < n {
-        let x = tail[i];
-        all = all | x;
-        i += 1;
+    let half = tail.len() / 2;
+    let end = 2 * half;
+    if !last_zero(tail, end) {
+        return false;
     }
-    all == 0
+    both_zero(&tail[..half], &tail[half..end])
 }
 
 // So many numbers from an index on move to the front, and zeros stand behind them.

@@ -37,7 +37,7 @@ fn fire_here(
     let own = &values[from..to];
     let far = &values[0..0];
     let default = rules[8 * r + 4] as usize;
-    let first = offers::offer(deck, counts, rules, parts, memo, index, pool, gone, capacity, queue, default, p, own, far);
+    let first = offers::offer_default(deck, counts, rules, parts, memo, index, pool, gone, capacity, queue, default, p, own, far);
     if rules[8 * r + 3] == 1 {
         return first;
     }

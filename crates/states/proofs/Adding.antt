@@ -1,7 +1,7 @@
 -- What the loop over the pending updates keeps that tests their places, adds up their charges, and enters them into an index.
 -- Assumes nothing.
 use Prim.Native.Nat.{ℕ, _+_, _*_, _-_, _<_, _≤_}
-use mathlib.Core.Path.{_≡_, refl, sym, ap, _∙_}
+use mathlib.Core.Path.{_≡_, refl, sym, ap, subst, _∙_}
 use mathlib.Core.Bool.{Bool, true, false, not, _&&_, cond, and-false}
 use mathlib.Core.List.{List, [], _∷_}
 use native.Mathlib.Omega.{arith}
@@ -18,11 +18,10 @@ use Rattle.pool.specs.Updates.{Update, channels, allDifferent, charge}
 use Rattle.pool.specs.Places.{updateOf, wellWritten, places, updatesOf}
 use Rattle.pool.specs.States.{known}
 use Rattle.index.specs.Hash.{bucketOf}
-use Rattle.index.specs.Index.{headsOf, Indexed, Roomy, keys, noted}
-use Rattle.index.specs.Laws.Entering.{entered-none, entered-next}
+use Rattle.index.specs.Index.{headsOf, holeOf, numberOf, Ends, Indexed, Roomy, Entering, Enters}
+use Rattle.index.specs.Laws.Entering.{entered-none, entered-next, roomy-heads}
 use Rattle.index.specs.Laws.Front.{places-length, places-at, places-end}
-use Rattle.index.specs.Laws.Indexed.{noted-length}
-use Rattle.index.specs.Laws.Lowered.{heads-same}
+use Rattle.index.specs.Laws.Indexed.{number-whole, lost-none, heads-same, zero-hole}
 use Rattle.states.specs.Answer.{Holds, PlaceGives, allFit, weightOf, Weighs}
 use Rattle.states.specs.declared.Goodness.the-variants.{Good, Bad}
 use Rattle.states.specs.Laws.Indexing.{index-none}
@@ -88,7 +87,8 @@ pub record Adding (d : Deck) (n : ℕ) (pool : List ℤ) (index₀ m index : Lis
   pub different : allDifferent (updatesOf k pool) ≡ true
   pub same : total ≡ capped (charge d (updatesOf k pool))
   pub long : length index ≡ length index₀
-  pub indexed : Indexed 0 (keys (headsOf index) k pool) index
+  pub indexed : Indexed 0 (places k pool) index
+  pub whole : holeOf index ≡ 0
 
 module _ (d : Deck) (n : ℕ) (pool : List ℤ) where
   answer : (b : Bool) → (allFit d n pool && allDifferent (updatesOf n pool)) ≡ b
@@ -107,6 +107,7 @@ module _ (d : Deck) (n : ℕ) (pool : List ℤ) where
         same = omega arith;
         long = refl;
         indexed = entered-none pool r z;
+        whole = zero-hole _ z;
       }
 
   pub adding-heads : {index₀ m index : List ℕ} {total k : ℕ} → Adding d n pool index₀ m index total k → headsOf index ≡ headsOf index₀
@@ -120,7 +121,7 @@ module _ (d : Deck) (n : ℕ) (pool : List ℤ) where
       record {
         answer = ap Good (a .same ∙ ap (λ j. capped (charge d (updatesOf j pool))) e) ∙ answer true both;
         memo = a .memo;
-        indexes = record { indexed = λ _. rw e at (a .indexed); long = a .long };
+        indexes = record { indexed = λ _. rw e at (a .indexed); whole = λ _. a .whole; long = a .long };
       }
 
   module _ {index₀ m index : List ℕ} {total k : ℕ} (a : Adding d n pool index₀ m index total k) (h : k < n) where
@@ -130,8 +131,24 @@ module _ (d : Deck) (n : ℕ) (pool : List ℤ) where
     abbrev found : Bool
     found = any (λ w. eqList eqZ w l) (places k pool)
 
-    pub adding-room : Roomy n index₀ → headsOf index + k < length index
-    adding-room r = omega (arith, adding-heads a, a .long, r .links)
+    -- the numbers of the places before it
+    pub adding-number : n ≤ 65535 → numberOf 0 (holeOf index) k ≤ 65536
+    adding-number few = omega (arith, ap (λ x. numberOf 0 x k) (a .whole) ∙ number-whole 0 k)
+
+    -- it can be entered where its way ends
+    pub adding-entering : {slot : ℕ} → n ≤ 65535 → Roomy n index₀ → Ends (headsOf index) index l 0 (bucketOf (headsOf index) l) slot
+        → Entering k l slot index
+    adding-entering few r w =
+        record {
+          gone = 0;
+          ks = places k pool;
+          count = omega (arith, places-length k pool);
+          indexed = a .indexed;
+          ends = w;
+          some = omega (arith, adding-heads a, roomy-heads r .0);
+          room = omega (arith, adding-heads a, a .long, r .links);
+          few = omega (arith, lost-none (holeOf index) (a .whole));
+        }
 
     -- a place that does not fit
     pub adding-unfit : fits d pool k l ≡ false → Weighs d n pool m index₀ index Bad
@@ -146,20 +163,19 @@ module _ (d : Deck) (n : ℕ) (pool : List ℤ) where
     pub adding-place : 10 * n ≤ length pool → fits d pool k l ≡ true → Holds d l
     adding-place room e = fit-holds d l (lent-length n k pool h room) e
 
-    module _ {m′ : List ℕ} {c : ℕ} {r : Bool} (f : fits d pool k l ≡ true) (g : PlaceGives d l m′ c) (s : r ≡ found) where
+    module _ {m′ : List ℕ} {c : ℕ} (f : fits d pool k l ≡ true) (g : PlaceGives d l m′ c) where
       fit-here : fits d pool k (here pool k) ≡ true
       fit-here = ap (fits d pool k) (sym (lent-same k pool)) ∙ f
 
-      different : allDifferent (updatesOf (k + 1) pool) ≡ (allDifferent (updatesOf k pool) && not r)
+      different : allDifferent (updatesOf (k + 1) pool) ≡ (allDifferent (updatesOf k pool) && not found)
       unfolding allFit
       different =
           different-next pool k (and-left (all wellWritten (places k pool)) (all (known d) (updatesOf k pool)) (a .fit))
           (and-left (wellWritten (here pool k)) (known d (updateOf (here pool k))) fit-here)
           ∙ ap (λ x. allDifferent (updatesOf k pool) && not (any (λ w. eqList eqZ w x) (places k pool))) (sym (lent-same k pool))
-          ∙ ap (λ x. allDifferent (updatesOf k pool) && not x) (sym s)
 
       -- a place with the numbers of an earlier one
-      pub adding-twice : r ≡ true → Weighs d n pool m′ index₀ index Bad
+      pub adding-twice : found ≡ true → Weighs d n pool m′ index₀ index Bad
       adding-twice b =
           let twice = different ∙ ap (λ x. allDifferent (updatesOf k pool) && not x) b ∙ and-false (allDifferent (updatesOf k pool)) in
           record {
@@ -168,9 +184,9 @@ module _ (d : Deck) (n : ℕ) (pool : List ℤ) where
             indexes = index-none (a .long);
           }
 
-      pub adding-more : {t b : ℕ} → t ≡ capped (total + c) → r ≡ false → b < headsOf index → Roomy n index₀
-          → b ≡ bucketOf (headsOf index) l → Adding d n pool index₀ m′ (noted index k b) t (k + 1)
-      adding-more {t} {b} e none low roomy key =
+      pub adding-more : {t : ℕ} {index′ : List ℕ} → t ≡ capped (total + c) → found ≡ false → Enters k l index index′
+          → Adding d n pool index₀ m′ index′ t (k + 1)
+      adding-more {t} {index′} e none w =
           let value = g .value ∙ ap (λ x. capped (updateCharge d (updateOf x .part) (channels (updateOf x)))) (lent-same k pool) in
           record {
             reached = omega arith;
@@ -178,6 +194,7 @@ module _ (d : Deck) (n : ℕ) (pool : List ℤ) where
             fit = fit-more d pool k (a .fit) fit-here;
             different = different ∙ and-both (a .different) (ap not none);
             same = omega (arith, e, value, a .same, charge-more d pool k);
-            long = noted-length index k b ∙ a .long;
-            indexed = entered-next pool k (a .indexed) b low (adding-room roomy) (key ∙ ap (bucketOf (headsOf index)) (lent-same k pool));
+            long = w .long ∙ a .long;
+            indexed = entered-next pool k (a .indexed) (subst (λ x. Enters k x index index′) (lent-same k pool) w);
+            whole = w .hole ∙ a .whole;
           }

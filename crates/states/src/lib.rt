@@ -208,7 +208,6 @@ fn weigh(
     requires { ⌜ Ready (now rules) (now parts) channels count «parts_count» (now memo) × (channels ≤ 32) × (10 * pending ≤ length (now pool)) × (pending ≤ 65535) × Roomy pending (now index) × (now index ≡ replicate (length (now index)) 0) ⌝ }
     ensures { λ r. ⌜ Weighs (shapeOf (now (rules .entry)) (now (parts .entry)) channels count «parts_count») pending (now (pool .entry)) (now (memo .exit)) (now (index .entry)) (now (index .exit)) r ⌝ }
 {
-    let heads = index.len() / 3;
     let mut total: u32 = 0;
     let mut k: usize = 0;
     while k < pending {
@@ -221,11 +220,11 @@ fn weigh(
         let p = number_at(&pool[at..next], 0, parts_count);
         let c = charge_tables::update_charge(rules, parts, memo, channels, count, parts_count, p, mask);
         total = charge_tables::capped_sum(total, c);
-        let b = index::bucket(&pool[at..next], heads);
-        if index::find(index, pool, 0, k, &pool[at..next], b) {
+        let slot = index::find_first(index, pool, k, &pool[at..next]);
+        if slot == index.len() {
             return Goodness::Bad;
         }
-        index::note(index, k, b);
+        index::note(index, k, slot);
         k += 1;
     }
     Goodness::Good(total)

@@ -22,6 +22,7 @@ use Rattle.passing.specs.Tabled.{deckOf, Tabled}
 use Rattle.passing.specs.Judged.{shape}
 use Rattle.firing.specs.Firing.{changed, pick, without, committed}
 use Rattle.firing.specs.Evaluated.{Assignable}
+use Rattle.index.specs.Index.{holeOf}
 use Rattle.offers.specs.Queue.{Held, Kept, Room, SameSize}
 use Rattle.offers.specs.Stored.{Stored}
 
@@ -83,7 +84,8 @@ pub record Commits (d e : Deck) (C k : ℕ) (held₀ : Held) (values₀ : List �
   pub result : (x : Machine) → Stored d C x values₀ pending₀ total₀ held₀
       → Stored d C (committed d k x .machine) values pending total held × (applied ≡ committed d k x .applied)
   pub memo : Memo e m
-  pub size : SameSize held₀ held
+  pub index : length (held .index) ≡ length (held₀ .index)
+  pub pool : length (held .pool) ≡ length (held₀ .pool)
 
 -- the commit of place 0, which is then gone: the others stay where they are, and there is room for one less
 pub record CommitsFront (d e : Deck) (C : ℕ) (held₀ : Held) (values₀ : List ℤ) (pending₀ total₀ : ℕ) (m : List ℕ) (held : Held) (values : List ℤ) (pending total : ℕ) (applied : Bool) : Type 0 where
@@ -92,4 +94,5 @@ pub record CommitsFront (d e : Deck) (C : ℕ) (held₀ : Held) (values₀ : Lis
   pub memo : Memo e m
   pub gone : held .gone ≡ held₀ .gone + 1
   pub index : length (held .index) ≡ length (held₀ .index)
+  pub hole : holeOf (held .index) ≡ holeOf (held₀ .index)
   pub pool : length (held .pool) + 10 ≡ length (held₀ .pool)

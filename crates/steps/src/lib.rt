@@ -109,10 +109,10 @@ pub fn commit(
     let mut back = [0i32; 2 * Deck::ASSIGNMENTS];
     let found = look(counts, rules, parts, memo, pool, values, &mut back, pending, k);
     pool::take_out(pool, pending, k);
-    index::forget(index, pending, k);
+    index::forget(index, k);
     let left = charge - found.charge;
     let held = 2 * found.count;
-    finish(deck, counts, rules, parts, memo, index, pool, 0, capacity, &back[..held], values, found.part, found.changed, pending - 1, left)
+    finish(deck, counts, rules, parts, memo, index, pool, 0, capacity - 1, &back[..held], values, found.part, found.changed, pending - 1, left)
 }
 
 // The commit of place 0, where the others stay: the pool from the next place on is lent.

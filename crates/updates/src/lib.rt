@@ -1,7 +1,7 @@
 // The update that an action makes, and the channels that an update sets. The definitions are in `firing`.
 ghost use mathlib.Core.Path.{_≡_};
 ghost use Prim.Native.Nat.{_+_, _*_, _%_, _≤_, _<_};
-ghost use lib.ListN.{length};
+ghost use lib.ListN.{length, getD};
 ghost use Rattle.pool.specs.Updates.{assign};
 ghost use Rattle.pool.specs.Places.{pairsOf};
 ghost use Rattle.firing.specs.Evaluated.{HasNumber, NumberIs, HasAction, ActionIs, Assignable, Compared};
@@ -22,13 +22,31 @@ fn number_from(deck: &[u8], at: usize, own: &[i32], far: &[i32]) -> i32
     }
 }
 
+// The place of the update that an action of one assignment, at an offset, makes for a part. Most actions have one, and its numbers are
+// written without a loop.
+fn evaluate_one(deck: &[u8], at: usize, part: usize, own: &[i32], far: &[i32]) -> [i32; 10]
+    requires { ⌜ HasAction (now deck) at (length (now own)) (length (now far)) × (part < 16) × (getD (now deck) at 0 ≡ 1) ⌝ }
+    ensures { λ r. ⌜ ActionIs (now (deck .entry)) at part (now (own .entry)) (now (far .entry)) r ⌝ }
+{
+    let mut row = [0i32; 10];
+    let value = number_from(deck, at + 2, own, far);
+    row[0] = part as i32;
+    row[1] = 1;
+    row[2] = deck[at + 1] as i32;
+    row[3] = value;
+    row
+}
+
 // The place of the update that the action at an offset makes for a part.
 pub fn evaluate(deck: &[u8], at: usize, part: usize, own: &[i32], far: &[i32]) -> [i32; 10]
     requires { ⌜ HasAction (now deck) at (length (now own)) (length (now far)) × (part < 16) ⌝ }
     ensures { λ r. ⌜ ActionIs (now (deck .entry)) at part (now (own .entry)) (now (far .entry)) r ⌝ }
 {
-    let mut row = [0i32; 10];
     let count = deck[at] as usize;
+    if count == 1 {
+        return evaluate_one(deck, at, part, own, far);
+    }
+    let mut row = [0i32; 10];
     row[0] = part as i32;
     row[1] = count as i32;
     let mut place = at + 1;

@@ -1,5 +1,5 @@
 -- The tests that every call begins with: from what the code finds to the definition. Assumes nothing.
-use Prim.Native.Nat.{ℕ, _+_, _/_, _≤_}
+use Prim.Native.Nat.{ℕ, _+_, _*_, _/_, _≤_, _<_}
 use mathlib.Core.Path.{_≡_, refl, sym, ap, ap₂, _∙_, subst}
 use mathlib.Core.Logic.{inl, inr}
 use mathlib.Core.Bool.{true, false}
@@ -15,10 +15,10 @@ use Rattle.graph.specs.Laws.Cycles.{Acyclic, no-cycle}
 use Rattle.graph.specs.Laws.Targets.{known-targets}
 use Rattle.charge.specs.Memo.{Ready}
 use Rattle.pool.specs.Updates.{charge}
-use Rattle.pool.specs.Places.{capacity, updatesOf}
+use Rattle.pool.specs.Places.{places, capacity, updatesOf}
 use Rattle.pool.specs.States.{Memory, load, goodLength, good}
 use Rattle.pool.specs.Laws.Good.{fine-loaded, updates-length}
-use Rattle.pool.specs.Laws.Laid.{laid-good}
+use Rattle.pool.specs.Laws.Laid.{laid-good, laid-places}
 use Rattle.pool.specs.Laws.Lengths.{length-bounded, capacity-places}
 use Rattle.states.specs.Answer.{Fresh, goodnessOf}
 use Rattle.states.specs.Laws.Judged.{good-answer, bad-answer}
@@ -28,8 +28,8 @@ use Rattle.passing.specs.Tabled.{layoutOf, deckOf}
 use Rattle.passing.specs.Judged as Judging
 use Rattle.passing.specs.Judged.{shape}
 use Rattle.passing.specs.Laws.Passing.{passing-clean}
-use Rattle.index.specs.Index.{headsOf, Indexed, keys, Roomy}
-use Rattle.index.specs.Laws.Indexed.{keys-laid}
+use Rattle.index.specs.Index.{headsOf, holeOf, Indexed, Roomy, rowsOf}
+use Rattle.index.specs.Laws.Indexed.{lost-none}
 use Rattle.offers.specs.Queue.{heldOf}
 use Rattle.offers.specs.Stored.{Stored}
 use Rattle.calls.specs.Calls.{tested}
@@ -43,7 +43,7 @@ use Rattle.call_tests.specs.declared.Tested.the-variants.{Ready as Readi
 zeros-long : (n : ℕ) → length {A = ℕ} (replicate n 0) ≡ n
 zeros-long n = let none : ℕ = 0 in length-replicate n none
 
-zeros-roomy : (most n : ℕ) → 3 ≤ n → n ≤ 98304 → n / 3 + most ≤ n → Roomy most (replicate n 0)
+zeros-roomy : (most n : ℕ) → 3 ≤ n → n ≤ 196610 → n / 3 + 2 * (most + 1) < n → Roomy most (replicate n 0)
 unfolding headsOf
 zeros-roomy most n a b c =
     let e = zeros-long n in
@@ -52,25 +52,33 @@ zeros-roomy most n a b c =
 zeros-fresh : (n m : ℕ) → Roomy (capacity n) (replicate m 0) → Fresh n (replicate m 0)
 zeros-fresh n m r = record { roomy = r; zeros = ap (λ k. replicate k 0) (sym (zeros-long m)) }
 
-pub usable-tiny : (n : ℕ) → n ≤ 640 → Usable n (replicate 96 0)
+pub usable-tiny : (n : ℕ) → n ≤ 640 → Usable n (replicate 196 0)
 unfolding capacity
-usable-tiny n h g = zeros-fresh n 96 (zeros-roomy (n / 10) 96 (omega arith) (omega arith) (omega (arith, h)))
+usable-tiny n h g = zeros-fresh n 196 (zeros-roomy (n / 10) 196 (omega arith) (omega arith) (omega (arith, h)))
 
-pub usable-small : (n : ℕ) → n ≤ 2560 → Usable n (replicate 384 0)
+pub usable-small : (n : ℕ) → n ≤ 2560 → Usable n (replicate 772 0)
 unfolding capacity
-usable-small n h g = zeros-fresh n 384 (zeros-roomy (n / 10) 384 (omega arith) (omega arith) (omega (arith, h)))
+usable-small n h g = zeros-fresh n 772 (zeros-roomy (n / 10) 772 (omega arith) (omega arith) (omega (arith, h)))
 
-pub usable-short : (n : ℕ) → n ≤ 20480 → Usable n (replicate 3072 0)
+pub usable-short : (n : ℕ) → n ≤ 10240 → Usable n (replicate 3076 0)
 unfolding capacity
-usable-short n h g = zeros-fresh n 3072 (zeros-roomy (n / 10) 3072 (omega arith) (omega arith) (omega (arith, h)))
+usable-short n h g = zeros-fresh n 3076 (zeros-roomy (n / 10) 3076 (omega arith) (omega arith) (omega (arith, h)))
 
-pub usable-middle : (n : ℕ) → n ≤ 122880 → Usable n (replicate 18432 0)
+pub usable-medium : (n : ℕ) → n ≤ 20480 → Usable n (replicate 6148 0)
 unfolding capacity
-usable-middle n h g = zeros-fresh n 18432 (zeros-roomy (n / 10) 18432 (omega arith) (omega arith) (omega (arith, h)))
+usable-medium n h g = zeros-fresh n 6148 (zeros-roomy (n / 10) 6148 (omega arith) (omega arith) (omega (arith, h)))
 
-pub usable : (n : ℕ) → Usable n (replicate 98304 0)
+pub usable-long : (n : ℕ) → n ≤ 40960 → Usable n (replicate 12292 0)
+unfolding capacity
+usable-long n h g = zeros-fresh n 12292 (zeros-roomy (n / 10) 12292 (omega arith) (omega arith) (omega (arith, h)))
+
+pub usable-longer : (n : ℕ) → n ≤ 122880 → Usable n (replicate 36868 0)
+unfolding capacity
+usable-longer n h g = zeros-fresh n 36868 (zeros-roomy (n / 10) 36868 (omega arith) (omega arith) (omega (arith, h)))
+
+pub usable : (n : ℕ) → Usable n (replicate 196610 0)
 usable n g =
-    zeros-fresh n 98304 (zeros-roomy (capacity n) 98304 (omega arith) (omega arith) (omega (arith, length-bounded n g)))
+    zeros-fresh n 196610 (zeros-roomy (capacity n) 196610 (omega arith) (omega arith) (omega (arith, length-bounded n g)))
 
 -- ---- the definition's tests, one by one
 
@@ -97,9 +105,9 @@ module _ (s : List ℕ) (m : Memory) where
 -- the numbers of a good state stand for what they load as
 held-loaded : (d : Deck) (m : Memory) (index : List ℕ) (total : ℕ) → good d m ≡ true
     → total ≡ charge d (updatesOf (m .state .pending) (m .pool))
-    → Indexed 0 (keys (headsOf index) (m .state .pending) (m .pool)) index
+    → Indexed 0 (places (m .state .pending) (m .pool)) index
     → Stored d (capacity (length (m .pool))) (load m) (m .state .values) (m .state .pending) total (heldOf 0 index (m .pool))
-unfolding load
+unfolding load rowsOf
 held-loaded d m index total g t x =
     let n = updates-length (m .state .pending) (m .pool) in
     let laid = laid-good d m g in
@@ -112,7 +120,7 @@ held-loaded d m index total g t x =
             laid = laid;
             indexed =
                 subst (λ ks. Indexed 0 ks index)
-                (ap (λ k. keys (headsOf index) k (m .pool)) (sym n) ∙ keys-laid laid (headsOf index))
+                (ap (λ k. places k (m .pool)) (sym n) ∙ laid-places laid)
                 x;
           };
       charged = t;
@@ -148,10 +156,11 @@ module _ (s rules parts charges : List ℕ) (k : Counted.Deck) (n : ℕ) (w : Ju
             ready = record { tables = w .acyclic; memo = t .3 };
             acyclic = passed-acyclic;
             room = record {
-              bounded = omega (arith, length-bounded (length pool) (t .1));
+              bounded = omega (arith, length-bounded (length pool) (t .1), lost-none (holeOf index) (t .6));
               places = capacity-places (length pool);
               index = subst (λ n. Roomy n index) (let e : capacity (length pool) ≡ 0 + capacity (length pool) = omega arith in e) (t .5);
             };
+            whole = t .6;
             machine = load m;
             stored = held;
           };

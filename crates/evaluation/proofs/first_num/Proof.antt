@@ -26,7 +26,7 @@ two-returns c =
     let op = first .before .before .before .before in
     let f : SFits w32 (first .first .given .0 .0) = search needs in
     as-two (here (op .before .before)) (op .op .given .1) (rw (first .first .given .1) at (first .before .before .operand-at .ensures))
-    (c .before .operand-at2 .ensures)
+    (c .before .second-at .ensures)
     (rw (toZ-ofZ w32 _ f) at (c .calculate-at .ensures))
 
 pub first-num-spec : {M : Type 1} → statement M

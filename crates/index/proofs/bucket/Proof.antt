@@ -4,7 +4,8 @@ use mathlib.Core.Path.{ap}
 use native.Mathlib.Omega.{arith}
 use borrow.Author.Needs.{needs}
 use Rattle.index.specs.Hash.{bucketOf}
-use Rattle.index.proofs.Hashing.{product-fits, bucket-small}
+use Rattle.index.specs.Laws.Entering.{bucket-low}
+use Rattle.index.proofs.Hashing.{product-fits}
 use Rattle.index.proofs.bucket.Statement.{statement}
 use Rattle.index.proofs.bucket.Tie as tie
 
@@ -14,10 +15,9 @@ mul-result c = omega (arith, product-fits (c .hash .result % 4294967296) (c .bef
 returns : tie.Need-returns
 unfolding bucketOf
 returns c =
-    let a = c .before .args in (
-      ap (λ h. h % 4294967296 * a .heads / 4294967296) (c .hash .ensures),
-      bucket-small (c .hash .result % 4294967296) (a .heads) (omega arith) (omega arith),
-    )
+    let a = c .before .args in
+    let same = ap (λ h. h % 4294967296 * a .heads / 4294967296) (c .hash .ensures) in
+    (same, omega (arith, same, bucket-low (a .heads) (a .place .now) (c .before .pre .1)))
 
 pub bucket-spec : {M : Type 1} → statement M
 bucket-spec = tie.close (tie.spec (λ c κs. search needs) mul-result returns)

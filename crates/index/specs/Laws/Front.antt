@@ -1,16 +1,14 @@
--- The first places of a pool and their buckets, cut at a place. Assumes nothing.
+-- The first places of a pool, cut at a place. Assumes nothing.
 use Prim.Native.Nat.{ℕ, zero, suc, _+_, _*_, _≤_, _<_}
 use mathlib.Core.Path.{_≡_, refl, ap, _∙_}
-use mathlib.Core.List.{List, [], _∷_, _++_, map, map-append}
+use mathlib.Core.List.{List, [], _∷_, _++_, map}
 use native.Mathlib.Nat.{le-of-suc-le-suc}
 use native.Mathlib.Numerals.{add-one}
 use native.Mathlib.Omega.{arith}
-use lib.ListN.{length, take, drop, getD, length-map}
+use lib.ListN.{length, take, drop, getD}
 use lib.Seq.{drop-drop}
 use lib.IntN.{ℤ}
 use Rattle.pool.specs.Places.{places}
-use Rattle.index.specs.Hash.{bucketOf}
-use Rattle.index.specs.Index.{keys}
 
 pub take-map : {A B : Type 0} (f : A → B) (n : ℕ) (l : List A) → take n (map f l) ≡ map f (take n l)
 take-map f zero l = refl
@@ -50,18 +48,3 @@ places-more (suc n) pool =
 
 pub places-end : (n : ℕ) (pool : List ℤ) → places (n + 1) pool ≡ places n pool ++ take 10 (drop (10 * n) pool) ∷ []
 places-end n pool = ap (λ m. places m pool) (add-one n) ∙ places-more n pool
-
-module _ (heads : ℕ) (pool : List ℤ) where
-  pub keys-length : (n : ℕ) → length (keys heads n pool) ≡ n
-  unfolding keys
-  keys-length n = length-map (places n pool) (bucketOf heads) ∙ places-length n pool
-
-  pub keys-take : (j n : ℕ) → j ≤ n → take j (keys heads n pool) ≡ keys heads j pool
-  unfolding keys
-  keys-take j n h = take-map (bucketOf heads) j (places n pool) ∙ ap (map (bucketOf heads)) (places-take j n pool h)
-
-  pub keys-end : (n : ℕ) → keys heads (n + 1) pool ≡ keys heads n pool ++ bucketOf heads (take 10 (drop (10 * n) pool)) ∷ []
-  unfolding keys
-  keys-end n =
-      ap (map (bucketOf heads)) (places-end n pool)
-      ∙ map-append (bucketOf heads) (places n pool) (take 10 (drop (10 * n) pool) ∷ [])

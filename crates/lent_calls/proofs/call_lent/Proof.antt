@@ -1,6 +1,8 @@
--- `lent_calls::call_lent` meets its contract: the index is long enough, and the rest is the same. Assumes nothing.
+-- `lent_calls::call_lent` meets its contract: the tables are as long as the deck needs them, and the rest is the same. Assumes
+-- nothing.
+use mathlib.Core.Path.{refl}
 use borrow.Author.Needs.{needs}
-use Rattle.call_tests.specs.Laws.Tested.{usable-tiny, usable-small, usable-short, usable-middle, usable}
+use Rattle.passing.specs.Laws.Tables.{zero-rules, zero-memo}
 use Rattle.lent_calls.proofs.call_lent.Statement.{statement}
 use Rattle.lent_calls.proofs.call_lent.Tie as tie
 
@@ -9,23 +11,38 @@ pub call-lent-spec : {M : Type 1} → statement M
 call-lent-spec =
     tie.close
     (tie.spec
+    (λ c κs. search needs)
+    (λ c. refl)
+    (λ c. refl)
+    (λ c κs.
+    let l = c .before .before .before .before .before in
+    let i = l .before in
+    let few = i .before .few-rules .ensures in
+    (l .if2 .taken, zero-rules _ few (i .if1 .taken), zero-memo _ few (i .if1 .taken)))
     (λ c. search needs)
-    (λ c κs. usable-tiny _ (c .before .before .before .before .if1 .taken))
+    (λ c. c .before .before .before .call-short .ensures)
+    (λ c. refl)
+    (λ c. refl)
+    (λ c κs.
+    let i = c .before .before .before .before .before .before in
+    let few = i .before .few-rules .ensures in
+    (zero-rules _ few (i .if1 .taken), zero-memo _ few (i .if1 .taken)))
     (λ c. search needs)
-    (λ c. c .before .before .call-with .ensures)
+    (λ c. c .before .before .before .call-long .ensures)
+    (λ c. refl)
+    (λ c. refl)
+    (λ c κs.
+    let l = c .before .before .before .before .before in
+    let i = l .before in
+    let few = i .before .few-rules .ensures in
+    (l .if3 .taken, zero-rules _ few (i .if1 .left), zero-memo _ few (i .if1 .left)))
     (λ c. search needs)
-    (λ c κs. usable-small _ (c .before .before .before .before .if2 .taken))
+    (λ c. c .before .before .before .call-short2 .ensures)
+    (λ c. refl)
+    (λ c. refl)
+    (λ c κs.
+    let i = c .before .before .before .before .before .before in
+    let few = i .before .few-rules .ensures in
+    (zero-rules _ few (i .if1 .left), zero-memo _ few (i .if1 .left)))
     (λ c. search needs)
-    (λ c. c .before .before .call-with2 .ensures)
-    (λ c. search needs)
-    (λ c κs. usable-short _ (c .before .before .before .before .if3 .taken))
-    (λ c. search needs)
-    (λ c. c .before .before .call-with3 .ensures)
-    (λ c. search needs)
-    (λ c κs. usable-middle _ (c .before .before .before .before .if4 .taken))
-    (λ c. search needs)
-    (λ c. c .before .before .call-with4 .ensures)
-    (λ c. search needs)
-    (λ c κs. usable _)
-    (λ c. search needs)
-    (λ c. c .before .before .call-with5 .ensures))
+    (λ c. c .before .before .before .call-long2 .ensures))

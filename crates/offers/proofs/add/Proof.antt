@@ -1,22 +1,17 @@
 -- `offers::add` meets its contract: each way out leaves what the offered update makes of the pool. Assumes nothing.
-use Prim.Native.Nat.{_/_, _<_, _≤_}
-use mathlib.Core.Path.{refl, sym, _∙_}
+use Prim.Native.Nat.{_+_, _<_, _≤_}
+use mathlib.Core.Path.{_≡_, refl}
+use mathlib.Core.Bool.{false}
 use native.Mathlib.Omega.{arith}
 use borrow.Author.Needs.{needs}
-use lib.ListN.{length}
-use Rattle.index.specs.Index.{headsOf}
-use Rattle.offers.specs.Laws.Adding.{added-full, added-same, added-over, added-room, added-few, added-more, grown-indexed}
+use Rattle.index.specs.Index.{Entering}
+use Rattle.index.specs.Laws.Entering.{roomy-heads, entering-inside, entering-done}
+use Rattle.offers.specs.Laws.Adding.{amongPlaces, added-full, added-same, added-over, added-room, added-few, added-entering, added-more, few-pending, grown-indexed, grown-number}
 use Rattle.offers.proofs.add.Statement.{statement}
 use Rattle.offers.proofs.add.Tie as tie
 
 abbrev start-of : tie.Else1 → tie.Start
 start-of c = c .before .before .before .before .before
-
--- the heads of the index
-heads-some : (c : tie.Else1) → let n = length (start-of c .args .index .now) / 3 in (0 < n) × (n ≤ 65536)
-heads-some c =
-    let r = start-of c .pre .0 .room .index in
-    (omega (arith, r .some), omega (arith, r .few))
 
 few : (c : tie.Else1) → start-of c .args .capacity ≤ 65535
 few c = omega (arith, start-of c .pre .0 .room .bounded)
@@ -26,26 +21,31 @@ returns c =
     let s = c .before .before .before .before .before in
     added-full (s .pre .1) (s .pre .0 .ready .memo) (c .if1 .taken)
 
-bucket-requires : tie.Need-bucket-requires
-bucket-requires c κs = (start-of c .pre .1 .long, heads-some c .0, heads-some c .1)
-
 find-requires : tie.Need-find-requires
-unfolding headsOf
 find-requires c κs =
-    let b = c .before .before in
-    let s = start-of (b .before) in
-    let g = s .pre .0 .grown in
-    (s .pre .1 .long, omega (arith, g .pending, g .kept .laid .room), b .bucket .ensures .1, b .bucket .ensures .0, grown-indexed g)
+    let e = c .before .before in
+    let s = start-of e in
+    let o = s .pre .0 in
+    let g = o .grown in
+    let r = roomy-heads (o .room .index) in
+    record {
+      long = s .pre .1 .long;
+      room = omega (arith, g .pending, g .kept .laid .room);
+      some = r .0;
+      most = r .1;
+      indexed = grown-indexed g;
+      few = grown-number g (o .room) (few-pending g (e .if1 .left));
+    }
 
 returns-2 : tie.Need-returns-2
 returns-2 c =
     let f = c .before in
-    let s = start-of (f .before .before .before .before) in
-    added-same (s .pre .1) (s .pre .0 .ready .memo) (sym (f .find .ensures) ∙ c .if2 .taken)
+    let s = start-of (f .before .before .before) in
+    added-same (s .pre .1) (s .pre .0 .ready .memo) (f .find .ensures .found (c .if2 .taken))
 
 place-charge-requires : tie.Need-place-charge-requires
 place-charge-requires c κs =
-    let s = start-of (c .before .before .before .before .before .before) in
+    let s = start-of (c .before .before .before .before .before) in
     (s .pre .0 .ready, s .pre .0 .few, s .pre .1)
 
 -- behind the test for an equal one
@@ -53,7 +53,11 @@ abbrev found-of : tie.After-place-charge → tie.After-find
 found-of c = c .before .before .before
 
 abbrev open-of : tie.After-place-charge → tie.Else1
-open-of c = found-of c .before .before .before .before
+open-of c = found-of c .before .before .before
+
+-- no pending one is equal
+new-of : (c : tie.After-place-charge) → let a = start-of (open-of c) .args in amongPlaces (a .queue .pending) (a .pool .now) (a .row .now) ≡ false
+new-of c = found-of c .find .ensures .none (c .before .before .if2 .left)
 
 add-total : tie.Need-add-total
 add-total c =
@@ -67,8 +71,7 @@ returns-3 c =
     let k = c .before .before .before .before .before in
     let f = open-of k in
     let s = start-of f in
-    let new = sym (found-of k .find .ensures) ∙ k .before .before .if2 .left in
-    added-over (s .pre .1) (few f) (f .if1 .left) new (k .place-charge .ensures)
+    added-over (s .pre .1) (few f) (f .if1 .left) (new-of k) (k .place-charge .ensures)
     (omega (arith, c .before .if3 .taken))
     (c .passed .ensures)
 
@@ -77,10 +80,9 @@ push-requires c κs =
     let k = c .before .before .before .before .before in
     let f = open-of k in
     let s = start-of f in
-    let o = s .pre .0 in
-    let new = sym (found-of k .find .ensures) ∙ k .before .before .if2 .left in (
+    let o = s .pre .0 in (
       s .pre .1 .long,
-      added-room (s .pre .1) (few f) (f .if1 .left) new (k .place-charge .ensures) (omega (arith, c .before .if3 .left)) (o .room) (o .grown),
+      added-room (s .pre .1) (few f) (f .if1 .left) (new-of k) (k .place-charge .ensures) (omega (arith, c .before .if3 .left)) (o .room) (o .grown),
     )
 
 -- one more fits
@@ -90,8 +92,7 @@ fewer c =
     let f = open-of k in
     let s = start-of f in
     let o = s .pre .0 in
-    let new = sym (found-of k .find .ensures) ∙ k .before .before .if2 .left in
-    added-few (s .pre .1) (few f) (f .if1 .left) new (k .place-charge .ensures) (omega (arith, c .before .before .if3 .left)) (o .room) (o .grown)
+    added-few (s .pre .1) (few f) (f .if1 .left) (new-of k) (k .place-charge .ensures) (omega (arith, c .before .before .if3 .left)) (o .room) (o .grown)
 
 add-note : tie.Need-add-note
 add-note c =
@@ -99,39 +100,39 @@ add-note c =
     let s = start-of (open-of (p .before .before .before .before .before .before)) in
     omega (arith, fewer p, s .pre .0 .room .bounded)
 
+-- its place can be entered where the search ended
+entering : (c : tie.After-push)
+    → let k = c .before .before .before .before .before .before in
+    let a = start-of (open-of k) .args in
+    Entering (a .gone + a .queue .pending) (a .row .now) (found-of k .find .result) (a .index .now)
+entering c =
+    let k = c .before .before .before .before .before .before in
+    let f = open-of k in
+    let s = start-of f in
+    let o = s .pre .0 in
+    added-entering (s .pre .1) (few f) (f .if1 .left) (new-of k) (k .place-charge .ensures) (omega (arith, c .before .before .if3 .left)) (o .room) (o .grown)
+    (found-of k .find .ensures .ends (k .before .before .if2 .left))
+
 note-requires : tie.Need-note-requires
-unfolding headsOf
-note-requires c κs =
-    let p = c .before .before .before in
-    let k = p .before .before .before .before .before .before in
-    let s = start-of (open-of k) in
-    let r = s .pre .0 .room in (
-      found-of k .before .before .before .bucket .ensures .1,
-      omega (arith, fewer p, r .index .links),
-      omega (arith, fewer p, r .bounded),
-    )
+note-requires c κs = let w = entering (c .before .before .before) in (w .few, entering-inside w)
 
 returns-4 : tie.Need-returns-4
-unfolding headsOf
 returns-4 c =
     let n = c .before .before .before in
     let p = n .before .before .before .before in
     let k = p .before .before .before .before .before .before in
-    let b = found-of k .before .before .before in
     let f = open-of k in
     let s = start-of f in
     let o = s .pre .0 in
-    let new = sym (found-of k .find .ensures) ∙ k .before .before .if2 .left in
     rw (p .push .ensures, n .note .ensures)
-    (added-more (s .pre .1) (few f) (f .if1 .left) new (k .place-charge .ensures) (omega (arith, p .before .before .if3 .left)) (o .room) (o .grown)
-    (b .bucket .ensures .0) (b .bucket .ensures .1))
+    (added-more (s .pre .1) (few f) (f .if1 .left) (new-of k) (k .place-charge .ensures) (omega (arith, p .before .before .if3 .left)) (o .room) (o .grown)
+    (entering-done (entering p)))
 
 pub add-spec : {M : Type 1} → statement M
 add-spec =
     tie.close
     (tie.spec
     returns
-    bucket-requires
     find-requires
     (λ c. refl)
     (λ c. refl)

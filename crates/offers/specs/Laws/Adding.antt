@@ -18,14 +18,15 @@ use Rattle.pool.specs.Places.{updateOf, place, places, updatesOf}
 use Rattle.pool.specs.Moves.{written}
 use Rattle.pool.specs.Laws.Places.{short}
 use Rattle.pool.specs.Laws.Good.{count-bounded, written-same, updates-short}
-use Rattle.pool.specs.Laws.Laid.{laid-pushed, pushed-length, laid-pending}
+use Rattle.pool.specs.Laws.Laid.{laid-pushed, pushed-length, laid-pending, laid-places}
 use Rattle.states.specs.Answer.{Holds, PlaceGives}
 use Rattle.firing.specs.Firing.{enqueue}
 use Rattle.firing.specs.Laws.Enqueue.{behind, charge-append, enqueue-grows}
 use Rattle.index.specs.Hash.{bucketOf}
-use Rattle.index.specs.Index.{headsOf, Indexed, keys, keysOf, noted}
-use Rattle.index.specs.Laws.Indexed.{indexed-noted, noted-length, keys-laid}
-use Rattle.index.specs.Laws.Keys.{keys-append, keys-length}
+use Rattle.index.specs.Index.{headsOf, holeOf, numberOf, Ends, Indexed, Entering, Enters, rowsOf}
+use Rattle.index.specs.Laws.Indexed.{rows-append, rows-length}
+use Rattle.index.specs.Laws.Entering.{number-is, roomy-heads}
+use Rattle.index.specs.Laws.Front.{places-length}
 use Rattle.offers.specs.Queue.{Held, heldOf, Kept, Room, SameSize, Grown, Offered}
 use Rattle.offers.specs.Laws.Queue.{same-size}
 use Rattle.offers.specs.declared.Queue.{Queue}
@@ -45,10 +46,9 @@ charge-one : (d : Deck) (w : Update) → charge d (w ∷ []) ≡ updateCharge d 
 unfolding charge lists
 charge-one d w = omega arith
 
--- a row behind n places, and its bucket entered
-abbrev pub pushedTo : Held → ℕ → ℕ → List ℤ → Held
-pushedTo held n b row =
-    heldOf (held .gone) (noted (held .index) (held .gone + n) b) (written (held .pool) (10 * n) row)
+-- a row behind n places, with the index that has it
+abbrev pub pushedTo : Held → List ℕ → ℕ → List ℤ → Held
+pushedTo held index n row = heldOf (held .gone) index (written (held .pool) (10 * n) row)
 
 -- ---- the counts, and the updates in the pool
 
@@ -123,44 +123,21 @@ module _ {d : Deck} {C : ℕ} {us new : List Update} {held : Held} {q : Queue} (
           push-room : 10 * length before + 10 ≤ length (held .pool)
           push-room = omega (arith, r .places, one-less)
 
-          module _ (s : short w ≡ true) (b : ℕ) (key : b ≡ bucketOf (headsOf (held .index)) (place w)) (low : b < headsOf (held .index)) where
+          module _ (s : short w ≡ true) {index : List ℕ} (entry : Enters (held .gone + length before) (place w) (held .index) index) where
             abbrev after : Held
-            after = pushedTo held (length before) b (place w)
+            after = pushedTo held index (length before) (place w)
 
             after-size : SameSize held after
             after-size =
-                record {
-                  gone = refl;
-                  index = noted-length (held .index) (held .gone + length before) b;
-                  pool = pushed-length (g .kept .laid) w s push-room;
-                }
-
-            heads : ℕ
-            heads = headsOf (held .index)
-
-            same-heads : headsOf (after .index) ≡ heads
-            unfolding headsOf heads
-            same-heads = ap (λ n. n / 3) (after-size .index)
-
-            entered : Indexed (held .gone) (keysOf heads before ++ b ∷ []) (after .index)
-            unfolding heads
-            entered =
-                let count = keys-length heads before in
-                subst (λ n. Indexed (held .gone) (keysOf heads before ++ b ∷ []) (noted (held .index) (held .gone + n) b)) count
-                (indexed-noted (g .kept .indexed) b low (omega (arith, count, one-less, r .index .links)))
-
-            keys-more : keysOf heads before ++ b ∷ [] ≡ keysOf (headsOf (after .index)) (before ++ w ∷ [])
-            unfolding keysOf heads
-            keys-more =
-                ap (λ k. keysOf heads before ++ k ∷ []) key
-                ∙ sym (keys-append heads before (w ∷ []))
-                ∙ ap (λ n. keysOf n (before ++ w ∷ [])) (sym same-heads)
+                record { gone = refl; index = entry .long; hole = entry .hole; pool = pushed-length (g .kept .laid) w s push-room }
 
             after-kept : Kept after (before ++ w ∷ [])
+            unfolding rowsOf
             after-kept =
                 record {
                   laid = laid-pushed (g .kept .laid) w s push-room;
-                  indexed = subst (λ ks. Indexed (held .gone) ks (after .index)) keys-more entered;
+                  indexed = subst (λ ks. Indexed (held .gone) ks index) (sym (rows-append before (w ∷ [])))
+                      (entry .indexed (held .gone) (rowsOf before) (ap (λ n. held .gone + n) (rows-length before)) (g .kept .indexed));
                 }
 
             grown-more : Grown d C us (new ++ w ∷ []) after (counted (q .pending + 1) (q .charge + c) false)
@@ -196,12 +173,20 @@ amongPlaces n pool row = any (λ w. eqList eqZ w row) (places n pool)
 
 -- the index is that of the places at hand
 pub grown-indexed : {d : Deck} {C : ℕ} {us new : List Update} {held : Held} {q : Queue} (g : Grown d C us new held q)
-    → Indexed (held .gone) (keys (headsOf (held .index)) (q .pending) (held .pool)) (held .index)
+    → Indexed (held .gone) (places (q .pending) (held .pool)) (held .index)
+unfolding rowsOf
 grown-indexed {us} {held} {q} g =
-    let heads = headsOf (held .index) in
     subst (λ ks. Indexed (held .gone) ks (held .index))
-    (sym (keys-laid (g .kept .laid) heads) ∙ ap (λ n. keys heads n (held .pool)) (sym (g .pending)))
+    (sym (laid-places (g .kept .laid)) ∙ ap (λ n. places n (held .pool)) (sym (g .pending)))
     (g .kept .indexed)
+
+-- the numbers of the places at hand
+pub grown-number : {d : Deck} {C : ℕ} {us new : List Update} {held : Held} {q : Queue} (g : Grown d C us new held q) → Room C held
+    → q .pending ≤ C → numberOf (held .gone) (holeOf (held .index)) (q .pending) ≤ 65536
+grown-number {held = held} {q} g r l =
+    let ix = grown-indexed g in
+    let n = places-length (q .pending) (held .pool) in
+    omega (arith, ap (numberOf (held .gone) (holeOf (held .index))) (sym n) ∙ number-is ix, n, r .bounded, l)
 
 module _ {d : Deck} {C : ℕ} {held : Held} {q : Queue} {row : List ℤ} (h : Holds d row) where
   among : {us new : List Update} (g : Grown d C us new held q)
@@ -242,24 +227,43 @@ module _ {d : Deck} {C : ℕ} {held : Held} {q : Queue} {row : List ℤ} (h : Ho
       pub added-few : q .pending < C
       added-few = omega (arith, g₀ .pending, one-less g₀ (updateOf row) f (sym (among g₀) ∙ a) few (p .value) l r)
 
-      module _ {b : ℕ} (key : b ≡ bucketOf (headsOf (held .index)) row) (low : b < headsOf (held .index)) where
-        place-key : b ≡ bucketOf (headsOf (held .index)) (place (updateOf row))
-        place-key = key ∙ ap (bucketOf (headsOf (held .index))) (sym (written-same row (h .written)))
+      -- its place can be entered where its way ends
+      pub added-entering : {slot : ℕ} → Ends (headsOf (held .index)) (held .index) row 0 (bucketOf (headsOf (held .index)) row) slot
+          → Entering (held .gone + q .pending) row slot (held .index)
+      added-entering w =
+          let n = places-length (q .pending) (held .pool) in
+          record {
+            gone = held .gone;
+            ks = places (q .pending) (held .pool);
+            count = ap (λ m. held .gone + m) n;
+            indexed = grown-indexed g₀;
+            ends = w;
+            some = roomy-heads (r .index) .0;
+            room = omega (arith, added-few, r .index .links);
+            few = omega (arith, added-few, r .bounded);
+          }
+
+      module _ {index : List ℕ} (e : Enters (held .gone + q .pending) row (held .index) index) where
+        enters : {us new : List Update} (g : Grown d C us new held q)
+            → Enters (held .gone + length (us ++ g .extra)) (place (updateOf row)) (held .index) index
+        enters {us} g =
+            subst (λ x. Enters (held .gone + length (us ++ g .extra)) x (held .index) index) (sym (written-same row (h .written)))
+            (subst (λ n. Enters (held .gone + n) row (held .index) index) (g .pending) e)
 
         same-numbers : {us new : List Update} (g : Grown d C us new held q)
-            → pushedTo held (length (us ++ g .extra)) b (place (updateOf row)) ≡ pushedTo held (q .pending) b row
+            → pushedTo held index (length (us ++ g .extra)) (place (updateOf row)) ≡ pushedTo held index (q .pending) row
         same-numbers {us} g =
-            ap (λ n. pushedTo held n b (place (updateOf row))) (sym (g .pending))
-            ∙ ap (pushedTo held (q .pending) b) (written-same row (h .written))
+            ap (λ n. pushedTo held index n (place (updateOf row))) (sym (g .pending))
+            ∙ ap (pushedTo held index (q .pending)) (written-same row (h .written))
 
-        pub added-more : Offered d C (updateOf row ∷ []) held q m (pushedTo held (q .pending) b row) (counted (q .pending + 1) (q .charge + c) false)
+        pub added-more : Offered d C (updateOf row ∷ []) held q m (pushedTo held index (q .pending) row) (counted (q .pending + 1) (q .charge + c) false)
         added-more =
             let w = updateOf row in
             record {
               grows = λ us new g.
                   subst (λ x. Grown d C us (new ++ w ∷ []) x (counted (q .pending + 1) (q .charge + c) false)) (same-numbers g)
-                  (grown-more g w f (sym (among g) ∙ a) few (p .value) l r (held-short row h) b place-key low);
+                  (grown-more g w f (sym (among g) ∙ a) few (p .value) l r (held-short row h) (enters g));
               memo = p .memo;
               size = subst (SameSize held) (same-numbers g₀)
-                  (after-size g₀ w f (sym (among g₀) ∙ a) few (p .value) l r (held-short row h) b place-key low);
+                  (after-size g₀ w f (sym (among g₀) ∙ a) few (p .value) l r (held-short row h) (enters g₀));
             }

@@ -1,6 +1,6 @@
 -- Laws of new updates that are offered one by one. Assumes nothing.
 use Prim.Native.Nat.{ℕ, _+_}
-use mathlib.Core.Path.{_≡_, refl, sym, _∙_, subst}
+use mathlib.Core.Path.{_≡_, refl, sym, ap, _∙_, subst}
 use mathlib.Core.List.{List, [], _++_, append-assoc, append-nil}
 use native.Mathlib.Omega.{arith}
 use Rattle.deck.specs.Deck.{Deck}
@@ -8,17 +8,18 @@ use Rattle.deck.specs.declared.Deck as Counted
 use Rattle.charge.specs.Memo.{Memo}
 use Rattle.pool.specs.Updates.{Update}
 use Rattle.passing.specs.Judged.{shape}
-use Rattle.index.specs.Index.{headsOf}
+use Rattle.index.specs.Index.{headsOf, lostOf}
 use Rattle.offers.specs.Queue.{Held, Room, SameSize, Grown, Offering, Offered}
 use Rattle.offers.specs.declared.Queue.{Queue}
 
 -- ---- sizes
 
 pub same-size : {h : Held} → SameSize h h
-same-size = record { gone = refl; index = refl; pool = refl }
+same-size = record { gone = refl; index = refl; hole = refl; pool = refl }
 
 pub size-then : {h₀ h₁ h₂ : Held} → SameSize h₀ h₁ → SameSize h₁ h₂ → SameSize h₀ h₂
-size-then a b = record { gone = b .gone ∙ a .gone; index = b .index ∙ a .index; pool = b .pool ∙ a .pool }
+size-then a b =
+    record { gone = b .gone ∙ a .gone; index = b .index ∙ a .index; hole = b .hole ∙ a .hole; pool = b .pool ∙ a .pool }
 
 -- room is a matter of size
 pub room-same : {C : ℕ} {h₀ h : Held} → SameSize h₀ h → Room C h₀ → Room C h
@@ -26,7 +27,7 @@ unfolding headsOf
 room-same {C} {h₀} {h} s r =
     let roomy = r .index in
     record {
-      bounded = omega (arith, s .gone, r .bounded);
+      bounded = omega (arith, s .gone, ap lostOf (s .hole), r .bounded);
       places = omega (arith, s .pool, r .places);
       index = record {
         some = omega (arith, s .index, roomy .some);

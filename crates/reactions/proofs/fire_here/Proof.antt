@@ -47,10 +47,10 @@ own-at : (s : tie.Start) → Stretch (values-of s) (s .args .p) (s .args .counts
 own-at s = stretch (firing s) (s .args .p) (s .pre .3)
 
 -- behind the default action, behind the test of the kind, and behind the condition
-abbrev start-of : tie.After-offer → tie.Start
+abbrev start-of : tie.After-offer-default → tie.Start
 start-of o = o .before .before .before .before .before .before .before .before .before .before .before .before .before
 
-abbrev default-of : tie.Else1 → tie.After-offer
+abbrev default-of : tie.Else1 → tie.After-offer-default
 default-of k = k .before .before .before .before .before .before .before
 
 abbrev kind-of : tie.After-truth-from → tie.Else1
@@ -71,16 +71,16 @@ value : (t : tie.After-truth-from)
 value t = let k = kind-of t in condition-value (firing (start-of (default-of k))) (lent k) (t .truth-from .ensures)
 
 -- what the default action left
-first : (o : tie.After-offer)
+first : (o : tie.After-offer-default)
     → let s = start-of o in
     let a = s .args in
-    let l = o .offer .last .1 .1 .1 .1 in
+    let l = o .offer-default .last .1 .1 .1 .1 in
     Offered (shape (a .rules .now) (a .parts .now) (a .counts)) (a .capacity) (sent (values-of s) (a .p) (a .p) (rule-of s .default))
-    (heldOf (a .gone) (a .index .now) (a .pool .now)) (a .queue) (l .0) (heldOf (a .gone) (l .1 .0) (l .1 .1 .0)) (o .offer .result)
-first o = default-offered (firing (start-of o)) (o .offer .ensures)
+    (heldOf (a .gone) (a .index .now) (a .pool .now)) (a .queue) (l .0) (heldOf (a .gone) (l .1 .0) (l .1 .1 .0)) (o .offer-default .result)
+first o = default-offered (firing (start-of o)) (o .offer-default .ensures)
 
-offer-requires : tie.Need-offer-requires
-offer-requires c κs =
+offer-default-requires : tie.Need-offer-default-requires
+offer-default-requires c κs =
     let s = c .before .before .before .before .before .before .before .before .before .before .before .before in
     (s .pre .1, default-sound (firing s), s .pre .3)
 
@@ -97,8 +97,8 @@ truth-from-requires c κs =
     let s = start-of (default-of k) in
     (own-at s .inside, zero-le, condition-known (firing s) (lent k))
 
-offer-requires-2 : tie.Need-offer-requires-2
-offer-requires-2 c κs =
+offer-requires : tie.Need-offer-requires
+offer-requires c κs =
     let k = c .before .before .before .before .before .before .before in
     let o = default-of k in
     let s = start-of o in
@@ -113,7 +113,7 @@ returns-2 c =
     let true-here = sym (value t) ∙ c .before .before .before .before .before .before .before .before .before .before .if2 .taken in
     offered-as (here-true (values-of s) (s .args .p) (rule-of s) (here k) true-here)
     (offered-then (first o)
-    (task-offered (firing s) (lent k) (c .before .before .before .before .before .offer2 .ensures)))
+    (task-offered (firing s) (lent k) (c .before .before .before .before .before .offer .ensures)))
 
 returns-3 : tie.Need-returns-3
 returns-3 c =
@@ -139,14 +139,14 @@ fire-here-spec =
     (λ c. default-at (c .before .before .before .before .before .before .before .before) .place)
     (λ c. default-at (c .before .before .before .before .before .before .before .before) .bytes)
     (λ c. default-at (c .before .before .before .before .before .before .before .before .before) .inside)
-    offer-requires
+    offer-default-requires
     (λ c. kind-at (start-of (c .before .before .before .before .before)) .row)
     (λ c. kind-at (start-of (c .before .before .before .before .before)) .place)
     (λ c. kind-at (start-of (c .before .before .before .before .before)) .bytes)
     (λ c. kind-at (start-of (c .before .before .before .before .before .before)) .inside)
-    (λ c. c .before .before .before .before .before .before .before .offer .kept .1 .1 .1 .1 .0)
-    (λ c. c .before .before .before .before .before .before .before .offer .kept .1 .1 .1 .1 .1 .0)
-    (λ c. c .before .before .before .before .before .before .before .offer .kept .1 .1 .1 .1 .1 .1 .0)
+    (λ c. c .before .before .before .before .before .before .before .offer-default .kept .1 .1 .1 .1 .0)
+    (λ c. c .before .before .before .before .before .before .before .offer-default .kept .1 .1 .1 .1 .1 .0)
+    (λ c. c .before .before .before .before .before .before .before .offer-default .kept .1 .1 .1 .1 .1 .1 .0)
     returns
     (λ c. condition-at (start-of (default-of c)) .row)
     (λ c. condition-at (start-of (default-of c)) .place)
@@ -157,12 +157,12 @@ fire-here-spec =
     (λ c. action-at (start-of (default-of (c .before .before .before))) .place)
     (λ c. action-at (start-of (default-of (c .before .before .before))) .bytes)
     (λ c. action-at (start-of (default-of (c .before .before .before .before))) .inside)
-    offer-requires-2
-    (λ c. c .before .before .before .before .before .offer2 .kept .1 .1 .1 .1 .0 ∙ default-of (kind-of (c .before .before .before .before .before .before .before .before .before .before .before)) .offer .kept .1 .1 .1 .1 .0)
-    (λ c. c .before .before .before .before .before .offer2 .kept .1 .1 .1 .1 .1 .0 ∙ default-of (kind-of (c .before .before .before .before .before .before .before .before .before .before .before)) .offer .kept .1 .1 .1 .1 .1 .0)
-    (λ c. c .before .before .before .before .before .offer2 .kept .1 .1 .1 .1 .1 .1 .0 ∙ default-of (kind-of (c .before .before .before .before .before .before .before .before .before .before .before)) .offer .kept .1 .1 .1 .1 .1 .1 .0)
+    offer-requires
+    (λ c. c .before .before .before .before .before .offer .kept .1 .1 .1 .1 .0 ∙ default-of (kind-of (c .before .before .before .before .before .before .before .before .before .before .before)) .offer-default .kept .1 .1 .1 .1 .0)
+    (λ c. c .before .before .before .before .before .offer .kept .1 .1 .1 .1 .1 .0 ∙ default-of (kind-of (c .before .before .before .before .before .before .before .before .before .before .before)) .offer-default .kept .1 .1 .1 .1 .1 .0)
+    (λ c. c .before .before .before .before .before .offer .kept .1 .1 .1 .1 .1 .1 .0 ∙ default-of (kind-of (c .before .before .before .before .before .before .before .before .before .before .before)) .offer-default .kept .1 .1 .1 .1 .1 .1 .0)
     returns-2
-    (λ c. default-of (kind-of (c .before)) .offer .kept .1 .1 .1 .1 .0)
-    (λ c. default-of (kind-of (c .before)) .offer .kept .1 .1 .1 .1 .1 .0)
-    (λ c. default-of (kind-of (c .before)) .offer .kept .1 .1 .1 .1 .1 .1 .0)
+    (λ c. default-of (kind-of (c .before)) .offer-default .kept .1 .1 .1 .1 .0)
+    (λ c. default-of (kind-of (c .before)) .offer-default .kept .1 .1 .1 .1 .1 .0)
+    (λ c. default-of (kind-of (c .before)) .offer-default .kept .1 .1 .1 .1 .1 .1 .0)
     returns-3)

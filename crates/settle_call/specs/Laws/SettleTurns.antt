@@ -23,7 +23,7 @@ use Rattle.pool.specs.Laws.Laid.{laid-shifted, shifted-length}
 use Rattle.passing.specs.Tabled.{deckOf}
 use Rattle.passing.specs.Judged.{shape}
 use Rattle.firing.specs.Firing.{committed}
-use Rattle.index.specs.Index.{headsOf}
+use Rattle.index.specs.Index.{headsOf, lostOf}
 use Rattle.pool.specs.Laws.Good.{count-bounded}
 use Rattle.offers.specs.Queue.{heldOf, Room}
 use Rattle.steps.specs.Laws.Looking.{tail-back}
@@ -191,7 +191,7 @@ module _ {s : List ℕ} {k : Counted.Deck} {rules parts : List ℕ} {C : ℕ} wh
           let roomy = r .index in
           let below = not-all some in
           record {
-            bounded = omega (arith, r .bounded, below);
+            bounded = omega (arith, r .bounded, below, ap lostOf (c .hole));
             places = omega (arith, t .places, pool-long, length-drop (10 * (made + 1)) pool₁);
             index = record {
               some = omega (arith, roomy .some, c .index);
@@ -232,6 +232,7 @@ module _ {s : List ℕ} {k : Counted.Deck} {rules parts : List ℕ} {C : ℕ} wh
                   ready = record { tables = w .ready .tables; memo = c .memo };
                   acyclic = w .acyclic;
                   room = next-room;
+                  whole = c .hole ∙ w .whole;
                   machine = committed (deckOf s) 0 (w .machine) .machine;
                   stored = st;
                 };

@@ -4,7 +4,7 @@ use Prim.Native.Nat.{ℕ, _+_, _-_, _<_, _≤_}
 use mathlib.Core.Path.{_≡_, sym, ap, _∙_}
 use mathlib.Core.Bool.{true, _&&_}
 use mathlib.Core.List.{List}
-use native.Mathlib.Nat.{le-add-right, lt-of-lt-of-le}
+use native.Mathlib.Nat.{le-add-right}
 use native.Mathlib.Numerals.{add-one-dec}
 use native.Mathlib.Omega.{arith}
 use lib.ListN.{length}
@@ -20,23 +20,22 @@ use Rattle.charge.specs.Memo.{Answered}
 use Rattle.pool.specs.Updates.{channels}
 use Rattle.pool.specs.Places.{updateOf, wellWritten}
 use Rattle.pool.specs.States.{known}
-use Rattle.index.specs.Hash.{bucketOf}
-use Rattle.index.specs.Index.{headsOf}
-use Rattle.index.specs.Laws.Entering.{roomy-heads}
+use Rattle.index.specs.Index.{Entering}
+use Rattle.index.specs.Laws.Entering.{roomy-heads, entering-inside, entering-done}
 use Rattle.states.specs.Answer.{IfFit, Holds, PlaceGives}
 use Rattle.states.specs.Laws.Places.{Place, place-of}
 use Rattle.states.specs.Laws.Charges.{holds-part, holds-charge}
-use Rattle.states.proofs.Adding.{Adding, lent, lent-length, adding-none, adding-unfit, adding-place, adding-heads, adding-room}
+use Rattle.states.proofs.Adding.{Adding, lent, lent-length, adding-none, adding-unfit, adding-place, adding-heads, adding-number, adding-entering}
 use Rattle.states.proofs.Adding.{adding-twice, adding-more, adding-all}
 use Rattle.states.proofs.weigh.Statement.{statement}
 use Rattle.states.proofs.weigh.Tie as tie
 
 abbrev Inv-loop : tie.InvT-loop
-Inv-loop rules parts memo₀ channels count parts-count pool pending index₀ heads total₀ k₀ memo index total k =
+Inv-loop rules parts memo₀ channels count parts-count pool pending index₀ total₀ k₀ memo index total k =
     Adding (shapeOf rules parts channels count parts-count) pending pool index₀ memo index total k
 
 abbrev μ-loop : tie.MeasureT-loop
-μ-loop rules parts memo₀ channels count parts-count pool pending index₀ heads total₀ k₀ memo index total k = pending - k
+μ-loop rules parts memo₀ channels count parts-count pool pending index₀ total₀ k₀ memo index total k = pending - k
 
 -- the deck by its tables, and the way back to the place at hand and to the start
 abbrev deckOf : tie.Start Inv-loop μ-loop → Deck
@@ -60,11 +59,8 @@ charge-of c = c .before .before .before
 abbrev turn-of : tie.After-capped-sum Inv-loop μ-loop → tie.At-loop Inv-loop μ-loop
 turn-of c = loop-of (fit-of (charge-of c) .before)
 
-abbrev sum-of : tie.After-bucket Inv-loop μ-loop → tie.After-capped-sum Inv-loop μ-loop
-sum-of c = c .before .before
-
-abbrev bucket-of : tie.After-find Inv-loop μ-loop → tie.After-bucket Inv-loop μ-loop
-bucket-of c = c .before .before .before
+abbrev sum-of : tie.After-find-first Inv-loop μ-loop → tie.After-capped-sum Inv-loop μ-loop
+sum-of c = c .before .before .before
 
 abbrev lent-at : tie.At-loop Inv-loop μ-loop → List ℤ
 lent-at c = lent (c .loop .k) (start-of c .args .pool .now)
@@ -117,17 +113,6 @@ charged c =
     holds-charge (deckOf s) (a .parts-count) (shape-N (a .rules .now) (a .parts .now) (a .channels) (a .count) (a .parts-count)) _ (holds f)
     few (c .before .before .number-at .ensures) (fitting f .1)
 
--- its bucket
-bucketed : (c : tie.After-bucket Inv-loop μ-loop)
-    → let t = turn-of (sum-of c) in
-    (c .bucket .result < headsOf (t .loop .index)) × (c .bucket .result ≡ bucketOf (headsOf (t .loop .index)) (lent-at t))
-unfolding headsOf
-bucketed c =
-    let t = turn-of (sum-of c) in
-    let s = start-of t in
-    let e = adding-heads _ (s .args .pending) (s .args .pool .now) (t .loop .inv) in
-    (omega (arith, c .bucket .ensures .1, e), c .bucket .ensures .0 ∙ ap (λ n. bucketOf n (lent-at t)) (sym e))
-
 loop-holds : tie.Need-loop-holds Inv-loop μ-loop
 loop-holds c =
     let s = c .before .before .before .before in
@@ -164,61 +149,70 @@ capped-sum-requires c κs =
     let u = c .before .before in
     (omega (arith, loop-of (fit-of u .before) .loop .inv .same), omega (arith, u .update-charge .ensures .value))
 
-bucket-requires : tie.Need-bucket-requires Inv-loop μ-loop
-unfolding headsOf
-bucket-requires c κs =
-    let f = fit-of (charge-of (c .before)) in
-    let r = roomy-heads (start-of (loop-of (f .before)) .pre .4) in
-    (holds f .long, r .0, r .1)
-
-find-requires : tie.Need-find-requires Inv-loop μ-loop
-find-requires c κs =
-    let b = c .before .before in
-    let f = fit-of (charge-of (sum-of b)) in
+find-first-requires : tie.Need-find-first-requires Inv-loop μ-loop
+find-first-requires c κs =
+    let f = fit-of (charge-of (c .before .before)) in
     let t = loop-of (f .before) in
-    (holds f .long, placed (turn-in f) .before, bucketed b .0, bucketed b .1, t .loop .inv .indexed)
+    let s = start-of t in
+    let i = t .loop .inv in
+    let h = adding-heads _ (s .args .pending) (s .args .pool .now) i in
+    let r = roomy-heads (s .pre .4) in (
+      record {
+        long = holds f .long;
+        room = placed (turn-in f) .before;
+        some = omega (arith, h, r .0);
+        most = omega (arith, h, r .1);
+        indexed = i .indexed;
+        few = adding-number _ (s .args .pending) (s .args .pool .now) i (inside (f .before)) (s .pre .3);
+      },
+      i .whole,
+    )
 
 returns-2 : tie.Need-returns-2 Inv-loop μ-loop
 returns-2 c =
-    let u = charge-of (sum-of (bucket-of (c .before))) in
+    let u = charge-of (sum-of (c .before)) in
     let f = fit-of u in
     let t = loop-of (f .before) in
     let s = start-of t in
     adding-twice _ (s .args .pending) (s .args .pool .now) (t .loop .inv) (inside (f .before)) (fitting f .0) (charged u (u .update-charge .ensures))
-    (c .before .find .ensures)
-    (c .if2 .taken)
+    (c .before .find-first .ensures .found (c .if2 .taken))
+
+-- the place can be entered where the search ended
+entering : (c : tie.Else2 Inv-loop μ-loop)
+    → let t = turn-of (sum-of (c .before)) in
+    Entering (t .loop .k) (lent-at t) (c .before .find-first .result) (t .loop .index)
+entering c =
+    let f = fit-of (charge-of (sum-of (c .before))) .before in
+    let t = loop-of f in
+    let s = start-of t in
+    adding-entering _ (s .args .pending) (s .args .pool .now) (t .loop .inv) (inside f) (s .pre .3) (s .pre .4) (c .before .find-first .ensures .ends (c .if2 .left))
 
 note-requires : tie.Need-note-requires Inv-loop μ-loop
-note-requires c κs =
-    let b = bucket-of (c .before .before) in
-    let f = fit-of (charge-of (sum-of b)) .before in
-    let t = loop-of f in
-    let s = start-of t in (
-      bucketed b .0,
-      adding-room _ (s .args .pending) (s .args .pool .now) (t .loop .inv) (inside f) (s .pre .4),
-      lt-of-lt-of-le (inside f) (s .pre .3),
-    )
+note-requires c κs = let w = entering (c .before) in (w .few, entering-inside w)
+
+-- behind the entering
+abbrev new-of : tie.After-slice-known4 Inv-loop μ-loop → tie.Else2 Inv-loop μ-loop
+new-of c = c .before .before .before .before
 
 add-k : tie.Need-add-k Inv-loop μ-loop
 add-k c =
-    let f = fit-of (charge-of (sum-of (bucket-of (c .before .before .before .before .before)))) .before in
+    let f = fit-of (charge-of (sum-of (new-of c .before))) .before in
     next-fits _ _ (inside f) (start-of (loop-of f) .pre .3)
 
 loop-less : tie.Need-loop-less Inv-loop μ-loop
-loop-less c = add-one-dec _ _ (inside (fit-of (charge-of (sum-of (bucket-of (c .before .before .before .before .before)))) .before))
+loop-less c = add-one-dec _ _ (inside (fit-of (charge-of (sum-of (new-of c .before))) .before))
 
 loop-again : tie.Need-loop-again Inv-loop μ-loop
 loop-again c =
-    let n = c .before .before in
-    let i = n .before .before in
-    let b = bucket-of (i .before) in
-    let u = charge-of (sum-of b) in
+    let i = new-of c in
+    let w = sum-of (i .before) in
+    let u = charge-of w in
     let f = fit-of u in
     let t = loop-of (f .before) in
     let s = start-of t in
-    rw (n .note .ensures)
+    rw (c .before .before .note .ensures)
     (adding-more _ (s .args .pending) (s .args .pool .now) (t .loop .inv) (inside (f .before)) (fitting f .0) (charged u (u .update-charge .ensures))
-    (i .before .find .ensures) (sum-of b .capped-sum .ensures) (i .if2 .left) (bucketed b .0) (s .pre .4) (bucketed b .1))
+    (w .capped-sum .ensures) (i .before .find-first .ensures .none (i .if2 .left)) (entering-done (entering i)))
 
 -- the memo keeps its length
 same-length : (c : tie.At-loop Inv-loop μ-loop) → length (c .loop .memo) ≡ length (start-of c .args .memo .now)
@@ -226,7 +220,7 @@ same-length c = c .loop .inv .memo .long ∙ sym (start-of c .pre .0 .memo .long
 
 same-length-3 : tie.Need-same-length-3 Inv-loop μ-loop
 same-length-3 c =
-    let u = charge-of (sum-of (bucket-of (c .before))) in
+    let u = charge-of (sum-of (c .before)) in
     u .update-charge .ensures .memo .long ∙ sym (start-of (loop-of (fit-of u .before)) .pre .0 .memo .long)
 
 returns-3 : tie.Need-returns-3 Inv-loop μ-loop
@@ -259,18 +253,13 @@ weigh-spec =
     number-at-requires
     update-charge-requires
     capped-sum-requires
-    (λ c. placed (turn-in (fit-of (charge-of c))) .bytes)
+    (λ c. placed (turn-in (fit-of (charge-of (c .before)))) .bytes)
     (λ c. le-add-right _ _)
     (λ c. le-add-right _ _)
-    (λ c. placed (turn-in (fit-of (charge-of c))) .inside)
-    bucket-requires
-    (λ c. placed (turn-in (fit-of (charge-of (sum-of (c .before))))) .bytes)
-    (λ c. le-add-right _ _)
-    (λ c. le-add-right _ _)
-    (λ c. placed (turn-in (fit-of (charge-of (sum-of (c .before))))) .inside)
-    find-requires
+    (λ c. placed (turn-in (fit-of (charge-of (c .before)))) .inside)
+    find-first-requires
     same-length-3
-    (λ c. turn-of (sum-of (bucket-of (c .before))) .loop .inv .long)
+    (λ c. turn-of (sum-of (c .before)) .loop .inv .long)
     returns-2
     note-requires
     add-k

@@ -5,7 +5,7 @@ use native.Mathlib.Omega.{arith}
 use lib.ListN.{length}
 use lib.Seq.{length-take-le}
 use Rattle.steps.specs.Laws.Looking.{few-fits, looks-inside}
-use Rattle.steps.specs.Laws.Committing.{commit-looking, commit-long, commit-left, commit-finishing, commit-done, commit-room}
+use Rattle.steps.specs.Laws.Committing.{commit-looking, commit-long, commit-left, commit-finishing, commit-done, commit-room, commit-some}
 use Rattle.steps.proofs.commit.Statement.{statement}
 use Rattle.steps.proofs.commit.Tie as tie
 
@@ -20,7 +20,7 @@ take-out-requires c κs =
 forget-requires : tie.Need-forget-requires
 forget-requires c κs =
     let s = c .before .before .before .before .before .before .before .before .before .before .before .before .before .before .before .before .before .before in
-    (s .pre .1, commit-room (s .pre .0) .1, commit-room (s .pre .0) .2)
+    (omega (arith, s .pre .1, commit-room (s .pre .0) .1), commit-room (s .pre .0) .2)
 
 sub-left : tie.Need-sub-left
 sub-left c =
@@ -66,6 +66,7 @@ commit-spec =
     forget-requires
     sub-left
     (λ c. few-fits _ (c .before .before .before .before .before .before .before .before .before .before .before .before .before .look .ensures .few))
+    (λ c. let s = c .before .before .before .before .before .before .before .before .before .before .before .before .before .before .before .before .before .before .before .before .before .before .before .before .before .before in commit-some (s .pre .0) (some (s .args .k) _ (s .pre .1)))
     (λ c. pairs-inside (c .before .before .before .before .before .before .before .before .before .before .before .before .before .before .before .before))
     held-long
     (λ c. let s = c .before .before .before .before .before .before .before .before .before .before .before .before .before .before .before .before .before .before .before .before .before .before .before .before .before .before .before .before in some (s .args .k) _ (s .pre .1))

@@ -4,7 +4,7 @@ use mathlib.Core.Path.{_≡_, refl, sym, ap, ap₂, _∙_, subst}
 use mathlib.Core.Bool.{Bool, true, false, not}
 use mathlib.Core.List.{List, _++_}
 use native.Mathlib.Omega.{arith}
-use lib.ListN.{length, take, drop, length-append, length-take, length-drop}
+use lib.ListN.{length, take, drop, set, length-append, length-take, length-drop, length-set}
 use lib.IntN.{ℤ}
 use Rattle.lists.specs.Lists.{all, filter, below, eqZ}
 use Rattle.lists.specs.Bits.{maskOf}
@@ -25,14 +25,15 @@ use Rattle.passing.specs.Tabled.{deckOf, Tabled}
 use Rattle.passing.specs.Judged.{shape}
 use Rattle.firing.specs.Firing.{fired, changed, enqueue, setAndFire, pick, without, committed}
 use Rattle.firing.specs.Laws.Commits.{Known, pick-known, commit-falls, commit-fine, without-charge}
-use Rattle.index.specs.Index.{headsOf, Roomy, forgotten}
+use Rattle.index.specs.Index.{headsOf, holeOf, Roomy}
+use Rattle.index.specs.Laws.Entering.{lost-few}
 use Rattle.offers.specs.Queue.{Held, heldOf, Kept, Room, SameSize, Grown}
 use Rattle.reactions.specs.Reactions.{Reacting, Reacted, Reacts}
 use Rattle.offers.specs.Stored.{Stored, Committing}
 use Rattle.steps.specs.Commits.{Looking, Looks, Without, Finishing, Finishes, Commits, CommitsFront}
 use Rattle.offers.specs.Laws.Queue.{same-size, size-then, room-same}
 use Rattle.reactions.specs.Laws.Reacting.{changed-low}
-use Rattle.steps.specs.Laws.Looking.{taken-charge, without-kept, without-size, front-kept}
+use Rattle.steps.specs.Laws.Looking.{taken-charge, without-kept, without-long, front-kept}
 use Rattle.offers.specs.declared.Queue.{Queue}
 
 -- ---- what the definition makes of place j
@@ -259,13 +260,19 @@ module _ {s : List ℕ} {k : Counted.Deck} {rules parts memo : List ℕ} {held :
   pub commit-long : length vs ≡ 512
   commit-long = ap length (w .stored .values) ∙ w .stored .fine .long
 
-  -- the pending places lie in the pool, and their links in the index
-  pub commit-room : (10 * pending ≤ length (held .pool)) × (pending ≤ 65535) × (headsOf (held .index) + pending ≤ length (held .index))
+  -- there is a place where something is pending
+  pub commit-some : 0 < pending → 1 ≤ C
+  commit-some h =
+      let st = w .stored in
+      omega (arith, h, st .count, count-bounded (deckOf s) (w .machine .pending), st .fine .bounded)
+
+  -- the pending places lie in the pool, their number is small, and there is an index
+  pub commit-room : (10 * pending ≤ length (held .pool)) × (pending ≤ 65535) × (0 < length (held .index))
   commit-room =
       let st = w .stored in
       let few : pending ≤ C = omega (arith, st .count, count-bounded (deckOf s) (w .machine .pending), st .fine .bounded) in
       let r = w .room in
-      (omega (arith, few, r .places), omega (arith, few, r .bounded), omega (arith, few, r .index .links))
+      (omega (arith, few, r .places), omega (arith, few, r .bounded), omega (arith, r .index .some))
 
 module _ {s : List ℕ} {k : Counted.Deck} {rules parts memo : List ℕ} {held : Held} {C : ℕ} {vs : List ℤ} {pending total : ℕ}
     (w : Committing s k rules parts memo held C vs pending total) (j : ℕ) (h : j < pending) where
@@ -336,43 +343,73 @@ module _ {s : List ℕ} {k : Counted.Deck} {rules parts memo : List ℕ} {held :
 module _ {s : List ℕ} {k : Counted.Deck} {rules parts memo index : List ℕ} {pool : List ℤ} {C : ℕ} {vs : List ℤ} {pending total : ℕ}
     (w : Committing s k rules parts memo (heldOf 0 index pool) C vs pending total) (j : ℕ) (h : j < pending) where
   abbrev out : Held
-  out = heldOf 0 (forgotten index pending j) (removed pool pending j)
+  out = heldOf 0 (set index (length index - 1) (suc j)) (removed pool pending j)
 
-  out-size : SameSize (heldOf 0 index pool) out
-  out-size =
+  some-place : 1 ≤ C
+  some-place = commit-some w (omega arith)
+
+  out-pool : length (removed pool pending j) ≡ length pool
+  out-pool =
       let us = w .machine .pending in
       let st = w .stored in
-      subst (λ n. SameSize (heldOf 0 index pool) (heldOf 0 (forgotten index n j) (removed pool n j))) (sym (st .count))
-      (without-size index pool us (st .kept) j (omega (arith, h, st .count)))
+      subst (λ n. length (removed pool n j) ≡ length pool) (sym (st .count))
+      (without-long index pool us (st .kept) (w .whole) j (omega (arith, h, st .count)) (commit-room w .2))
+
+  out-index : length (out .index) ≡ length index
+  out-index = length-set index (length index - 1) (suc j)
+
+  out-room : Room (C - 1) out
+  unfolding headsOf
+  out-room =
+      let r = w .room in
+      let roomy = r .index in
+      record {
+        bounded = omega (arith, r .bounded, some-place, lost-few (holeOf (out .index)));
+        places = omega (arith, r .places, out-pool);
+        index = record {
+          some = omega (arith, roomy .some, out-index);
+          few = omega (arith, roomy .few, out-index);
+          links = omega (arith, roomy .links, out-index, some-place);
+        };
+      }
 
   out-kept : (us : List Update) → pending ≡ length us → Kept (heldOf 0 index pool) us → Kept out (without j us)
   out-kept us n x =
-      subst (λ n. Kept (heldOf 0 (forgotten index n j) (removed pool n j)) (without j us)) (sym n)
-      (without-kept index pool us x j (omega (arith, h, n)))
+      subst (λ n. Kept (heldOf 0 (set index (length index - 1) (suc j)) (removed pool n j)) (without j us)) (sym n)
+      (without-kept index pool us x (w .whole) j (omega (arith, h, n)) (commit-room w .2))
 
   module _ {m : List ℕ} {now back : List ℤ} {part n c mask : ℕ} (l : Looks (shape rules parts k) j vs pool m now back part n c mask) where
-    pub commit-finishing : Finishing s k rules parts m out C (take (2 * n) back) now part mask (pending - 1) (total - c)
-    commit-finishing = finishing-of w j h l C (omega arith) (room-same out-size (w .room)) out-kept
+    pub commit-finishing : Finishing s k rules parts m out (C - 1) (take (2 * n) back) now part mask (pending - 1) (total - c)
+    commit-finishing = finishing-of w j h l (C - 1) (omega (arith, some-place)) out-room out-kept
 
     pub commit-done : {m₂ : List ℕ} {held₂ : Held} {values : List ℤ} {left t : ℕ} {b : Bool}
-        → Finishes (deckOf s) (shape rules parts k) C (take (2 * n) back) now part mask (pending - 1) (total - c) out m₂ held₂ values left t b
+        → Finishes (deckOf s) (shape rules parts k) (C - 1) (take (2 * n) back) now part mask (pending - 1) (total - c) out m₂ held₂ values left t b
         → Commits (deckOf s) (shape rules parts k) C j (heldOf 0 index pool) vs pending total m₂ held₂ values left t b
     commit-done f =
         record {
-          result = λ x st. f .result j x (without-of w j h l x st C (omega arith) (out-kept (x .pending) (st .count) (st .kept)));
+          result = λ x st.
+              let r = f .result j x (without-of w j h l x st (C - 1) (omega (arith, some-place)) (out-kept (x .pending) (st .count) (st .kept))) in
+              let y = r .0 in (
+                record {
+                  fine = fine-wider (y .fine) C (omega (arith, some-place));
+                  values = y .values;
+                  count = y .count;
+                  kept = y .kept;
+                  charged = y .charged;
+                },
+                r .1,
+              );
           memo = f .memo;
-          size = size-then out-size (f .size);
+          index = f .size .index ∙ out-index;
+          pool = f .size .pool ∙ out-pool;
         }
 
 -- ---- place 0: the others stay
 
 module _ {s : List ℕ} {k : Counted.Deck} {rules parts memo : List ℕ} {gone : ℕ} {index : List ℕ} {pool : List ℤ} {C : ℕ} {vs : List ℤ} {pending total : ℕ}
     (w : Committing s k rules parts memo (heldOf gone index pool) C vs pending total) (h : 0 < pending) where
-  -- there is a place, since something is pending
   some-room : 1 ≤ C
-  some-room =
-      let st = w .stored in
-      omega (arith, h, st .count, count-bounded (deckOf s) (w .machine .pending), st .fine .bounded)
+  some-room = commit-some w h
 
   pub front-some : (1 ≤ C) × (10 ≤ length pool) × (gone ≤ 65534)
   front-some = (some-room, omega (arith, some-room, w .room .places), omega (arith, some-room, w .room .bounded))
@@ -390,7 +427,7 @@ module _ {s : List ℕ} {k : Counted.Deck} {rules parts memo : List ℕ} {gone :
 
   front-of : (us : List Update) → pending ≡ length us → Kept (heldOf gone index pool) us
       → Kept (heldOf (gone + 1) index (drop 10 pool)) (without 0 us)
-  front-of us n x = front-kept gone index pool us x (omega (arith, h, n))
+  front-of us n x = front-kept gone index pool us x (w .whole) (omega (arith, h, n))
 
   module _ {m : List ℕ} {now back : List ℤ} {part n c mask : ℕ} (l : Looks (shape rules parts k) 0 vs pool m now back part n c mask) where
     pub front-finishing : Finishing s k rules parts m (heldOf (gone + 1) index (drop 10 pool)) (C - 1) (take (2 * n) back) now part mask (pending - 1) (total - c)
@@ -406,5 +443,6 @@ module _ {s : List ℕ} {k : Counted.Deck} {rules parts memo : List ℕ} {gone :
           memo = f .memo;
           gone = refl;
           index = f .size .index;
+          hole = f .size .hole;
           pool = omega (arith, f .size .pool, length-drop 10 pool, w .room .places, some-room);
         }

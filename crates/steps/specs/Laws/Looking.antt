@@ -5,7 +5,7 @@ use mathlib.Core.Bool.{true}
 use mathlib.Core.List.{List, [], _∷_, _++_, append-nil}
 use native.Mathlib.Omega.{arith}
 use native.Mathlib.Nat.{le-refl}
-use lib.ListN.{length, getD, take, drop, length-take, length-drop, drop-of-length-le}
+use lib.ListN.{length, getD, take, drop, length-take, length-drop, drop-of-length-le, set}
 use lib.Seq.{take-all, drop-at}
 use lib.IntN.{ℤ, pos}
 use mir.Syntax.{w64}
@@ -31,11 +31,9 @@ use Rattle.firing.specs.Firing.{pick, without}
 use Rattle.firing.specs.Evaluated.{Assignable, Compared}
 use Rattle.firing.specs.Laws.Commits.{without-charge}
 use Rattle.passing.specs.Judged.{shape}
-use Rattle.index.specs.Hash.{bucketOf}
-use Rattle.index.specs.Index.{headsOf, Indexed, keysOf, forgotten}
-use Rattle.index.specs.Laws.Indexed.{indexed-front, indexed-forgotten, forgotten-length}
-use Rattle.index.specs.Laws.Keys.{keys-length, keys-without}
-use Rattle.offers.specs.Queue.{heldOf, Kept, SameSize}
+use Rattle.index.specs.Index.{holeOf, Indexed, rowsOf}
+use Rattle.index.specs.Laws.Indexed.{indexed-front, indexed-taken, rows-length, rows-without}
+use Rattle.offers.specs.Queue.{heldOf, Kept}
 use Rattle.steps.specs.Commits.{Looking, Looks}
 use Rattle.steps.specs.Laws.Applying.{held-few, held-assignable, held-long, held-update, held-back, held-undone, held-changes}
 
@@ -157,59 +155,34 @@ module _ {k : Counted.Deck} {rules parts memo : List ℕ} {pool : List ℤ} {pen
 -- ---- the others
 
 -- place j is taken out, and later places move down
-module _ (index : List ℕ) (pool : List ℤ) (us : List Update) (x : Kept (heldOf 0 index pool) us) (j : ℕ) (h : j < length us) where
-  heads : ℕ
-  heads = headsOf index
-
-  count : length (keysOf heads us) ≡ length us
-  count = keys-length heads us
-
-  links : headsOf index + length us ≤ length index
-  unfolding heads
-  links = omega (arith, x .indexed .room, count)
-
-  same-heads : headsOf (forgotten index (length us) j) ≡ heads
-  unfolding headsOf heads
-  same-heads = ap (λ n. n / 3) (forgotten-length index (length us) j h links)
-
-  others-indexed : Indexed 0 (take j (keysOf heads us) ++ drop (suc j) (keysOf heads us)) (forgotten index (length us) j)
-  unfolding heads
-  others-indexed =
-      subst (λ n. Indexed 0 (take j (keysOf heads us) ++ drop (suc j) (keysOf heads us)) (forgotten index n j)) count
-      (indexed-forgotten (x .indexed) j (omega (arith, count, h)))
-
-  pub without-kept : Kept (heldOf 0 (forgotten index (length us) j) (removed pool (length us) j)) (without j us)
+module _ (index : List ℕ) (pool : List ℤ) (us : List Update) (x : Kept (heldOf 0 index pool) us) (whole : holeOf index ≡ 0) (j : ℕ)
+    (h : j < length us) (some : 0 < length index) where
+  pub without-kept : Kept (heldOf 0 (set index (length index - 1) (suc j)) (removed pool (length us) j)) (without j us)
   unfolding without
   without-kept =
       record {
         laid = laid-removed (x .laid) j h;
         indexed =
-            subst (λ ks. Indexed 0 ks (forgotten index (length us) j))
-            (sym (keys-without heads j us) ∙ ap (λ n. keysOf n (take j us ++ drop (suc j) us)) (sym same-heads))
-            others-indexed;
+            subst (λ ks. Indexed 0 ks (set index (length index - 1) (suc j))) (sym (rows-without j us))
+            (indexed-taken (x .indexed) whole j (omega (arith, rows-length us, h)) some);
       }
 
-  pub without-size : SameSize (heldOf 0 index pool) (heldOf 0 (forgotten index (length us) j) (removed pool (length us) j))
-  without-size =
-      record {
-        gone = refl;
-        index = forgotten-length index (length us) j h links;
-        pool = removed-length (x .laid) j h;
-      }
+  pub without-long : length (removed pool (length us) j) ≡ length pool
+  without-long = removed-length (x .laid) j h
 
-front-key : (n : ℕ) (us : List Update) → 0 < length us → keysOf n us ≡ bucketOf n (place (pick 0 us)) ∷ keysOf n (drop 1 us)
-unfolding keysOf pick
-front-key n [] h = absurd (omega arith)
-front-key n (u ∷ us) h = refl
+front-row : (us : List Update) → 0 < length us → rowsOf us ≡ place (pick 0 us) ∷ rowsOf (drop 1 us)
+unfolding rowsOf pick
+front-row [] h = absurd (omega arith)
+front-row (u ∷ us) h = refl
 
 -- the one at the front is gone, and the others stay
-pub front-kept : (gone : ℕ) (index : List ℕ) (pool : List ℤ) (us : List Update) → Kept (heldOf gone index pool) us → 0 < length us
-    → Kept (heldOf (gone + 1) index (drop 10 pool)) (without 0 us)
+pub front-kept : (gone : ℕ) (index : List ℕ) (pool : List ℤ) (us : List Update) → Kept (heldOf gone index pool) us → holeOf index ≡ 0
+    → 0 < length us → Kept (heldOf (gone + 1) index (drop 10 pool)) (without 0 us)
 unfolding without
-front-kept gone index pool us x h =
+front-kept gone index pool us x whole h =
     record {
       laid = laid-front us (x .laid) h;
-      indexed = indexed-front (subst (λ ks. Indexed gone ks index) (front-key (headsOf index) us h) (x .indexed));
+      indexed = indexed-front whole (subst (λ ks. Indexed gone ks index) (front-row us h) (x .indexed));
     }
 
 -- ---- a tail of the pool, as it is lent and as it comes back

@@ -1,93 +1,85 @@
--- `updates::evaluate` meets its contract. The loop's invariant: i assignments of the action are written, and the others stand at
--- `place`. Assumes nothing.
-use Prim.Native.Nat.{ℕ, _+_, _-_, _≤_, _<_}
+-- `updates::evaluate` meets its contract. An action of one assignment is evaluated by `evaluate_one`. The loop's invariant: i
+-- assignments of the action are written, and the others stand at `place`. Assumes nothing.
+use Prim.Native.Nat.{_+_, _-_, _≤_, _<_}
 use mathlib.Core.Path.{_≡_, refl}
-use mathlib.Core.List.{List}
 use native.Mathlib.Omega.{arith}
 use lib.ListN.{length, getD}
-use mir.Syntax.{w32}
-use mir.ValLaws.{toZ-ofZ}
 use borrow.Author.Needs.{needs}
-use Rattle.expression.specs.Reading.{Scope}
 use Rattle.expression.specs.Answers.{scope}
 use Rattle.deck.specs.Deck.{Action}
-use Rattle.deck.specs.Layout.{action}
-use Rattle.deck.specs.Laws.Points.{ReadsAt}
-use Rattle.firing.specs.Laws.Lined.{ActionStands, action-stands}
-use Rattle.firing.specs.Laws.Written.{Writing, Turn, writing-none, writing-next, writing-end}
-use Rattle.updates.proofs.Naturals.{cast-small}
+use Rattle.firing.specs.Laws.Lined.{ActionStands}
+use Rattle.firing.specs.Laws.Written.{Writing, Turn}
+use Rattle.updates.proofs.Rows.{Reading, stands-there, row-begun, row-turn, row-turned, row-ended}
 use Rattle.updates.proofs.evaluate.Statement.{statement}
 use Rattle.updates.proofs.evaluate.Tie as tie
 
 abbrev Inv-loop : tie.InvT-loop
-Inv-loop deck at part own far row₀ count place₀ i₀ row place i =
+Inv-loop deck at part own far count row₀ place₀ i₀ row place i =
     (i ≤ count) × (count ≤ 4) × (count ≡ getD deck at 0)
-    × ((a : Action) → ReadsAt deck (action (scope (length own) (length far))) at a → Writing own far part deck a row place i)
+    × ((a : Action) → Reading own far deck at a → Writing own far part deck a row place i)
 
 abbrev μ-loop : tie.MeasureT-loop
-μ-loop deck at part own far row₀ count place₀ i₀ row place i = count - i
+μ-loop deck at part own far count row₀ place₀ i₀ row place i = count - i
 
--- what the deck holds, and the readings of an action that the contract speaks of
-abbrev deck-of : tie.Start Inv-loop μ-loop → List ℕ
-deck-of s = s .args .deck .now
+-- what stands at the offset
+there : (s : tie.Start Inv-loop μ-loop) → let x = s .args in
+    ActionStands (scope (length (x .own .now)) (length (x .far .now))) (x .deck .now) (x .at) (s .pre .0 .0)
+there s = let x = s .args in stands-there (x .own .now) (x .far .now) (x .deck .now) (x .at) (s .pre .0 .0) (s .pre .0 .1)
 
-abbrev scope-of : tie.Start Inv-loop μ-loop → Scope
-scope-of s = scope (length (s .args .own .now)) (length (s .args .far .now))
+-- seen from a turn: the start, the readings of the action, and the assignment of the turn
+abbrev start-of : tie.In-loop Inv-loop μ-loop → tie.Start Inv-loop μ-loop
+start-of k = k .before .before .before .before .before
 
-abbrev Reading : tie.Start Inv-loop μ-loop → Action → Type 0
-Reading s a = ReadsAt (deck-of s) (action (scope-of s)) (s .args .at) a
+abbrev ReadingOf : tie.In-loop Inv-loop μ-loop → Action → Type 0
+ReadingOf k a = let x = start-of k .args in Reading (x .own .now) (x .far .now) (x .deck .now) (x .at) a
 
-stands-there : (s : tie.Start Inv-loop μ-loop) (a : Action) → Reading s a → ActionStands (scope-of s) (deck-of s) (s .args .at) a
-stands-there s a r = action-stands (scope-of s) (deck-of s) (s .args .at) a r
-
-there : (s : tie.Start Inv-loop μ-loop) → ActionStands (scope-of s) (deck-of s) (s .args .at) (s .pre .0 .0)
-there s = stands-there s (s .pre .0 .0) (s .pre .0 .1)
-
--- the assignment of a turn
-abbrev TurnOf : (k : tie.In-loop Inv-loop μ-loop) → Action → Type 0
+abbrev TurnOf : tie.In-loop Inv-loop μ-loop → Action → Type 0
 TurnOf k a =
-    let s = k .before .before .before .before in
+    let x = start-of k .args in
     let l = k .before .loop in
-    Turn (s .args .own .now) (s .args .far .now) (s .args .part) (deck-of s) a (l .row) (l .place) (l .i)
+    Turn (x .own .now) (x .far .now) (x .part) (x .deck .now) a (l .row) (l .place) (l .i)
 
-turn-of : (k : tie.In-loop Inv-loop μ-loop) (a : Action) → Reading (k .before .before .before .before) a → TurnOf k a
+turn-of : (k : tie.In-loop Inv-loop μ-loop) (a : Action) → ReadingOf k a → TurnOf k a
 turn-of k a r =
-    let s = k .before .before .before .before in
+    let x = start-of k .args in
     let l = k .before .loop in
-    let h = stands-there s a r in
-    writing-next (s .args .own .now) (s .args .far .now) (s .args .part) (deck-of s) a (l .row) (l .place) (l .i)
-    (omega (arith, h .count)) (l .inv .3 a r)
+    row-turn (x .own .now) (x .far .now) (x .deck .now) (x .at) a r (x .part) (l .row) (l .place) (l .i)
+    (l .inv .3 a r) (omega arith)
 
-turn : (k : tie.In-loop Inv-loop μ-loop) → TurnOf k (k .before .before .before .before .pre .0 .0)
-turn k = let s = k .before .before .before .before in turn-of k (s .pre .0 .0) (s .pre .0 .1)
+turn : (k : tie.In-loop Inv-loop μ-loop) → TurnOf k (start-of k .pre .0 .0)
+turn k = turn-of k (start-of k .pre .0 .0) (start-of k .pre .0 .1)
 
 read-count : tie.Need-shared-slice-read-count Inv-loop μ-loop
 read-count c = omega (arith, there (c .before .before) .inside)
-
-loop-holds : tie.Need-loop-holds Inv-loop μ-loop
-loop-holds c =
-    let s = c .before .before in
-    let x = s .args in
-    let h = there s in (
-      omega arith,
-      omega (arith, h .few, h .count),
-      refl,
-      λ a r.
-          rw (cast-small (x .part) (omega (arith, s .pre .1)), cast-small (getD (x .deck .now) (x .at) 0) (omega (arith, h .few, h .count)))
-          (writing-none (x .own .now) (x .far .now) (x .part) (x .deck .now) a (x .at) r),
-    )
-
-read-target : tie.Need-shared-slice-read-target Inv-loop μ-loop
-read-target c = omega (arith, turn (c .before) .inside)
 
 cast-count : tie.Need-cast-count Inv-loop μ-loop
 cast-count c =
     let s = c .before .before in
     record { fits = omega (arith, there s .count, there s .few) }
 
+evaluate-one-requires : tie.Need-evaluate-one-requires Inv-loop μ-loop
+evaluate-one-requires c κs = let s = c .before .before .before in (s .pre .0, s .pre .1, c .if1 .taken)
+
+cast-row-2 : tie.Need-cast-row-2 Inv-loop μ-loop
+cast-row-2 c = let s = c .before .before .before in record { sfits = omega (arith, there s .few, there s .count) }
+
+loop-holds : tie.Need-loop-holds Inv-loop μ-loop
+loop-holds c =
+    let s = c .before .before .before in
+    let x = s .args in
+    let h = there s in (
+      omega arith,
+      omega (arith, h .few, h .count),
+      refl,
+      λ a r. row-begun (x .own .now) (x .far .now) (x .deck .now) (x .at) a r (x .part) _ (s .pre .1) refl,
+    )
+
+read-target : tie.Need-shared-slice-read-target Inv-loop μ-loop
+read-target c = omega (arith, turn (c .before) .inside)
+
 -- the target of a turn is a byte
 byte : (k : tie.After-shared-slice-known3 Inv-loop μ-loop)
-    → getD (deck-of (k .before .before .before .before .before)) (k .before .before .loop .place) 0 < 256
+    → getD (start-of (k .before) .args .deck .now) (k .before .before .loop .place) 0 < 256
 byte k = omega (arith, k .shared-slice-known3 .given (k .before .before .loop .place))
 
 cast-target : tie.Need-cast-target Inv-loop μ-loop
@@ -101,31 +93,24 @@ cast-place c = record { fits = omega (arith, c .shared-slice-known4 .given (c .b
 
 loop-again : tie.Need-loop-again Inv-loop μ-loop
 loop-again c =
+    let value = c .before .number-from in
     let k = c .before .before in
-    let l = k .before .before in
-    let s = l .before .before .before in
-    let x = s .args in (
+    let l = k .before .before .loop in
+    let x = start-of (k .before) .args in (
       omega arith,
-      l .loop .inv .1,
-      l .loop .inv .2,
+      l .inv .1,
+      l .inv .2,
       λ a r.
-          let t = turn-of (k .before) a r in
-          rw (
-            cast-small (getD (x .deck .now) (l .loop .place) 0) (omega (arith, byte k)),
-            toZ-ofZ w32 (c .before .number-from .result) (record { sfits = c .before .number-from .ok }),
-            t .target,
-            c .before .number-from .ensures (t .one .value) (t .value),
-          )
-          (t .next),
+          row-turned (x .own .now) (x .far .now) (x .part) (x .deck .now) a (l .row) (l .place) (l .i) (value .result)
+          (turn-of (k .before) a r) (byte k) (value .ok) (value .ensures),
     )
 
-returns : tie.Need-returns Inv-loop μ-loop
-returns c a r =
-    let l = c .before in
-    let s = l .before .before .before in
-    let x = s .args in
-    writing-end (x .own .now) (x .far .now) (x .part) (x .deck .now) a (l .loop .row) (l .loop .place) (l .loop .i)
-    (omega (arith, stands-there s a r .count)) (l .loop .inv .3 a r)
+returns-2 : tie.Need-returns-2 Inv-loop μ-loop
+returns-2 c a r =
+    let l = c .before .loop in
+    let x = c .before .before .before .before .before .args in
+    row-ended (x .own .now) (x .far .now) (x .deck .now) (x .at) a r (x .part) (l .row) (l .place) (l .i)
+    (l .inv .3 a r) (omega arith)
 
 pub evaluate-spec : {M : Type 1} → statement M
 evaluate-spec =
@@ -135,11 +120,13 @@ evaluate-spec =
     μ-loop
     read-count
     cast-count
+    evaluate-one-requires
+    (λ c. c .evaluate-one .ensures)
     (λ c. search needs)
     (λ c. search needs)
-    (λ c. omega (arith, there (c .before .before) .few, there (c .before .before) .count))
+    cast-row-2
     (λ c. omega arith)
-    (λ c. omega (arith, there (c .before .before) .inside))
+    (λ c. omega (arith, there (c .before .before .before) .inside))
     loop-holds
     read-target
     cast-target
@@ -161,4 +148,4 @@ evaluate-spec =
     (λ c. omega arith)
     (λ c. omega arith)
     loop-again
-    returns)
+    returns-2)
