@@ -3,7 +3,10 @@
 use reaction::{Deck, Rig};
 use std::thread;
 
-const STACK: usize = 256 * 1024;
+/// With any pool, and with a pool of up to `SHORT` places.
+const STACK: usize = 512 * 1024;
+const SHORT_STACK: usize = 64 * 1024;
+const SHORT: u16 = 2048;
 
 /// A long chain of rules, the longest expressions, and charges beyond all bounds.
 const DECKS: [&[u8]; 3] = [
@@ -23,8 +26,11 @@ fn calls(bytes: &[u8], places: u16) {
 #[test]
 fn the_stack_of_the_header_is_enough() {
     for deck in DECKS {
-        for places in [1, 1024, 1025, 8192, 8193, u16::MAX] {
-            let thread = thread::Builder::new().stack_size(STACK).spawn(move || calls(deck, places));
+        for places in
+            [1, 64, 65, 256, 257, 1024, 1025, SHORT, SHORT + 1, 4096, 4097, 12_288, 12_289, u16::MAX]
+        {
+            let stack = if places <= SHORT { SHORT_STACK } else { STACK };
+            let thread = thread::Builder::new().stack_size(stack).spawn(move || calls(deck, places));
             thread.expect("a thread").join().expect("no overflow");
         }
     }
