@@ -77,6 +77,18 @@ not-one sc s at inside h = as-unknown (here sc s at inside refl) (sym (num-past 
 abbrev boundOf : Scope → ℕ → ℕ
 boundOf sc b = getD (256 ∷ sc .owns ∷ sc .fars ∷ 256 ∷ 256 ∷ 256 ∷ 256 ∷ []) b 0
 
+-- that of a number that names no channel
+pub bound-any : (own far b : ℕ) → b ≤ 6 → ¬ (b ≡ 1) → ¬ (b ≡ 2) → 256 ≡ getD (256 ∷ own ∷ far ∷ 256 ∷ 256 ∷ 256 ∷ 256 ∷ []) b 0
+bound-any own far =
+    each (λ b. ¬ (b ≡ 1) → ¬ (b ≡ 2) → 256 ≡ getD (256 ∷ own ∷ far ∷ 256 ∷ 256 ∷ 256 ∷ 256 ∷ []) b 0)
+    (λ n m. refl)
+    (λ n m. absurd (n refl))
+    (λ n m. absurd (m refl))
+    (λ n m. refl)
+    (λ n m. refl)
+    (λ n m. refl)
+    (λ n m. refl)
+
 -- the operator b, whose form is f, stands at a place of s, and a byte after it
 pub record Formed (s : List ℕ) (at b f : ℕ) : Type 0 where
   pub inside : 2 ≤ length s - at

@@ -2,7 +2,8 @@
 // the operands. The definitions are in `expression`. It answers the place after an expression, and 0 where there is none.
 ghost use mathlib.Core.Path.{_≡_};
 ghost use Prim.Native.Nat.{_+_, _<_, _≤_};
-ghost use lib.ListN.{length};
+ghost use mathlib.Core.List.{[], _∷_};
+ghost use lib.ListN.{length, getD};
 ghost use Rattle.expression.specs.Reading.{wholeNum, wholeTruth};
 ghost use Rattle.expression.specs.Answers.{Answers, scope, truthEnd, ofEnd, formOf, NumsEnd, endsAt, isGot};
 use expression::TruthOp;
@@ -17,6 +18,20 @@ fn form(b: usize) -> usize
     ensures { λ r. ⌜ r ≡ formOf b ⌝ }
 {
     ((FORMS >> (8 * b)) % 256) as usize
+}
+
+// What the byte behind an operator is below: the number of known channels, or that of all bytes.
+fn bound(b: usize, own: usize, far: usize) -> usize
+    requires { ⌜ b ≤ 6 ⌝ }
+    ensures { λ r. ⌜ r ≡ getD (256 ∷ own ∷ far ∷ 256 ∷ 256 ∷ 256 ∷ 256 ∷ []) b 0 ⌝ }
+{
+    if b == 1 {
+        return own;
+    }
+    if b == 2 {
+        return far;
+    }
+    256
 }
 
 // The end of so many numbers that stand one after the other from a place of s on, with so many own and far channels known. It
@@ -43,8 +58,8 @@ fn nums_end(s: &&[u8], at: usize, count: usize, own: usize, far: usize) -> usize
     if left < size {
         return 0;
     }
-    let bounds = [256, own, far, 256, 256, 256, 256];
-    if expression::wide(bytes[at + 1]) >= bounds[b] {
+    let limit = bound(b, own, far);
+    if expression::wide(bytes[at + 1]) >= limit {
         return 0;
     }
     nums_end(s, at + size, form / 16 + (count - 1), own, far)

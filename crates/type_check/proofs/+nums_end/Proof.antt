@@ -11,6 +11,7 @@ use Rattle.type_check.proofs.nums_end.Reads as nums-end
 use Rattle.type_check.proofs.nums_end.Kinds as nums-end-kinds
 use Rattle.type_check.proofs.+nums_end.Lts-nums_end as nums-end-lts
 use Rattle.type_check.proofs.form.Reads as form-reads
+use Rattle.type_check.proofs.bound.Reads as bound-reads
 use Rattle.expression.proofs.wide.Reads as wide-reads
 use Rattle.type_check.proofs.+nums_end.{statement}
 use Rattle.type_check.proofs.+nums_end.Tie.{close}
@@ -31,6 +32,8 @@ called t = (
   wide-reads.Learnt,
   form-reads.Asked,
   form-reads.Learnt,
+  bound-reads.Asked,
+  bound-reads.Learnt,
   nums-end-below t,
   nums-end.Post,
 )
@@ -72,23 +75,24 @@ pub +nums-end-spec : {M : Type 1} → statement M
     let a = first .before .args in
     no-first-num (scope (a .own) (a .far)) (a .s .now .now) (a .at) (a .count) (first .if1 .left)
     (cut-short (scope (a .own) (a .far)) (a .s .now .now) (a .at) (formed t (c .before)) (c .if4 .taken)))
+    (λ c κs. c .before .before .if3 .left)
     (λ c. search needs)
     (λ c. search needs)
     (λ c κs. search needs)
-    (λ c. search needs)
-    (λ c. search needs)
-    (λ c. let form = c .before .before .before .before in
+    (λ c. let b = c .before .before .before in
+    let form = b .before .before in
     let first = form .before .before .before .before .before .before in
     let a = first .before .args in
     no-first-num (scope (a .own) (a .far)) (a .s .now .now) (a .at) (a .count) (first .if1 .left)
-    (unknown-channel (scope (a .own) (a .far)) (a .s .now .now) (a .at) (formed t form) (rw (c .before .wide2 .ensures) at (c .if5 .taken))))
+    (unknown-channel (scope (a .own) (a .far)) (a .s .now .now) (a .at) (formed t form) (rw (c .before .wide2 .ensures, b .bound .ensures) at (c .if5 .taken))))
     (λ c. search needs)
     (λ c. search needs)
-    (λ c. record { fits = omega (arith, sized (formed t (c .before .before .before .before)) .few) })
-    (λ c κs. let z = sized (formed t (c .before .before .before .before)) in
+    (λ c. record { fits = omega (arith, sized (formed t (c .before .before .before .before .before)) .few) })
+    (λ c κs. let z = sized (formed t (c .before .before .before .before .before)) in
     (omega (arith, z .least), (omega (arith, z .least), omega arith, omega (arith, z .room))))
-    (λ c. let form = c .before .before .before .before .before in
+    (λ c. let b = c .before .before .before .before in
+    let form = b .before .before in
     let first = form .before .before .before .before .before .before in
     let a = first .before .args in
     goes-on (scope (a .own) (a .far)) (a .s .now .now) (a .at) (formed t form) _ (a .count) (first .if1 .left)
-    (c .before .before .before .before .if4 .left) (rw (c .before .before .wide2 .ensures) at (c .before .if5 .left)) (c .nums-end .ensures))
+    (b .before .if4 .left) (rw (c .before .before .wide2 .ensures, b .bound .ensures) at (c .before .if5 .left)) (c .nums-end .ensures))
