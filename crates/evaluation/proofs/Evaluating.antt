@@ -1,11 +1,13 @@
 -- Reading and then evaluating is evaluating straight: an operator's value is made of its operands' values. Assumes nothing.
-use Prim.Native.Nat.{ℕ, suc, _+_, _<_, _≤_}
+use Prim.Native.Nat.{ℕ, zero, suc, _+_, _<_, _≤_}
 use mathlib.Core.Path.{_≡_, refl, _∙_}
 use mathlib.Core.Bool.{Bool, not}
-use mathlib.Core.List.{List}
+use mathlib.Core.List.{List, [], _∷_}
 use native.Mathlib.Omega.{arith as numbers}
 use lib.IntN.{ℤ}
 use lib.ListN.{length, getD}
+use types.Run.{OneOf, miss}
+use denote.Enum.Declared.{tagOf}
 use Rattle.clamped.specs.Clamp.{negated}
 use Rattle.expression.specs.Syntax.{Num, literal, own, far, two, negation}
 use Rattle.expression.specs.Syntax.{Truth, opposite, both, compared}
@@ -16,6 +18,7 @@ use Rattle.expression.specs.declared.Arith.{Arith}
 use Rattle.expression.specs.declared.Join.{Join}
 use Rattle.expression.specs.declared.Compare.{Compare}
 use Rattle.expression.specs.declared.NumOp.{NumOp}
+use Rattle.expression.proofs.NumOp.{the-type}
 use Rattle.expression.specs.declared.NumOp.the-variants as OfNum
 use Rattle.expression.specs.declared.TruthOp.{TruthOp}
 use Rattle.expression.specs.declared.TruthOp.the-variants as OfTruth
@@ -114,6 +117,20 @@ module _ {o f : List ℤ} {s : List ℕ} {at : ℕ} {op : NumOp} (h : NumHere o 
 
     pub as-two-nothing : Answers (numAt o f) s (at + 1) nothing → Answers (numAt o f) s at nothing
     as-two-nothing = without-first (numAt o f) s at (h .inside) (numAt o f) (arith k) (step-num (OfNum.Two k) e)
+
+-- a byte past the leaves that is neither an operation's nor the negation's is no operator's; the numbers are those of the other variants
+abbrev Others : List ℕ
+Others = 0 ∷ 1 ∷ 2 ∷ 5 ∷ []
+
+pub past-leaves : (b : ℕ) → 3 ≤ b → OneOf Others (tagOf the-type (numOp b)) → numOp b ≡ OfNum.Unknown
+past-leaves zero l h = absurd (omega numbers)
+past-leaves (suc zero) l h = absurd (omega numbers)
+past-leaves (suc (suc zero)) l h = absurd (omega numbers)
+past-leaves (suc (suc (suc zero))) l h = absurd (miss Others 3 tt h)
+past-leaves (suc (suc (suc (suc zero)))) l h = absurd (miss Others 3 tt h)
+past-leaves (suc (suc (suc (suc (suc zero))))) l h = absurd (miss Others 3 tt h)
+past-leaves (suc (suc (suc (suc (suc (suc zero)))))) l h = absurd (miss Others 4 tt h)
+past-leaves (suc (suc (suc (suc (suc (suc (suc b))))))) l h = refl
 
 pub record TruthHere (o f : List ℤ) (s : List ℕ) (at : ℕ) (op : TruthOp) : Type 0 where
   pub inside : at < length s

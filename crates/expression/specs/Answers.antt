@@ -3,7 +3,7 @@
 use Prim.Native.Nat.{ℕ, zero, suc, _+_, _<_, _≤_}
 use mathlib.Core.Path.{_≡_}
 use mathlib.Core.Bool.{Bool, true, false}
-use mathlib.Core.List.{List, [], _∷_}
+use mathlib.Core.List.{List}
 use lib.Dec.{eqb}
 use lib.IntN.{ℤ, pos}
 use lib.ListN.{length, getD}
@@ -80,23 +80,6 @@ ofTruth AtTruth.Nothing = nothing
 abbrev pub ofEnd : ℕ → Read (Unit {0})
 ofEnd zero = nothing
 ofEnd (suc n) = got tt (suc n)
-
--- ---- so many numbers, one after the other
-
--- what follows on an end: where there is none, r says so too
-abbrev pub onward : ℕ → (ℕ → Type 0) → ℕ → Type 0
-onward r go zero = r ≡ 0
-onward r go (suc n) = go (suc n)
-
--- r is the place after so many numbers that stand one after the other from a place of s on, and 0 where one of them is none
-unfoldable pub NumsEnd : Scope → List ℕ → ℕ → ℕ → ℕ → Type 0
-NumsEnd sc s zero at r = r ≡ at
-NumsEnd sc s (suc k) at r = (n : ℕ) × (Answers (numEnd sc) s at (ofEnd n) × onward r (λ m. NumsEnd sc s k m r) n)
-
--- the operators of numbers, by their bytes: how many bytes an operator takes with a literal's or a channel's own ones, and 16
--- times how many operands follow
-abbrev pub formOf : ℕ → ℕ
-formOf b = getD (5 ∷ 2 ∷ 2 ∷ 33 ∷ 33 ∷ 33 ∷ 17 ∷ []) b 0
 
 -- ---- whole expressions
 

@@ -11,6 +11,7 @@ use Rattle.expression.specs.Reading.{Read, got, nothing, literalAt, channelAt, 
 use Rattle.expression.specs.Reading.{Scope, numOperands, truthOperands}
 use Rattle.expression.specs.Answers.{mapRead, Answers, endOf, numEnd, truthEnd, ofEnd}
 use Rattle.expression.specs.declared.Arith.{Arith}
+use Rattle.expression.specs.declared.Arith.the-variants as OfArith
 use Rattle.expression.specs.declared.Join.{Join}
 use Rattle.expression.specs.declared.Compare.{Compare}
 use Rattle.expression.specs.declared.NumOp.{NumOp}
@@ -98,6 +99,16 @@ pub record Here {Op : Type 0} (of : ℕ → Op) (sc : Scope) (s : List ℕ) (at 
 
 pub here : (sc : Scope) (s : List ℕ) (at : ℕ) → at < length s → {b : ℕ} → b ≡ getD s at 0 → Here numOp sc s at (numOp b)
 here sc s at inside e = record { inside = inside; is = ap numOp e }
+
+-- which bytes are operations
+pub operation : (b : ℕ) → 3 ≤ b → b < 6 → (k : Arith) × (numOp b ≡ OfNum.Two k)
+operation zero l u = absurd (omega arith)
+operation (suc zero) l u = absurd (omega arith)
+operation (suc (suc zero)) l u = absurd (omega arith)
+operation (suc (suc (suc zero))) l u = (OfArith.Sum, refl)
+operation (suc (suc (suc (suc zero)))) l u = (OfArith.Difference, refl)
+operation (suc (suc (suc (suc (suc zero))))) l u = (OfArith.Product, refl)
+operation (suc (suc (suc (suc (suc (suc b)))))) l u = absurd (omega arith)
 
 module _ {sc : Scope} {s : List ℕ} {at : ℕ} {op : NumOp} (h : Here numOp sc s at op) where
   step-num : (op′ : NumOp) → op ≡ op′ → (g : ℕ) → numEnd sc (suc g) s at ≡ numStep sc op′ s (at + 1) (λ n. numEnd sc g s n)

@@ -1,3 +1,2 @@
 -- Laws that the proofs of the functions cite.
 pub mod Checking
-pub mod Forms

@@ -21,14 +21,14 @@ use Rattle.evaluation.proofs.+truth_at.{statement}
 use Rattle.evaluation.proofs.+truth_at.Tie.{close}
 
 -- how many bytes are left
-abbrev μ-truth-at : Measures 3 truth-at-kinds.ps ℕ
-μ-truth-at κs a = length (a .0 .now) - a .1 .0
+abbrev μ-truth-at : Measures 6 truth-at-kinds.ps ℕ
+μ-truth-at κs a = length (a .0 .now .now) - a .1 .0
 
-abbrev truth-at-at : ℕ → In 3 truth-at-kinds.ps
-truth-at-at t = and 3 truth-at-kinds.ps (is 3 truth-at-kinds.ps μ-truth-at t) truth-at.Pre
+abbrev truth-at-at : ℕ → In 6 truth-at-kinds.ps
+truth-at-at t = and 6 truth-at-kinds.ps (is 6 truth-at-kinds.ps μ-truth-at t) truth-at.Pre
 
-abbrev truth-at-below : ℕ → In 3 truth-at-kinds.ps
-truth-at-below t = and 3 truth-at-kinds.ps (falls 3 truth-at-kinds.ps _<_ μ-truth-at t) truth-at.Pre
+abbrev truth-at-below : ℕ → In 6 truth-at-kinds.ps
+truth-at-below t = and 6 truth-at-kinds.ps (falls 6 truth-at-kinds.ps _<_ μ-truth-at t) truth-at.Pre
 
 abbrev called : ℕ → truth-at-lts.Claims
 called t = (
@@ -50,7 +50,7 @@ module _ (t : ℕ) where
   -- the operator
   here : (c : truth-at-lts.After-truth-op (called t) (truth-at-at t) truth-at.Post)
       → let a = c .before .before .before .before .args in
-      TruthHere (a .own .now) (a .far .now) (a .s .now) (a .at) (c .truth-op .result)
+      TruthHere (a .own .now .now) (a .far .now .now) (a .s .now .now) (a .at) (c .truth-op .result)
   here c = record { inside = c .before .before .if1 .left; is = c .truth-op .ensures }
 
   both-returns : truth-at-lts.Need-returns-4 (called t) (truth-at-at t) truth-at.Post
@@ -72,7 +72,7 @@ module _ (t : ℕ) where
 
 pub +truth-at-spec : {M : Type 1} → statement M
 +truth-at-spec = close μ-truth-at λ t. truth-at-lts.spec (called t) (truth-at-at t) truth-at.Post
-    (λ c. let a = c .before .before .args in no-truth (a .own .now) (a .far .now) (a .s .now) (a .at) (c .if1 .taken))
+    (λ c. let a = c .before .before .args in no-truth (a .own .now .now) (a .far .now .now) (a .s .now .now) (a .at) (c .if1 .taken))
     (λ c. search needs)
     (λ c κs. search needs)
     (λ c. search needs)
@@ -83,7 +83,7 @@ pub +truth-at-spec : {M : Type 1} → statement M
     (λ c. search needs)
     (λ c κs. search needs)
     (λ c. search needs)
-    (λ c κs. (omega (arith, (rw (c .before .p .given .1) at (c .before .before .before .truth-at2 .ensures)) .ahead), tt))
+    (λ c κs. (omega (arith, (rw (c .before .p .given .1) at (c .before .before .before .truth-at2 .ensures)) .ahead), omega arith))
     (λ c κs. search needs)
     (λ c. search needs)
     (λ c. search needs)

@@ -1,24 +1,13 @@
--- Bytes that are an operator's, one by one, and those that are none's. Assumes nothing.
+-- Bytes that are no operator's. Assumes nothing.
 use mathlib.Core.Path.{_≡_, refl, subst}
 use mathlib.Core.Bool.{Bool, true, false}
-use Prim.Native.Nat.{ℕ, zero, suc, _-_, _≤_}
+use Prim.Native.Nat.{ℕ, suc, _-_, _≤_}
 use native.Mathlib.Omega.{arith}
 use lib.Dec.{ltb}
 use borrow.Author.Tests.{ltb-false, le-ltb}
 use Rattle.expression.specs.Reading.{numOp, truthOp}
 use Rattle.expression.specs.declared.NumOp.the-variants as OfNum
 use Rattle.expression.specs.declared.TruthOp.the-variants as OfTruth
-
--- the operators of numbers, one by one
-pub each : (P : ℕ → Type 0) → P 0 → P 1 → P 2 → P 3 → P 4 → P 5 → P 6 → (b : ℕ) → b ≤ 6 → P b
-each P p0 p1 p2 p3 p4 p5 p6 zero h = p0
-each P p0 p1 p2 p3 p4 p5 p6 (suc zero) h = p1
-each P p0 p1 p2 p3 p4 p5 p6 (suc (suc zero)) h = p2
-each P p0 p1 p2 p3 p4 p5 p6 (suc (suc (suc zero))) h = p3
-each P p0 p1 p2 p3 p4 p5 p6 (suc (suc (suc (suc zero)))) h = p4
-each P p0 p1 p2 p3 p4 p5 p6 (suc (suc (suc (suc (suc zero))))) h = p5
-each P p0 p1 p2 p3 p4 p5 p6 (suc (suc (suc (suc (suc (suc zero)))))) h = p6
-each P p0 p1 p2 p3 p4 p5 p6 (suc (suc (suc (suc (suc (suc (suc b))))))) h = absurd (omega arith)
 
 least : (b : ℕ) → 0 ≤ b
 least b = omega arith

@@ -8,8 +8,8 @@ use Rattle.type_check.proofs.is_truth.Tie as tie
 
 returns : tie.Need-returns
 returns c =
-    let a = c .before .before .before .args in
-    c .ends .ensures ∙ ends-truth (scope (a .own) (a .far)) (a .s .now) (c .before .first-truth-end .ensures)
+    let a = c .before .before .before .before .args in
+    c .ends .ensures ∙ ends-truth (scope (a .own) (a .far)) (a .t1 .now) (c .before .truth-end .ensures)
 
 pub is-truth-spec : {M : Type 1} → statement M
 is-truth-spec = tie.close (tie.spec (λ c κs. search needs) (λ c κs. search needs) returns)
