@@ -57,7 +57,7 @@ pub extern "C" fn reaction_section<'a>(
     stretch: &mut &'a [u8],
     answer: &mut [u32; 5],
 ) -> u32
-    ensures { λ r. ⌜ returnedSectionOf (now (now (stretch .exit))) r (now (answer .exit)) ≡ returnedSection (Calls.section (now (deck .entry)) number) ⌝ }
+    ensures { λ r. ⌜ (returnedSectionOf (now (now (stretch .exit))) r (now (answer .exit)) ≡ returnedSection (Calls.section (now (deck .entry)) number)) × (now (stretch .exit) .ptr .0 ≡ deck .entry .ptr .0) ⌝ }
 {
     let mut refusal: u32 = 0;
     let mut place: u32 = 0;

@@ -47,7 +47,7 @@ pub fn section_with<'a>(
     memo: &mut [u32],
 ) -> &'a [u8]
     requires { ⌜ ZeroRules (now deck) (now rules) × ZeroMemo (now deck) (now memo) ⌝ }
-    ensures { λ r. ⌜ sectionOf (now r) (now (refusal .exit)) (now (place .exit)) ≡ Calls.section (now (deck .entry)) number ⌝ }
+    ensures { λ r. ⌜ (sectionOf (now r) (now (refusal .exit)) (now (place .exit)) ≡ Calls.section (now (deck .entry)) number) × (r .ptr .0 ≡ deck .entry .ptr .0) ⌝ }
 {
     let mut parts = [0u64; 64];
     let judged = judging::judge(deck, rules, &mut parts, memo);

@@ -35,7 +35,7 @@ pub fn check(deck: &[u8]) -> CheckAnswer
 // The stretch of the deck from a section's count to its end; empty where it is refused. The refusal's number and place go into
 // the two lent numbers, both 0 where it is not.
 pub fn section<'a>(deck: &'a [u8], number: u32, refusal: &mut u32, place: &mut u32) -> &'a [u8]
-    ensures { λ r. ⌜ sectionOf (now r) (now (refusal .exit)) (now (place .exit)) ≡ Calls.section (now (deck .entry)) number ⌝ }
+    ensures { λ r. ⌜ (sectionOf (now r) (now (refusal .exit)) (now (place .exit)) ≡ Calls.section (now (deck .entry)) number) × (r .ptr .0 ≡ deck .entry .ptr .0) ⌝ }
 {
     if reading::few_rules(deck) {
         let mut short = [0u64; passing::SHORT_RULES];

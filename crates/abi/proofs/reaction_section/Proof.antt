@@ -11,4 +11,4 @@ reaction-section-spec =
     (tie.spec
     (λ c κs. search needs)
     (λ c κs. search needs)
-    (λ c. section-written (c .write .ensures) (c .before .before .section .ensures)))
+    (λ c. (section-written (c .write .ensures) (c .before .before .section .ensures .0), c .before .before .section .ensures .1)))

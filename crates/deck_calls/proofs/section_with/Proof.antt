@@ -11,7 +11,7 @@ returns : tie.Need-returns
 returns c =
     let j = c .before .before .before in
     let w = rw (j .judged2 .given .1) at (j .before .before .before .before .before .before .before .judge .ensures) in
-    sym (section-unknown _ _ _ _ _ _ w _ (c .before .if1 .taken))
+    (sym (section-unknown _ _ _ _ _ _ w _ (c .before .if1 .taken)), refl)
 
 stretch-requires : tie.Need-stretch-requires
 stretch-requires c κs =
@@ -24,13 +24,13 @@ returns-2 : tie.Need-returns-2
 returns-2 c =
     let j = c .before .before in
     let w = rw (j .judged .given .1) at (j .before .before .before .before .before .before .before .judge .ensures) in
-    sym (section-refused _ _ _ _ w)
+    (sym (section-refused _ _ _ _ w), refl)
 
 returns-3 : tie.Need-returns-3
 returns-3 c =
     let j = c .before .before .before in
     let w = rw (j .judged2 .given .1) at (j .before .before .before .before .before .before .before .judge .ensures) in
-    ap (λ l. sectionOf l 0 0) (c .stretch .ensures) ∙ sym (section-known _ _ _ _ _ _ w _ (omega (arith, c .before .if1 .left)))
+    (ap (λ l. sectionOf l 0 0) (c .stretch .ensures .0) ∙ sym (section-known _ _ _ _ _ _ w _ (omega (arith, c .before .if1 .left))), c .stretch .ensures .1)
 
 pub section-with-spec : {M : Type 1} → statement M
 section-with-spec =
