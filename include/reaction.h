@@ -27,7 +27,7 @@
  * assignment count, four pairs of channel and value. `values` (channel c of part p at 32 * p + c) and `*pending` are the state.
  * A length is that of the array behind its pointer: `pool_length` and `pairs_length` count numbers, not places or pairs. What a
  * call is lent must not overlap, and no other thread may write it during the call; a null pointer is allowed only with a length
- * of 0. A call allocates nothing and keeps no pointer. It needs up to 512 KiB of stack, and up to 64 KiB where the pool has at
+ * of 0. A call allocates nothing and keeps no pointer. It needs up to 640 KiB of stack, and up to 64 KiB where the pool has at
  * most 2,048 places.
  *
  * Answer. `answer[0]` is the refusal's place, 0 when the call is accepted. The other four are the call's answer numbers, in the
