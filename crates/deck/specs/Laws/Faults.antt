@@ -17,8 +17,10 @@ use Rattle.refusals.specs.Numbers.{deckEnds, outOfRange, badExpression, repeate
 use Rattle.refusals.specs.Laws.Outcomes.{refused≢accepted, accepted-inj, number-inj, place-inj}
 use Rattle.expression.specs.Reading.{Read, got, nothing, Scope, wholeNum, wholeTruth}
 use Rattle.deck.specs.Limits.{limits}
-use Rattle.deck.specs.Reader.{Got, Reader, andThen, _>>=_, _>>_, give, fault, here, require, byte, end, number, times, rising, value, readers}
-use Rattle.deck.specs.Layout.{judged, expression, ownOnly, taskScope, assignments, action, rule, part, Layout, sections, valueOf, read}
+use Rattle.deck.specs.Reader.{Got, Reader, andThen, _>>=_, _>>_, give, fault, here, require, byte, end, number, times, rising, value}
+use Rattle.deck.specs.Reader.{readers}
+use Rattle.deck.specs.Layout.{Layout, judged, expression, ownOnly, taskScope, assignments, action, rule, part, sections, valueOf}
+use Rattle.deck.specs.Layout.{read}
 
 -- ---- what a reader sees
 
@@ -100,10 +102,10 @@ module _ {A B : Type 0} (r : From A) (f : A → Reader B) (at : ℕ) (s : List �
         })
 
   then-sees : (o : Outcome (Got A)) → Sees r at s o
-      → ((g : Got A) → o ≡ accepted g → Takes r at s g → Sees (λ t. f (g .value) t (g .at)) (g .at) (g .rest) (f (g .value) (g .rest) (g .at)))
+      → ((g : Got A) → o ≡ accepted g → Sees (λ t. f (g .value) t (g .at)) (g .at) (g .rest) (f (g .value) (g .rest) (g .at)))
       → Sees both at s (andThen o f)
   unfolding andThen
-  then-sees (accepted g) (takes w) k = second g w (f (g .value) (g .rest) (g .at)) (k g refl w)
+  then-sees (accepted g) (takes w) k = second g w (f (g .value) (g .rest) (g .at)) (k g refl)
   then-sees (refused n p) (ends e i) k = ends e i
   then-sees (refused n p) (shows x) k =
       shows (record {
@@ -117,7 +119,7 @@ module _ {A B : Type 0} (r : From A) (f : A → Reader B) (at : ℕ) (s : List �
       })
 
 then-looks : {A B : Type 0} (r : Reader A) (f : A → Reader B) → Looks r → ((a : A) → Looks (f a)) → Looks (λ s at. andThen (r s at) f)
-then-looks r f x y s at = then-sees (λ t. r t at) f at s (r s at) (x s at) (λ g _ _. y (g .value) (g .rest) (g .at))
+then-looks r f x y s at = then-sees (λ t. r t at) f at s (r s at) (x s at) (λ g _. y (g .value) (g .rest) (g .at))
 
 -- ---- single readers
 
@@ -182,7 +184,7 @@ unfolding readers
 number-looks lo hi [] at = ends {p = at} refl (omega arith)
 number-looks lo hi (b ∷ s) at =
     then-sees (λ t. byte t at) (λ b. require (leb lo b && ltb b hi) outOfRange at >> give b) at (b ∷ s) _ (byte-looks (b ∷ s) at)
-    (λ g e _. require-sees (leb lo (g .value) && ltb (g .value) hi) outOfRange at (inl refl) (λ h. absurd (omega (arith, h)))
+    (λ g e. require-sees (leb lo (g .value) && ltb (g .value) hi) outOfRange at (inl refl) (λ h. absurd (omega (arith, h)))
     (give (g .value)) (g .rest) (g .at) (ap (λ (h : Got ℕ). h .at) (accepted-inj e)) (give-looks (g .value) (g .rest) (g .at)))
 
 times-looks : {A : Type 0} {r : Reader A} → Looks r → (n : ℕ) → Looks (times n r)
@@ -226,8 +228,8 @@ expression-looks : {A : Type 0} (whole : List ℕ → Read A) → Looks (express
 unfolding expression readers
 expression-looks whole s at =
     then-sees (λ t. number 1 (suc (limits .expression)) t at) _ at s _ (number-looks 1 (suc (limits .expression)) s at)
-    (λ n e _. then-sees (λ t. times (n .value) byte t (n .at)) _ (n .at) (n .rest) _ (times-looks byte-looks (n .value) (n .rest) (n .at))
-    (λ g f _. judged-sees (n .at) (whole (g .value)) (g .rest) (g .at)
+    (λ n e. then-sees (λ t. times (n .value) byte t (n .at)) _ (n .at) (n .rest) _ (times-looks byte-looks (n .value) (n .rest) (n .at))
+    (λ g f. judged-sees (n .at) (whole (g .value)) (g .rest) (g .at)
     (omega (arith, number-took 1 (suc (limits .expression)) s at n e .0, bytes-took (n .value) (n .rest) (n .at) g f))))
 
 -- ---- rules and parts
@@ -237,14 +239,17 @@ unfolding assignments _>>=_ here andThen
 assignments-looks sc zero ts s at = give-looks [] s at
 assignments-looks sc (suc n) ts s at =
     then-sees (λ t. number 0 (sc .owns) t at) _ at s _ (number-looks 0 (sc .owns) s at)
-    (λ g e _. require-sees (not (member (g .value) ts)) repeatedTarget at (inr (inr refl)) (λ h. absurd (omega (arith, h))) _ (g .rest) (g .at)
+    (λ g e.
+    require-sees (not (member (g .value) ts)) repeatedTarget at (inr (inr refl)) (λ h. absurd (omega (arith, h))) _ (g .rest) (g .at)
     (number-took 0 (sc .owns) s at g e .1)
     (then-looks (expression (wholeNum sc)) _ (expression-looks (wholeNum sc))
-    (λ x. then-looks (assignments sc n (g .value ∷ ts)) _ (assignments-looks sc n (g .value ∷ ts)) (λ rest. give-looks _)) (g .rest) (g .at)))
+    (λ x.
+    then-looks (assignments sc n (g .value ∷ ts)) _ (assignments-looks sc n (g .value ∷ ts)) (λ rest. give-looks _)) (g .rest) (g .at)))
 
 action-looks : (sc : Scope) → Looks (action sc)
 unfolding action _>>=_
-action-looks sc = then-looks (number 0 (suc (limits .assignments))) _ (number-looks 0 (suc (limits .assignments))) (λ n. assignments-looks sc n [])
+action-looks sc =
+    then-looks (number 0 (suc (limits .assignments))) _ (number-looks 0 (suc (limits .assignments))) (λ n. assignments-looks sc n [])
 
 rule-looks : (R : ℕ) → Looks (rule R)
 unfolding rule _>>=_
