@@ -39,7 +39,7 @@ trace-runs bytes m cs seen end (calls {m′ = m′} {cs = rest} {later = later} 
     )
 
 -- what the host sees is what the definition of the list has, and the sentences of demand 3 hold
-pub record Seen (bytes : List ℕ) (pool : List ℤ) (cs : List Call) (seen : List (Outcome Answer)) (end : Memory) : Type 0 where
+pub record HostSees (bytes : List ℕ) (pool : List ℤ) (cs : List Call) (seen : List (Outcome Answer)) (end : Memory) : Type 0 where
   pub layout : Layout
   pub passes : passing bytes ≡ accepted layout
   pub answers : seen ≡ listed (layout .deck) (length pool) cs .answers
@@ -49,7 +49,7 @@ pub record Seen (bytes : List ℕ) (pool : List ℤ) (cs : List Call) (seen : Li
 -- for every trace of calls after an accepted start
 pub order-seen : (bytes : List ℕ) (pool : List ℤ) → Bytes bytes
     → (m : Memory) → replied (accepted started) m ≡ Calls.start bytes pool
-    → (cs : List Call) (seen : List (Outcome Answer)) (end : Memory) → Trace bytes m cs seen end → Seen bytes pool cs seen end
+    → (cs : List Call) (seen : List (Outcome Answer)) (end : Memory) → Trace bytes m cs seen end → HostSees bytes pool cs seen end
 unfolding run
 order-seen bytes pool b m s cs seen end t =
     let o = order bytes pool b (sym (ap (λ k. k .answer) s)) in
