@@ -19,7 +19,7 @@ pub fn check_with(deck: &[u8], rules: &mut [u64], memo: &mut [u32]) -> CheckAnsw
     requires { ⌜ ZeroRules (now deck) (now rules) × ZeroMemo (now deck) (now memo) ⌝ }
     ensures { λ r. ⌜ checkOutcome r ≡ Calls.check (now (deck .entry)) ⌝ }
 {
-    let mut parts = [0u64; 64];
+    let mut parts = [0u64; passing::PARTS];
     let verdict = judging::judge(deck, rules, &mut parts, memo);
     match verdict {
         Judged::Passing { counts, charge } => {
@@ -49,7 +49,7 @@ pub fn section_with<'a>(
     requires { ⌜ ZeroRules (now deck) (now rules) × ZeroMemo (now deck) (now memo) ⌝ }
     ensures { λ r. ⌜ (sectionOf (now r) (now (refusal .exit)) (now (place .exit)) ≡ Calls.section (now (deck .entry)) number) × (r .ptr .0 ≡ deck .entry .ptr .0) ⌝ }
 {
-    let mut parts = [0u64; 64];
+    let mut parts = [0u64; passing::PARTS];
     let judged = judging::judge(deck, rules, &mut parts, memo);
     match judged {
         Judged::Refused {
@@ -111,7 +111,7 @@ pub fn start_with(deck: &[u8], pool: &mut [i32], rules: &mut [u64], memo: &mut [
     requires { ⌜ ZeroRules (now deck) (now rules) × ZeroMemo (now deck) (now memo) ⌝ }
     ensures { λ r. ⌜ replyOf (startOutcome (r .answer)) (r .state) (now (pool .exit)) ≡ Calls.start (now (deck .entry)) (now (pool .entry)) ⌝ }
 {
-    let mut parts = [0u64; 64];
+    let mut parts = [0u64; passing::PARTS];
     let mut values = [0i32; Deck::VALUES];
     let found = judging::judge(deck, rules, &mut parts, memo);
     match found {

@@ -96,7 +96,7 @@ pub fn few_rules(deck: &[u8]) -> bool
     if deck.len() - 1 <= channels {
         return false;
     }
-    fields::wide(deck[1 + channels]) <= 16
+    fields::wide(deck[1 + channels]) <= Deck::FEW_RULES
 }
 
 // The offset of a section's count; from 3 on, the deck's end.
