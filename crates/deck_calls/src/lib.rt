@@ -4,6 +4,7 @@ ghost use lib.IntN.{pos};
 ghost use lib.ListN.{length, replicate};
 ghost use Rattle.refusals.specs.Outcome.{refused, accepted};
 ghost use Rattle.pool.specs.Places.{zeros};
+ghost use Rattle.deck.specs.Stretch.{LiesAt};
 ghost use Rattle.calls.specs.Calls as Calls;
 ghost use Rattle.calls.specs.Answers.{checkOutcome, sectionOf, startOutcome, replyOf};
 ghost use Rattle.passing.specs.Judged.{ZeroRules, ZeroMemo};
@@ -47,7 +48,8 @@ pub fn section_with<'a>(
     memo: &mut [u32],
 ) -> &'a [u8]
     requires { ⌜ ZeroRules (now deck) (now rules) × ZeroMemo (now deck) (now memo) ⌝ }
-    ensures { λ r. ⌜ (sectionOf (now r) (now (refusal .exit)) (now (place .exit)) ≡ Calls.section (now (deck .entry)) number) × (r .ptr .0 ≡ deck .entry .ptr .0) ⌝ }
+    ensures { λ r. ⌜ (sectionOf (now r) (now (refusal .exit)) (now (place .exit)) ≡ Calls.section (now (deck .entry)) number)
+        × LiesAt (deck .entry .ptr) (r .ptr) (Calls.sectionFrom (now (deck .entry)) number) ⌝ }
 {
     let mut parts = [0u64; passing::PARTS];
     let judged = judging::judge(deck, rules, &mut parts, memo);
