@@ -1,8 +1,8 @@
 /* The reaction engine: six calls over memory that the host owns.
  *
  * Every call returns the number of its refusal, or 0 when it is accepted. Whatever the numbers behind the pointers are, a call
- * ends with one or the other. A refused call changes nothing but `answer` (and reaction_section its stretch, reaction_start the
- * state, which becomes zeros).
+ * ends with one or the other. A refused call changes nothing but `answer`, with two exceptions: reaction_section makes its stretch
+ * empty, and reaction_start sets the state, all of `values` and `*pending`, to 0 (and leaves the pool).
  *
  * Number  Refusal                                                             Place, answer[0]
  *      1  the deck ends inside a field or expression                          the deck's length
@@ -25,9 +25,10 @@
  *
  * Memory. `deck` and its length are the deck's bytes. `pool` and its length are the lent places, ten numbers each: part,
  * assignment count, four pairs of channel and value. `values` (channel c of part p at 32 * p + c) and `*pending` are the state.
- * What a call is lent must not overlap, and no other thread may write it during the call; a null pointer is allowed only with a
- * length of 0. A call allocates nothing and keeps no pointer. It needs up to 512 KiB of stack, and up to 64 KiB where the pool
- * has at most 2,048 places.
+ * A length is that of the array behind its pointer: `pool_length` and `pairs_length` count numbers, not places or pairs. What a
+ * call is lent must not overlap, and no other thread may write it during the call; a null pointer is allowed only with a length
+ * of 0. A call allocates nothing and keeps no pointer. It needs up to 640 KiB of stack, and up to 64 KiB where the pool has at
+ * most 2,048 places.
  *
  * Answer. `answer[0]` is the refusal's place, 0 when the call is accepted. The other four are the call's answer numbers, in the
  * order below, and 0 where it has none or was refused.
@@ -51,7 +52,9 @@ enum {
     REACTION_LONGEST_DECK = 42883 /* bytes of the longest deck that can pass */
 };
 
-/* A stretch of a deck: it points into the deck that the call was given. */
+/* A stretch of a deck: it points into the deck that the call was given. It is lent to the call as it stands, so that it must be
+ * one before the call too: set it to {NULL, 0} first. (Other bytes that can be read, and that nobody writes during the call, would
+ * do as well; numbers that were never set would not.) */
 typedef struct reaction_stretch {
     const uint8_t *bytes;
     size_t length;
@@ -60,15 +63,18 @@ typedef struct reaction_stretch {
 /* Whether a deck passes. answer[1..4]: channels, rules, parts, the largest charge of any carried rule. */
 uint32_t reaction_check(const uint8_t *deck, size_t deck_length, uint32_t answer[REACTION_ANSWER]);
 
-/* The deck's section `number` (0 channels, 1 rules, 2 parts), from its count to its end; empty where refused. */
+/* The deck's section `number` (0 channels, 1 rules, 2 parts), from its count to its end; empty where refused. Set *stretch to
+ * {NULL, 0} before the call. */
 uint32_t reaction_section(const uint8_t *deck, size_t deck_length, uint32_t number, reaction_stretch *stretch,
                           uint32_t answer[REACTION_ANSWER]);
 
-/* The opening values, nothing pending, and the pool all 0. The state is written in any case: zeros where refused. */
+/* The opening values, nothing pending, and the pool all 0. Refused, it leaves the pool as it was, but not the state: that is
+ * all 0 then. */
 uint32_t reaction_start(const uint8_t *deck, size_t deck_length, int32_t *pool, size_t pool_length,
                         int32_t values[REACTION_VALUES], uint32_t *pending, uint32_t answer[REACTION_ANSWER]);
 
-/* Sets channels of a part: `pairs` is channel, value, channel, value. answer[1]: the charge added. */
+/* Sets channels of a part: `pairs` is channel, value, channel, value, and pairs_length 4 for these two pairs. answer[1]: the
+ * charge added. */
 uint32_t reaction_input(const uint8_t *deck, size_t deck_length, int32_t *pool, size_t pool_length,
                         int32_t values[REACTION_VALUES], uint32_t *pending, uint32_t part, const int32_t *pairs,
                         size_t pairs_length, uint32_t answer[REACTION_ANSWER]);

@@ -16,7 +16,8 @@ static size_t length;
 static int32_t values[REACTION_VALUES], pool[POOL];
 static uint32_t pending, answer[REACTION_ANSWER];
 
-/* Every call returns 0 or the number of its refusal; a refused call changes nothing. */
+/* Every call returns 0 or the number of its refusal. A refused call changes nothing, but for a refused start, which zeroes
+ * the state. */
 static int refused(const char *call, unsigned number) {
     unsigned place = answer[0];
     if (number != 0)
@@ -30,7 +31,7 @@ static int value(int part, int channel) {
 
 /* Enters a bend of a part and commits until nothing is pending. 0 when nothing was refused. */
 static int bend(unsigned part, int degrees) {
-    const int32_t pairs[] = {BEND, degrees};
+    const int32_t pairs[] = {BEND, degrees}; /* one pair, two numbers */
     int applied = 0, discarded = 0;
     if (refused("input", reaction_input(deck, length, pool, POOL, values, &pending, part, pairs, 2, answer)))
         return 1;

@@ -15,7 +15,8 @@ struct Refusal : std::runtime_error {
         : std::runtime_error(call + ": refused " + std::to_string(number) + " " + std::to_string(place)) {}
 };
 
-// A deck at work. It owns the memory that the calls are lent; a refused call throws and changes nothing.
+// A deck at work. It owns the memory that the calls are lent; a refused call throws and changes nothing. (A refused start
+// zeroes the state; there is no rig then.)
 class Rig {
 public:
     Rig(const std::vector<uint8_t> &bytes, size_t places)

@@ -2,7 +2,8 @@
 //!
 //! A [`Deck`] holds channels, rules and parts. A [`Rig`] runs one: values are entered, rules fire, and the
 //! host commits the pending updates in whatever order it likes. Whatever it is given, the engine answers or
-//! declines with a [`Refusal`]; a declined call changes nothing.
+//! declines with a [`Refusal`]; a declined call changes nothing. ([`raw::Memory::start`] alone zeroes the
+//! state where it is declined; where [`Rig::start`] is, there is no rig.)
 //!
 //! ```
 //! use reaction::{Commit, Deck, Rig};

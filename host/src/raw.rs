@@ -40,7 +40,8 @@ pub struct Stretch {
 //
 // Safety, for all of them: a pointer with a length points to so many numbers (with length 0 to any address),
 // `answer` to 5, `values` to 512, the others to one; what is lent does not overlap, and nobody else writes
-// it during the call. Nothing is asked of the numbers themselves.
+// it during the call. `stretch` points to one that is empty or whose bytes can be read. Nothing is asked of the
+// numbers themselves.
 unsafe extern "C" {
     /// Whether a deck passes. The answer: place; channels, rules, parts, largest charge of a carried rule.
     pub fn reaction_check(deck: *const u8, deck_length: usize, answer: *mut u32) -> u32;
@@ -54,7 +55,8 @@ unsafe extern "C" {
         answer: *mut u32,
     ) -> u32;
 
-    /// The opening values, nothing pending, the pool all 0. The answer: place; zeros.
+    /// The opening values, nothing pending, the pool all 0; where refused, the state is zeros and the pool as it
+    /// was. The answer: place; zeros.
     pub fn reaction_start(
         deck: *const u8,
         deck_length: usize,
@@ -188,11 +190,14 @@ impl Memory {
         Memory { values: [0; VALUES], pending: 0, pool: vec![0; pool_length] }
     }
 
-    /// The opening values, nothing pending, the pool all 0; a state of zeros where refused.
+    /// The opening values, nothing pending, the pool all 0. Where refused, the state becomes zeros and the pool
+    /// stays as it was.
     ///
     /// ```
     /// let mut memory = reaction::raw::Memory::new(15);
+    /// memory.values = [7; reaction::raw::VALUES];
     /// assert_eq!(memory.start(include_bytes!("../../crates/replay/data/d.deck")).number, 9);
+    /// assert_eq!(memory.values, [0; reaction::raw::VALUES]);
     /// ```
     pub fn start(&mut self, deck: &[u8]) -> Returned {
         let mut answer = [0; ANSWER];

@@ -1,10 +1,13 @@
 //! Has the kit prove generated cases of the definitions by computing them.
 //!
-//! `antt_cases REPOSITORY DIR SEED COUNT` copies the crates of the repository to DIR, which
-//! must not exist yet, writes the cases as crates over them, and proves those.
+//! `antt_cases REPOSITORY DIR SEED COUNT` copies the crates of the repository that have the
+//! definitions to DIR, which must not exist yet, with what is proved of them already, writes the
+//! cases as crates over them, and has those proved. Status 1: a case is not proved.
 
+mod definitions;
 mod render;
 
+use definitions::{Definitions, Header};
 use reference::cases::{generate, Case, Size};
 use std::collections::BTreeMap;
 use std::fs;
@@ -58,24 +61,36 @@ fn main() {
 fn prove(request: &Request) -> io::Result<bool> {
     let cases = generate(request.seed, request.count, &Size::SMALL);
     print_counts(&cases);
+    let definitions = Definitions::read(&request.repository)?;
+    let header = definitions.header(render::HEADER)?;
+    let used = definitions.lines_of(&header.crates);
     fs::create_dir(&request.scratch)?;
-    copy(&request.repository.join("crates"), &request.scratch.join("crates"))?;
-    let listed = fs::read_to_string(request.repository.join("crates.txt"))?;
-    let libraries = library_names(&listed);
-    let names = write_crates(&request.scratch, &cases)?;
-    let lines: String = names.iter().map(|name| format!("{name}: {libraries}\n")).collect();
-    fs::write(request.scratch.join("crates.txt"), listed + &lines)?;
+    for name in used.keys() {
+        copy_crate(&request.repository, &request.scratch, name)?;
+    }
+    let names = write_crates(&request.scratch, &header, &cases)?;
+    let imported = Vec::from_iter(header.crates).join(" ");
+    let lines = used.values().map(|line| line.to_string());
+    let lines = lines.chain(names.iter().map(|name| format!("{name}: {imported}")));
+    fs::write(request.scratch.join("crates.txt"), lines.collect::<Vec<_>>().join("\n") + "\n")?;
     let status = Command::new("rt").arg("check").args(&names).current_dir(&request.scratch).status()?;
     Ok(status.success())
 }
 
-/// The crates that a line of crates.txt begins with.
-fn library_names(listed: &str) -> String {
-    let names = listed.lines().filter(|line| !line.starts_with('#'));
-    names.filter_map(|line| line.split(':').next()).collect::<Vec<_>>().join(" ")
+/// A crate, and what the kit has proved of it: where its files are still those, it is not proved again.
+fn copy_crate(repository: &Path, scratch: &Path, name: &str) -> io::Result<()> {
+    let inside = Path::new("crates").join(name);
+    copy(&repository.join(&inside), &scratch.join(&inside))?;
+    for proved in [format!("target/rlib/{name}.rlib"), format!("target/stamp/{name}")] {
+        let from = repository.join(&proved);
+        if from.exists() {
+            copy(&from, &scratch.join(&proved))?;
+        }
+    }
+    Ok(())
 }
 
-fn write_crates(scratch: &Path, cases: &[Case]) -> io::Result<Vec<String>> {
+fn write_crates(scratch: &Path, header: &Header, cases: &[Case]) -> io::Result<Vec<String>> {
     let mut names = Vec::new();
     for (index, cases) in cases.chunks(CASES_OF_A_CRATE).enumerate() {
         let name = format!("cases{index}");
@@ -88,10 +103,7 @@ fn write_crates(scratch: &Path, cases: &[Case]) -> io::Result<Vec<String>> {
             .iter()
             .enumerate()
             .map(|(at, case)| render::theorems(&format!("case-{}", index * CASES_OF_A_CRATE + at), case));
-        fs::write(
-            folder.join("specs/Cases.antt"),
-            render::HEADER.to_string() + &theorems.collect::<String>(),
-        )?;
+        fs::write(folder.join("specs/Cases.antt"), header.text.clone() + &theorems.collect::<String>())?;
         names.push(name);
     }
     Ok(names)
@@ -121,16 +133,15 @@ fn kind(case: &Case) -> &'static str {
     }
 }
 
+/// A file, or a folder with all that is in it.
 fn copy(from: &Path, to: &Path) -> io::Result<()> {
-    fs::create_dir_all(to)?;
-    for entry in fs::read_dir(from)? {
-        let entry = entry?;
-        let target = to.join(entry.file_name());
-        if entry.file_type()?.is_dir() {
-            copy(&entry.path(), &target)?;
-        } else {
-            fs::copy(entry.path(), target)?;
-        }
+    if from.is_dir() {
+        fs::create_dir_all(to)?;
+        return fs::read_dir(from)?.try_for_each(|entry| {
+            let name = entry?.file_name();
+            copy(&from.join(&name), &to.join(&name))
+        });
     }
-    Ok(())
+    to.parent().map_or(Ok(()), fs::create_dir_all)?;
+    fs::copy(from, to).map(drop)
 }

@@ -7,7 +7,7 @@ use reference::state::State;
 use std::fmt::Display;
 use std::ops::Range;
 
-/// What every module of cases begins with.
+/// What every module of cases begins with, a template for `Definitions::header`.
 pub const HEADER: &str = include_str!("header.antt.txt");
 
 /// A theorem by its name: what the definitions come to, and what the reference answers.
