@@ -2,6 +2,7 @@
 // call is accepted, and writes the place and the answer numbers into a lent array of five.
 ghost use mathlib.Core.Path.{_≡_};
 ghost use mathlib.Core.List.{[], _∷_};
+ghost use Rattle.deck.specs.Stretch.{LiesAt};
 ghost use Rattle.calls.specs.Calls as Calls;
 ghost use Rattle.calls.specs.Answers.{memoryAt, numbersOf};
 ghost use Rattle.calls.specs.Requests.{requested, outcomeTo};
@@ -57,7 +58,9 @@ pub extern "C" fn reaction_section<'a>(
     stretch: &mut &'a [u8],
     answer: &mut [u32; 5],
 ) -> u32
-    ensures { λ r. ⌜ (returnedSectionOf (now (now (stretch .exit))) r (now (answer .exit)) ≡ returnedSection (Calls.section (now (deck .entry)) number)) × (now (stretch .exit) .ptr .0 ≡ deck .entry .ptr .0) ⌝ }
+    ensures { λ r. ⌜ (returnedSectionOf (now (now (stretch .exit))) r (now (answer .exit))
+        ≡ returnedSection (Calls.section (now (deck .entry)) number))
+        × LiesAt (deck .entry .ptr) (now (stretch .exit) .ptr) (Calls.sectionFrom (now (deck .entry)) number) ⌝ }
 {
     let mut refusal: u32 = 0;
     let mut place: u32 = 0;
@@ -76,7 +79,8 @@ pub extern "C" fn reaction_start(
     pending: &mut u32,
     answer: &mut [u32; 5],
 ) -> u32
-    ensures { λ r. ⌜ returnedOf r (now (answer .exit)) (memoryAt (now (values .exit)) (now (pending .exit)) (now (pool .exit))) ≡ returned (Calls.start (now (deck .entry)) (now (pool .entry))) ⌝ }
+    ensures { λ r. ⌜ returnedOf r (now (answer .exit)) (memoryAt (now (values .exit)) (now (pending .exit)) (now (pool .exit)))
+        ≡ returned (Calls.start (now (deck .entry)) (now (pool .entry))) ⌝ }
 {
     let made = engine::start(deck, pool);
     let state = made.state;
@@ -134,7 +138,9 @@ fn call(
     pairs: &[i32],
     answer: &mut [u32; 5],
 ) -> u32
-    ensures { λ r. ⌜ returnedOf r (now (answer .exit)) (memoryAt (now (values .exit)) (now (pending .exit)) (now (pool .exit))) ≡ returned (requested (now (deck .entry)) (memoryAt (now (values .entry)) (now (pending .entry)) (now (pool .entry))) request (now (pairs .entry))) ⌝ }
+    ensures { λ r. ⌜ returnedOf r (now (answer .exit)) (memoryAt (now (values .exit)) (now (pending .exit)) (now (pool .exit)))
+        ≡ returned (requested (now (deck .entry)) (memoryAt (now (values .entry)) (now (pending .entry)) (now (pool .entry)))
+        request (now (pairs .entry))) ⌝ }
 {
     let told = lent_calls::call_lent(deck, pool, values, pending, request, pairs);
     let n = numbers_of(request, told);
@@ -152,7 +158,9 @@ pub extern "C" fn reaction_input(
     pairs: &[i32],
     answer: &mut [u32; 5],
 ) -> u32
-    ensures { λ r. ⌜ returnedOf r (now (answer .exit)) (memoryAt (now (values .exit)) (now (pending .exit)) (now (pool .exit))) ≡ returned (Calls.input (now (deck .entry)) (memoryAt (now (values .entry)) (now (pending .entry)) (now (pool .entry))) part (now (pairs .entry))) ⌝ }
+    ensures { λ r. ⌜ returnedOf r (now (answer .exit)) (memoryAt (now (values .exit)) (now (pending .exit)) (now (pool .exit)))
+        ≡ returned (Calls.input (now (deck .entry)) (memoryAt (now (values .entry)) (now (pending .entry)) (now (pool .entry)))
+        part (now (pairs .entry))) ⌝ }
 {
     call(deck, pool, values, pending, Request::Input(part), pairs, answer)
 }
@@ -166,7 +174,8 @@ pub extern "C" fn reaction_commit(
     place: u32,
     answer: &mut [u32; 5],
 ) -> u32
-    ensures { λ r. ⌜ returnedOf r (now (answer .exit)) (memoryAt (now (values .exit)) (now (pending .exit)) (now (pool .exit))) ≡ returned (Calls.commit (now (deck .entry)) (memoryAt (now (values .entry)) (now (pending .entry)) (now (pool .entry))) place) ⌝ }
+    ensures { λ r. ⌜ returnedOf r (now (answer .exit)) (memoryAt (now (values .exit)) (now (pending .exit)) (now (pool .exit)))
+        ≡ returned (Calls.commit (now (deck .entry)) (memoryAt (now (values .entry)) (now (pending .entry)) (now (pool .entry))) place) ⌝ }
 {
     let none = [0i32; 0];
     call(deck, pool, values, pending, Request::Commit(place), &none, answer)
@@ -181,7 +190,8 @@ pub extern "C" fn reaction_settle(
     budget: u32,
     answer: &mut [u32; 5],
 ) -> u32
-    ensures { λ r. ⌜ returnedOf r (now (answer .exit)) (memoryAt (now (values .exit)) (now (pending .exit)) (now (pool .exit))) ≡ returned (Calls.settle (now (deck .entry)) (memoryAt (now (values .entry)) (now (pending .entry)) (now (pool .entry))) budget) ⌝ }
+    ensures { λ r. ⌜ returnedOf r (now (answer .exit)) (memoryAt (now (values .exit)) (now (pending .exit)) (now (pool .exit)))
+        ≡ returned (Calls.settle (now (deck .entry)) (memoryAt (now (values .entry)) (now (pending .entry)) (now (pool .entry))) budget) ⌝ }
 {
     let none = [0i32; 0];
     call(deck, pool, values, pending, Request::Settle(budget), &none, answer)

@@ -12,27 +12,27 @@ use passing::Judged;
 // The numbers of an index, a third of them for the buckets and two for each place: for pools of up to 64 places, of up to 256, of up to
 // 1,024, of up to 2,048, of up to 4,096, of up to 12,288, and for the longest. It begins as zeros in each call, so that a short pool
 // should have a short one.
-pub const TINY_POOL: usize = 640;
+pub const TINY_POOL: usize = 64 * Deck::PLACE;
 
 pub const TINY_INDEX: usize = 196;
 
-pub const SMALL_POOL: usize = 2560;
+pub const SMALL_POOL: usize = 256 * Deck::PLACE;
 
 pub const SMALL_INDEX: usize = 772;
 
-pub const SHORT_POOL: usize = 10240;
+pub const SHORT_POOL: usize = 1024 * Deck::PLACE;
 
 pub const SHORT_INDEX: usize = 3076;
 
-pub const MEDIUM_POOL: usize = 20480;
+pub const MEDIUM_POOL: usize = 2048 * Deck::PLACE;
 
 pub const MEDIUM_INDEX: usize = 6148;
 
-pub const LONG_POOL: usize = 40960;
+pub const LONG_POOL: usize = 4096 * Deck::PLACE;
 
 pub const LONG_INDEX: usize = 12292;
 
-pub const LONGER_POOL: usize = 122880;
+pub const LONGER_POOL: usize = 12288 * Deck::PLACE;
 
 pub const LONGER_INDEX: usize = 36868;
 

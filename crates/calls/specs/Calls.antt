@@ -126,30 +126,48 @@ settle bytes m budget = reply m do
   let s = settling d budget (load m)
   accepted (record { answer = cond (isEmpty (s .machine .pending)) (settled (s .made)) (spent (s .made)); machine = s .machine })
 
--- what section hands back: a stretch of the deck, and the two lent numbers
+-- what section hands back: the bytes of a stretch of the deck, and the two lent numbers
 pub record Section : Type 0 where
   pub stretch : List ℕ
   pub number : ℕ
   pub place : ℕ
 
--- "Refused, it hands back the empty stretch. Its number and place go into two lent numbers, both 0 when it succeeds"
-unfoldable pub sectionReply : Outcome (List ℕ) → Section
-sectionReply (refused n p) = record { stretch = []; number = n; place = p }
-sectionReply (accepted s) = record { stretch = s; number = 0; place = 0 }
-
 -- the offset of section k's count; from 3 on, the deck's end
 unfoldable pub sectionAt : Layout → List ℕ → ℕ → ℕ
 sectionAt l bytes k = getD (0 ∷ l .rulesAt ∷ l .partsAt ∷ []) k (length bytes)
 
--- "the stretch of the caller's deck from that section's count to its end"
-unfoldable pub section : List ℕ → ℕ → Section
-section bytes k = sectionReply do
+-- "from that section's count to its end"
+pub record Ends : Type 0 where
+  pub from : ℕ
+  pub to : ℕ
+
+unfoldable pub sectionEnds : List ℕ → ℕ → Outcome Ends
+sectionEnds bytes k = do
   l ← passing bytes
   require (leb k 2) unknownSection 0
-  let begin = sectionAt l bytes k
-  accepted (take (sectionAt l bytes (suc k) - begin) (drop begin bytes))
+  accepted (record { from = sectionAt l bytes k; to = sectionAt l bytes (suc k) })
 
--- to open all definitions of this file, on an `unfolding` line
+-- "Refused, it hands back the empty stretch. Its number and place go into two lent numbers, both 0 when it succeeds"
+unfoldable pub sectionReply : List ℕ → Outcome Ends → Section
+sectionReply bytes (refused n p) = record { stretch = []; number = n; place = p }
+sectionReply bytes (accepted e) = record { stretch = take (e .to - e .from) (drop (e .from) bytes); number = 0; place = 0 }
+
+unfoldable pub section : List ℕ → ℕ → Section
+section bytes k = sectionReply bytes (sectionEnds bytes k)
+
+-- "the stretch of the caller's deck": how many bytes behind the deck's first it begins. The empty stretch begins with the deck
+unfoldable pub stretchFrom : Outcome Ends → ℕ
+stretchFrom (refused n p) = 0
+stretchFrom (accepted e) = e .from
+
+unfoldable pub sectionFrom : List ℕ → ℕ → ℕ
+sectionFrom bytes k = stretchFrom (sectionEnds bytes k)
+
+-- to open all definitions of this file, on an `unfolding` line; `stretches` opens section's
+unfoldable pub stretches : Unit {0}
+unfolding sectionAt sectionEnds sectionReply section stretchFrom sectionFrom
+stretches = tt
+
 unfoldable pub calls : Unit {0}
-unfolding reply tested check opened start channelsOf goodInput input commit oneMore settling settle sectionReply sectionAt section
+unfolding reply tested check opened start channelsOf goodInput input commit oneMore settling settle stretches
 calls = tt

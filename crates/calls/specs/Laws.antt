@@ -1,6 +1,8 @@
 -- Laws of the calls.
 pub mod Opening
 pub mod Checks
+pub mod Sections
+pub mod Numbered
 pub mod Inputs
 pub mod Settling
 pub mod Requests

@@ -7,6 +7,7 @@ ghost use Rattle.deck.specs.Shape.{shapeOf};
 ghost use Rattle.charge.specs.Memo.{Memo, Ready, RowKnown, RowLargest};
 ghost use Rattle.charge.specs.Answer.{boundOf, Passed, PartBound, RulesPassed};
 use charge::Bound;
+use deck::Deck;
 
 fn larger(a: u32, b: u32) -> u32
     ensures { λ r. ⌜ r ≡ max a b ⌝ }
@@ -28,15 +29,15 @@ fn part_above(
     requires { ⌜ Ready (now rules) (now parts) channels count «parts_count» (now memo) × (p < «parts_count») × Passed (shapeOf (now rules) (now parts) channels count «parts_count») (64 * p) best ⌝ }
     ensures { λ b. ⌜ PartBound (shapeOf (now (rules .entry)) (now (parts .entry)) channels count «parts_count») p b × Memo (shapeOf (now (rules .entry)) (now (parts .entry)) channels count «parts_count») (now (memo .exit)) ⌝ }
 {
-    let carried = parts[4 * p];
+    let carried = parts[Deck::PART_ROW * p];
     let mut most = best;
     let mut left = carried;
     let mut r = lists::lowest(left);
     while r < count {
         charge_tables::known_charges(rules, parts, memo, channels, count, parts_count, r);
-        let c = memo[16 * r + p] - 1;
-        if c == 65536 {
-            return Bound::Above(64 * p + r);
+        let c = memo[Deck::PARTS * r + p] - 1;
+        if c == charge_tables::CAP {
+            return Bound::Above(Deck::RULES * p + r);
         }
         most = larger(most, c);
         left = lists::rest(left);
@@ -83,7 +84,7 @@ fn row_largest(parts: &[u64], memo: &[u32], parts_count: usize, r: usize, best: 
     let mut q: usize = 0;
     while q < parts_count {
         if listeners::carries(parts, q, r) {
-            most = larger(most, memo[16 * r + q] - 1);
+            most = larger(most, memo[Deck::PARTS * r + q] - 1);
         }
         q += 1;
     }
@@ -129,7 +130,7 @@ pub fn first_above(
     ensures { λ b. ⌜ (b ≡ boundOf (shapeOf (now (rules .entry)) (now (parts .entry)) channels count «parts_count»)) × Memo (shapeOf (now (rules .entry)) (now (parts .entry)) channels count «parts_count») (now (memo .exit)) ⌝ }
 {
     let most = largest(rules, parts, memo, channels, count, parts_count);
-    if most < 65536 {
+    if most < charge_tables::CAP {
         return Bound::Within(most);
     }
     search_above(rules, parts, memo, channels, count, parts_count)

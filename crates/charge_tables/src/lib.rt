@@ -8,14 +8,18 @@ ghost use lib.ListN.{length, getD, replicate};
 ghost use Rattle.lists.specs.Lists.{sum, below};
 ghost use Rattle.graph.specs.Masks.{carriedAt};
 ghost use Rattle.charge.specs.Memo.{Ready, UpdateGives, RulesGive, Begun, UpdatesGive, RowSmall, RowKnown, RowAdded, RowPut, capped};
+use deck::Deck;
 
-// A sum that stops at 65,536, so that it fits however large the charge is.
+// Where a charge stops: above the largest that a deck may have.
+pub const CAP: u32 = 65536;
+
+// A sum that stops at the cap, so that it fits however large the charge is.
 pub fn capped_sum(a: u32, b: u32) -> u32
     requires { ⌜ (a < 1073741824) × (b < 1073741824) ⌝ }
     ensures { λ r. ⌜ r ≡ capped (a + b) ⌝ }
 {
     let s = a + b;
-    if s < 65536 { s } else { 65536 }
+    if s < CAP { s } else { CAP }
 }
 
 // Row r of the memo added to the charges of an update, at the parts that carry rule r.
@@ -26,20 +30,20 @@ fn add_row(sums: &mut [u32], parts: &[u64], memo: &[u32], parts_count: usize, r:
     let mut q: usize = 0;
     while q < parts_count {
         if listeners::carries(parts, q, r) {
-            sums[q] = sums[q] + (memo[16 * r + q] - 1);
+            sums[q] = sums[q] + (memo[Deck::PARTS * r + q] - 1);
         }
         q += 1;
     }
 }
 
 // The charges of an update at all parts before any rule is counted: 1, or 0 where it has no channel.
-fn begin(mask: u64) -> [u32; 16]
+fn begin(mask: u64) -> [u32; Deck::PARTS]
     ensures { λ sums. ⌜ Begun mask sums ⌝ }
 {
     if mask & 4294967295 == 0 {
-        return [0u32; 16];
+        return [0u32; Deck::PARTS];
     }
-    [1u32; 16]
+    [1u32; Deck::PARTS]
 }
 
 // The charges at all parts of an update of the channels in the mask, on a row that has 1 for each.
@@ -111,7 +115,7 @@ fn put_row(memo: &mut [u32], parts_count: usize, r: usize, kind: u64, first: &[u
     while p < parts_count {
         let rest = share(kind, total, second[p]);
         let charge = capped_sum(first[p], rest);
-        memo[16 * r + p] = charge + 1;
+        memo[Deck::PARTS * r + p] = charge + 1;
         p += 1;
     }
 }
@@ -129,11 +133,11 @@ fn rule_charges(
     requires { ⌜ Ready (now rules) (now parts) channels count «parts_count» (now memo) × (r < count) × (carriedAt (now parts) «parts_count» r ≡ true) ⌝ }
     ensures { λ _. ⌜ RulesGive (now (rules .entry)) (now (parts .entry)) channels count «parts_count» r (now (memo .entry)) (now (memo .exit)) ⌝ }
 {
-    if memo[16 * r] != 0 {
+    if memo[Deck::PARTS * r] != 0 {
         return;
     }
-    let default = rules[8 * r + 1];
-    let action = rules[8 * r + 2];
+    let default = rules[Deck::RULE_ROW * r + 1];
+    let action = rules[Deck::RULE_ROW * r + 2];
     let mut first = begin(default);
     let mut second = begin(action);
     if default & 4294967295 != 0 {
@@ -142,7 +146,7 @@ fn rule_charges(
     if action & 4294967295 != 0 {
         update_charges(rules, parts, memo, channels, count, parts_count, action, &mut second);
     }
-    put_row(memo, parts_count, r, rules[8 * r + 3], &first, &second);
+    put_row(memo, parts_count, r, rules[Deck::RULE_ROW * r + 3], &first, &second);
 }
 
 // The charges of rule r at all parts, if they are not in the memo yet. Mostly they are, and this test costs no call.
@@ -158,7 +162,7 @@ pub fn known_charges(
     requires { ⌜ Ready (now rules) (now parts) channels count «parts_count» (now memo) × (r < count) × (carriedAt (now parts) «parts_count» r ≡ true) ⌝ }
     ensures { λ _. ⌜ RulesGive (now (rules .entry)) (now (parts .entry)) channels count «parts_count» r (now (memo .entry)) (now (memo .exit)) ⌝ }
 {
-    if memo[16 * r] != 0 {
+    if memo[Deck::PARTS * r] != 0 {
         return;
     }
     rule_charges(rules, parts, memo, channels, count, parts_count, r);
@@ -184,7 +188,7 @@ pub fn update_charge(
     let mut r = lists::lowest(left);
     while r < count {
         known_charges(rules, parts, memo, channels, count, parts_count, r);
-        total = capped_sum(total, memo[16 * r + p] - 1);
+        total = capped_sum(total, memo[Deck::PARTS * r + p] - 1);
         left = lists::rest(left);
         r = lists::lowest(left);
     }

@@ -9,6 +9,7 @@ pub mod Sections
 pub mod Reading
 pub mod Within
 pub mod Prefix
+pub mod Faults
 pub mod Scoped
 pub mod Marks
 pub mod Points

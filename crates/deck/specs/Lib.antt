@@ -4,6 +4,7 @@ pub mod Deck
 pub mod Reader
 pub mod Layout
 pub mod Encoding
+pub mod Stretch
 pub mod Marks
 pub mod Shape
 pub mod Tables

@@ -67,6 +67,14 @@ impl Deck {
     // The numbers of a place: part, count, and a pair for each assignment.
     pub const PLACE: usize = 2 + 2 * Deck::ASSIGNMENTS;
 
+    // The numbers of a row in the two tables that the pass fills: of a rule, and of a part.
+    pub const RULE_ROW: usize = 8;
+
+    pub const PART_ROW: usize = 4;
+
+    // Decks of at most so many rules get short tables.
+    pub const FEW_RULES: usize = 16;
+
     // The bytes of the longest action, rule, part and deck.
     pub const ACTION_BYTES: usize = 1 + Deck::ASSIGNMENTS * (2 + Deck::EXPRESSION);
 

@@ -4,6 +4,7 @@ ghost use lib.IntN.{pos};
 ghost use lib.ListN.{length, replicate};
 ghost use Rattle.refusals.specs.Outcome.{refused, accepted};
 ghost use Rattle.pool.specs.Places.{zeros};
+ghost use Rattle.deck.specs.Stretch.{LiesAt};
 ghost use Rattle.calls.specs.Calls as Calls;
 ghost use Rattle.calls.specs.Answers.{checkOutcome, sectionOf, startOutcome, replyOf};
 ghost use Rattle.passing.specs.Judged.{ZeroRules, ZeroMemo};
@@ -19,7 +20,7 @@ pub fn check_with(deck: &[u8], rules: &mut [u64], memo: &mut [u32]) -> CheckAnsw
     requires { ⌜ ZeroRules (now deck) (now rules) × ZeroMemo (now deck) (now memo) ⌝ }
     ensures { λ r. ⌜ checkOutcome r ≡ Calls.check (now (deck .entry)) ⌝ }
 {
-    let mut parts = [0u64; 64];
+    let mut parts = [0u64; passing::PARTS];
     let verdict = judging::judge(deck, rules, &mut parts, memo);
     match verdict {
         Judged::Passing { counts, charge } => {
@@ -47,9 +48,10 @@ pub fn section_with<'a>(
     memo: &mut [u32],
 ) -> &'a [u8]
     requires { ⌜ ZeroRules (now deck) (now rules) × ZeroMemo (now deck) (now memo) ⌝ }
-    ensures { λ r. ⌜ (sectionOf (now r) (now (refusal .exit)) (now (place .exit)) ≡ Calls.section (now (deck .entry)) number) × (r .ptr .0 ≡ deck .entry .ptr .0) ⌝ }
+    ensures { λ r. ⌜ (sectionOf (now r) (now (refusal .exit)) (now (place .exit)) ≡ Calls.section (now (deck .entry)) number)
+        × LiesAt (deck .entry .ptr) (r .ptr) (Calls.sectionFrom (now (deck .entry)) number) ⌝ }
 {
-    let mut parts = [0u64; 64];
+    let mut parts = [0u64; passing::PARTS];
     let judged = judging::judge(deck, rules, &mut parts, memo);
     match judged {
         Judged::Refused {
@@ -111,7 +113,7 @@ pub fn start_with(deck: &[u8], pool: &mut [i32], rules: &mut [u64], memo: &mut [
     requires { ⌜ ZeroRules (now deck) (now rules) × ZeroMemo (now deck) (now memo) ⌝ }
     ensures { λ r. ⌜ replyOf (startOutcome (r .answer)) (r .state) (now (pool .exit)) ≡ Calls.start (now (deck .entry)) (now (pool .entry)) ⌝ }
 {
-    let mut parts = [0u64; 64];
+    let mut parts = [0u64; passing::PARTS];
     let mut values = [0i32; Deck::VALUES];
     let found = judging::judge(deck, rules, &mut parts, memo);
     match found {

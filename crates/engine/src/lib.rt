@@ -2,6 +2,7 @@
 // behind the others `lent_calls`.
 ghost use Prim.Native.Nat.{ℕ};
 ghost use mathlib.Core.Path.{_≡_};
+ghost use Rattle.deck.specs.Stretch.{LiesAt};
 ghost use Rattle.calls.specs.Calls as Calls;
 ghost use Rattle.calls.specs.Answers.{checkOutcome, sectionOf, startOutcome, inputOutcome, commitOutcome, settleOutcome, memoryOf, replyOf};
 ghost use Rattle.calls.specs.Requests.{outcomeTo};
@@ -32,10 +33,11 @@ pub fn check(deck: &[u8]) -> CheckAnswer
     deck_calls::check_with(deck, &mut rules, &mut memo)
 }
 
-// The stretch of the deck from a section's count to its end; empty where it is refused. The refusal's number and place go into
-// the two lent numbers, both 0 where it is not.
+// The stretch of the deck from a section's count to its end, in the lent deck itself; empty where it is refused. The refusal's
+// number and place go into the two lent numbers, both 0 where it is not.
 pub fn section<'a>(deck: &'a [u8], number: u32, refusal: &mut u32, place: &mut u32) -> &'a [u8]
-    ensures { λ r. ⌜ (sectionOf (now r) (now (refusal .exit)) (now (place .exit)) ≡ Calls.section (now (deck .entry)) number) × (r .ptr .0 ≡ deck .entry .ptr .0) ⌝ }
+    ensures { λ r. ⌜ (sectionOf (now r) (now (refusal .exit)) (now (place .exit)) ≡ Calls.section (now (deck .entry)) number)
+        × LiesAt (deck .entry .ptr) (r .ptr) (Calls.sectionFrom (now (deck .entry)) number) ⌝ }
 {
     if reading::few_rules(deck) {
         let mut short = [0u64; passing::SHORT_RULES];
@@ -49,7 +51,8 @@ pub fn section<'a>(deck: &'a [u8], number: u32, refusal: &mut u32, place: &mut u
 
 // The opening values, nothing pending, and the pool all 0. A refused start hands back a state of zeros.
 pub fn start(deck: &[u8], pool: &mut [i32]) -> Started
-    ensures { λ r. ⌜ replyOf (startOutcome (r .answer)) (r .state) (now (pool .exit)) ≡ Calls.start (now (deck .entry)) (now (pool .entry)) ⌝ }
+    ensures { λ r. ⌜ replyOf (startOutcome (r .answer)) (r .state) (now (pool .exit))
+        ≡ Calls.start (now (deck .entry)) (now (pool .entry)) ⌝ }
 {
     if reading::few_rules(deck) {
         let mut short = [0u64; passing::SHORT_RULES];
@@ -103,7 +106,8 @@ fn settle_answer(told: Response) -> SettleAnswer
 
 // The values of channels of a part are set; the limit is not tested. The answer is the charge added.
 pub fn input(deck: &[u8], pool: &mut [i32], state: State, part: u32, pairs: &[i32]) -> Entered
-    ensures { λ r. ⌜ replyOf (inputOutcome (r .answer)) (r .state) (now (pool .exit)) ≡ Calls.input (now (deck .entry)) (memoryOf state (now (pool .entry))) part (now (pairs .entry)) ⌝ }
+    ensures { λ r. ⌜ replyOf (inputOutcome (r .answer)) (r .state) (now (pool .exit))
+        ≡ Calls.input (now (deck .entry)) (memoryOf state (now (pool .entry))) part (now (pairs .entry)) ⌝ }
 {
     let mut values = state.values;
     let mut pending = state.pending;
@@ -121,7 +125,8 @@ pub fn input(deck: &[u8], pool: &mut [i32], state: State, part: u32, pairs: &[i3
 
 // The commit of the update at a place. The answer is whether it was applied, and the charge now pending.
 pub fn commit(deck: &[u8], pool: &mut [i32], state: State, place: u32) -> Committed
-    ensures { λ r. ⌜ replyOf (commitOutcome (r .answer)) (r .state) (now (pool .exit)) ≡ Calls.commit (now (deck .entry)) (memoryOf state (now (pool .entry))) place ⌝ }
+    ensures { λ r. ⌜ replyOf (commitOutcome (r .answer)) (r .state) (now (pool .exit))
+        ≡ Calls.commit (now (deck .entry)) (memoryOf state (now (pool .entry))) place ⌝ }
 {
     let mut values = state.values;
     let mut pending = state.pending;
@@ -141,7 +146,8 @@ pub fn commit(deck: &[u8], pool: &mut [i32], state: State, place: u32) -> Commit
 // The commit of place 0, again and again, within a budget of commits. The answer is how many were made, and whether nothing is
 // pending then.
 pub fn settle(deck: &[u8], pool: &mut [i32], state: State, budget: u32) -> Settled
-    ensures { λ r. ⌜ replyOf (settleOutcome (r .answer)) (r .state) (now (pool .exit)) ≡ Calls.settle (now (deck .entry)) (memoryOf state (now (pool .entry))) budget ⌝ }
+    ensures { λ r. ⌜ replyOf (settleOutcome (r .answer)) (r .state) (now (pool .exit))
+        ≡ Calls.settle (now (deck .entry)) (memoryOf state (now (pool .entry))) budget ⌝ }
 {
     let mut values = state.values;
     let mut pending = state.pending;

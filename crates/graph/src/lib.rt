@@ -35,7 +35,7 @@ pub fn carried_by_some(parts: &[u64], parts_count: usize) -> u64
     let mut set: u64 = 0;
     let mut p: usize = 0;
     while p < parts_count {
-        set = set | parts[4 * p];
+        set = set | parts[Deck::PART_ROW * p];
         p += 1;
     }
     set
@@ -50,8 +50,8 @@ fn draw(rules: &[u64], parts: &[u64], count: usize, parts_count: usize, edges: &
     let mut left = carried;
     let mut r = lists::lowest(left);
     while r < count {
-        let targets = rules[8 * r + 1] | rules[8 * r + 2];
-        add_edges(edges, rules[8 * r], targets);
+        let targets = rules[Deck::RULE_ROW * r + 1] | rules[Deck::RULE_ROW * r + 2];
+        add_edges(edges, rules[Deck::RULE_ROW * r], targets);
         left = lists::rest(left);
         r = lists::lowest(left);
     }

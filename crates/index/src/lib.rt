@@ -6,6 +6,7 @@ ghost use lib.ListN.{length, getD, set};
 ghost use lib.IntN.{pos};
 ghost use Rattle.index.specs.Hash.{raised, factored, hashOf, bucketOf, sideOf};
 ghost use Rattle.index.specs.Index.{holeOf, lostOf, Seeking, Finds, PlaceOf, IsPlace};
+use deck::Deck;
 
 // The number at an index, as one from 0 on.
 fn raise(place: &[i32], i: usize) -> u64
@@ -62,7 +63,7 @@ fn side(row: &[i32], d: usize) -> usize
         let x = raise(row, 3);
         return ((x >> d) % 2) as usize;
     }
-    let y = raise(row, (d / 32 + 3) % 10);
+    let y = raise(row, (d / 32 + 3) % Deck::PLACE);
     ((y >> (d % 32)) % 2) as usize
 }
 
@@ -94,7 +95,7 @@ fn is_place(pool: &[i32], pending: usize, p: usize, row: &[i32]) -> bool
     if p >= pending {
         return false;
     }
-    pool::same_at(pool, 10 * p, row)
+    pool::same_at(pool, Deck::PLACE * p, row)
 }
 
 // Where a place with these numbers is to be entered: the free slot at the end of their way down the tree of their bucket; the length of
@@ -132,7 +133,7 @@ pub fn find_first(index: &[u16], pool: &[i32], pending: usize, row: &[i32]) -> u
     let mut i = index[s] as usize;
     let mut d: usize = 0;
     while i > 0 {
-        if pool::same_at(pool, 10 * (i - 1), row) {
+        if pool::same_at(pool, Deck::PLACE * (i - 1), row) {
             return index.len();
         }
         let b = side(row, d);

@@ -51,7 +51,7 @@ fn call_on(
     requires { ⌜ Usable (length (now pool)) (now index) × ZeroRules (now deck) (now rules) × ZeroMemo (now deck) (now memo) ⌝ }
     ensures { λ r. ⌜ replyAt (outcomeTo request r) (now (values .exit)) (now (pending .exit)) (now (pool .exit)) ≡ requested (now (deck .entry)) (memoryAt (now (values .entry)) (now (pending .entry)) (now (pool .entry))) request (now (pairs .entry)) ⌝ }
 {
-    let mut parts = [0u64; 64];
+    let mut parts = [0u64; passing::PARTS];
     let found = call_tests::test_lent(deck, rules, &mut parts, memo, index, pool, values, *pending);
     match found {
         Tested::Refused { number, place } => Response::Refused { number, place },

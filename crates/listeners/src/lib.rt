@@ -13,7 +13,7 @@ fn clear_listeners(rules: &mut [u64])
 {
     let mut c: usize = 0;
     while c < Deck::CHANNELS {
-        rules[8 * c + 7] = 0;
+        rules[Deck::RULE_ROW * c + 7] = 0;
         c += 1;
     }
 }
@@ -26,7 +26,7 @@ fn note_rule(rules: &mut [u64], events: u64, r: usize)
     let mut left = events;
     let mut c = lists::lowest(left);
     while c < Deck::CHANNELS {
-        rules[8 * c + 7] = rules[8 * c + 7] | (1u64 << r);
+        rules[Deck::RULE_ROW * c + 7] = rules[Deck::RULE_ROW * c + 7] | (1u64 << r);
         left = lists::rest(left);
         c = lists::lowest(left);
     }
@@ -42,7 +42,7 @@ pub fn note_listeners(rules: &mut [u64], parts: &[u64], count: usize, parts_coun
     let mut left = carried;
     let mut r = lists::lowest(left);
     while r < count {
-        let events = rules[8 * r];
+        let events = rules[Deck::RULE_ROW * r];
         note_rule(rules, events, r);
         left = lists::rest(left);
         r = lists::lowest(left);
@@ -58,7 +58,7 @@ pub fn listeners(rules: &[u64], mask: u64) -> u64
     let mut left = mask;
     let mut c = lists::lowest(left);
     while c < Deck::CHANNELS {
-        set = set | rules[8 * c + 7];
+        set = set | rules[Deck::RULE_ROW * c + 7];
         left = lists::rest(left);
         c = lists::lowest(left);
     }
@@ -70,7 +70,7 @@ pub fn carries(parts: &[u64], p: usize, r: usize) -> bool
     requires { ⌜ (64 ≤ length (now parts)) × (p < 16) × (r < 64) ⌝ }
     ensures { λ b. ⌜ b ≡ bit (getD (now (parts .entry)) (4 * p) 0) r ⌝ }
 {
-    let carried = parts[4 * p];
+    let carried = parts[Deck::PART_ROW * p];
     (carried >> r) % 2 == 1
 }
 
@@ -87,5 +87,5 @@ pub fn active(
     requires { ⌜ AcyclicTables (now rules) (now parts) channels count «parts_count» × (p < «parts_count») ⌝ }
     ensures { λ s. ⌜ ActiveIs (now (rules .entry)) (now (parts .entry)) count p mask s ⌝ }
 {
-    listeners(rules, mask) & parts[4 * p]
+    listeners(rules, mask) & parts[Deck::PART_ROW * p]
 }

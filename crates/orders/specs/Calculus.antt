@@ -3,7 +3,7 @@
 use Prim.Native.Nat.{ℕ, _<_}
 use mathlib.Core.Path.{_≡_}
 use mathlib.Core.Logic.{_⊎_, _↔_}
-use mathlib.Core.Bool.{Bool, true, false, not, _&&_, cond}
+use mathlib.Core.Bool.{Bool, true, false, not, _&&_, _||_, cond}
 use mathlib.Core.List.{List, [], _∷_, map}
 use lib.Dec.{eqb}
 use lib.IntN.{ℤ}
@@ -11,7 +11,7 @@ use Rattle.lists.specs.Lists.{any, filter, below, member, isEmpty, eqZ, eqList}
 use Rattle.expression.specs.Syntax.{Num, literal, own, far, two, negation}
 use Rattle.expression.specs.Syntax.{Truth, constant, opposite, both, compared}
 use Rattle.expression.specs.Values.{numValue, truthValue}
-use Rattle.deck.specs.Deck.{Deck, Action, Rule, R, M, N, ruleAt, partAt, carries}
+use Rattle.deck.specs.Deck.{Deck, Action, Rule, R, M, N, ruleAt, partAt, carries, targets}
 use Rattle.pool.specs.Updates.{Pair, valueAt, eqPair, isAmong}
 use Rattle.pool.specs.States.{Machine}
 
@@ -185,7 +185,12 @@ systemOf x p =
       pool = λ u. isAmong (record { part = p; pairs = u }) (x .pending) ≡ true;
     }
 
--- to open all definitions of this file, on an `unfolding` line
-unfoldable pub calculus : Unit {0}
-unfolding overridden evaluate updatesFrom satisfies activeRules defUpds localUpds partialNum partialTruth partialTask extTasks discovered changedBy tasksOf programOf systemOf
-calculus = tt
+-- ---- Definition 9, the dependency graph
+
+-- x₁ ∈ In(rule) ∧ x₂ ∈ Out(rule)
+unfoldable pub leads : ℕ → ℕ → Rule → Bool
+leads a b r = member a (r .events) && (member b (targets (r .default)) || member b (targets (r .action)))
+
+-- (x₁, x₂) ∈ E: some rule of some of the n nodes leads from x₁ to x₂
+unfoldable pub depends : ℕ → (ℕ → Program) → ℕ → ℕ → Bool
+depends n P a b = any (λ i. any (leads a b) (P i .rules)) (below n)

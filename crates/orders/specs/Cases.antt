@@ -53,8 +53,8 @@ D6 = set D 12 0
 unfoldable pub D7 : List ℕ
 D7 = take 46 D6 ++ 1 ∷ 1 ∷ take 14 (drop 49 D6) ++ 1 ∷ 1 ∷ drop 66 D6
 
--- what a case shows: the answers; the line that the program prints; the values of channels b and c of part 1, and the pool's
--- first place
+-- what a case shows: the answers; the line that the program prints; the values of channel a of part 0 and of b and c of part 1,
+-- and the pool's first place
 pub record Seen : Type 0 where
   pub answers : List (Outcome Answer)
   pub printed : List ℕ
@@ -78,7 +78,7 @@ checking bytes o text =
 unfoldable pub seen : List (Outcome Answer) → Memory → Seen
 seen answers m =
     let t = m .state .values in
-    record { answers = answers; printed = []; values = valueAt t 1 1 ∷ valueAt t 1 2 ∷ take 10 (m .pool) }
+    record { answers = answers; printed = []; values = valueAt t 0 0 ∷ valueAt t 1 1 ∷ valueAt t 1 2 ∷ take 10 (m .pool) }
 
 -- the definition of a list, for bytes that pass and a pool of n numbers
 unfoldable pub listedFor : Outcome Layout → ℕ → List Call → Seen
@@ -101,9 +101,9 @@ calling C cs answers values =
 unfoldable pub setA : ℕ → Call
 setA v = input 0 (pos 0 ∷ pos v ∷ [])
 
--- b and c, and an empty first place
-unfoldable pub settledAt : ℕ → ℕ → List ℤ
-settledAt b c = pos b ∷ pos c ∷ zeros 10
+-- a, b and c, and an empty first place
+unfoldable pub settledAt : ℕ → ℕ → ℕ → List ℤ
+settledAt a b c = pos a ∷ pos b ∷ pos c ∷ zeros 10
 
 unfoldable pub cases : List Case
 cases =
@@ -116,20 +116,20 @@ cases =
     ∷ checking D7 (accepted (passed 3 2 2 1)) "passed 3 2 2 1\n"  -- P7
     ∷ calling 2 (setA 4 ∷ commit 0 ∷ commit 0 ∷ [])  -- P8
     (accepted (added 2) ∷ accepted (applied 1) ∷ accepted (applied 0) ∷ [])
-    (settledAt 4 5)
-    ∷ calling 1 (setA 4 ∷ []) (refused 13 0 ∷ []) (settledAt 0 0)  -- P8 with C = 1
+    (settledAt 4 4 5)
+    ∷ calling 1 (setA 4 ∷ []) (refused 13 0 ∷ []) (settledAt 0 0 0)  -- P8 with C = 1: a stays as well
     ∷ calling 2 (setA 9 ∷ commit 0 ∷ commit 0 ∷ [])  -- P9
     (accepted (added 2) ∷ accepted (applied 1) ∷ accepted (discarded 0) ∷ [])
-    (settledAt 9 0)
+    (settledAt 9 9 0)
     ∷ calling 2 (setA 4 ∷ commit 0 ∷ commit 0 ∷ setA 4 ∷ [])  -- P10
     (accepted (added 2) ∷ accepted (applied 1) ∷ accepted (applied 0) ∷ accepted (added 0) ∷ [])
-    (settledAt 4 5)
+    (settledAt 4 4 5)
     ∷ calling 2 (setA 2147483647 ∷ commit 0 ∷ [])  -- P11: the sum clamps, so that c = 2147483647 is pending
     (accepted (added 2) ∷ accepted (applied 1) ∷ [])
-    (pos 2147483647 ∷ pos 0 ∷ pos 1 ∷ pos 1 ∷ pos 2 ∷ pos 2147483647 ∷ zeros 6)
+    (pos 2147483647 ∷ pos 2147483647 ∷ pos 0 ∷ pos 1 ∷ pos 1 ∷ pos 2 ∷ pos 2147483647 ∷ zeros 6)
     ∷ calling 2 (setA 2147483647 ∷ commit 0 ∷ commit 0 ∷ [])  -- P11: and is discarded
     (accepted (added 2) ∷ accepted (applied 1) ∷ accepted (discarded 0) ∷ [])
-    (settledAt 2147483647 0)
+    (settledAt 2147483647 2147483647 0)
     ∷ []
 
 pub cases-hold : flatMap (λ c. c .called ∷ c .listed ∷ []) cases ≡ flatMap (λ c. c .wanted ∷ c .wanted ∷ []) cases

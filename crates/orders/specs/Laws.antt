@@ -13,3 +13,8 @@ pub mod Steps
 pub mod Known
 pub mod Reaches
 pub mod Published
+pub mod Settled
+pub mod Depends
+pub mod Runs
+pub mod Starts
+pub mod Hosts

@@ -3,13 +3,15 @@ use Prim.Native.Nat.{ℕ, _+_, _≤_, _<_}
 use mathlib.Core.Path.{_≡_}
 use mathlib.Core.Bool.{Bool, true, not, _||_}
 use mathlib.Core.List.{List, [], _∷_}
+use lib.Dec.{leb}
 use lib.ListN.{length}
 use lib.IntN.{ℤ}
 use Rattle.lists.specs.Lists.{all}
 use Rattle.refusals.specs.Outcome.{Outcome, refused, accepted}
 use Rattle.refusals.specs.Numbers.{placeNotPending}
 use Rattle.deck.specs.Deck.{Deck}
-use Rattle.pool.specs.Updates.{charge}
+use Rattle.charge.specs.Charge.{updateCharge}
+use Rattle.pool.specs.Updates.{Update, channels, charge}
 use Rattle.pool.specs.Places.{capacity}
 use Rattle.pool.specs.States.{Machine, store}
 use Rattle.passing.specs.Check.{within, openingValues}
@@ -45,6 +47,10 @@ Settles d C x (settle b) =
 unfoldable pub leavesWithin : Deck → Turn → Bool
 leavesWithin d t = not (t .applied) || within d (t .part) (t .after .values)
 
+-- a pending update has a charge of at least 1
+unfoldable pub hasCharge : Deck → Update → Bool
+hasCharge d u = leb 1 (updateCharge d (u .part) (channels u))
+
 -- d is the deck that the bytes hold, and pool what is lent to the start, with whatever stood in it
 pub record Order (bytes : List ℕ) (d : Deck) (pool : List ℤ) (cs : List Call) : Type 0 where
   -- answers, state and pool are as the definition of the list has them
@@ -52,6 +58,8 @@ pub record Order (bytes : List ℕ) (d : Deck) (pool : List ℤ) (cs : List Call
   pub memory : run bytes pool cs .memory ≡ store (length pool) (listed d (length pool) cs .machine)
   -- commits made and charge pending are at most the charge added
   pub bound : commitsMade (listed d (length pool) cs) + chargePending d (listed d (length pool) cs) ≤ chargeAdded (listed d (length pool) cs)
+  -- each pending update has a charge of at least 1, so that as many commits are paid for as are pending
+  pub each-charged : all (hasCharge d) (listed d (length pool) cs .machine .pending) ≡ true
   -- a commit is refused exactly when its place is not below the pending number
   pub commit-refused : Along (RefusedAsPlaced d (capacity (length pool))) d (capacity (length pool)) (record { values = openingValues d; pending = [] }) cs
   -- each applied commit, within a settle too, leaves its part within its limit
@@ -61,5 +69,5 @@ pub record Order (bytes : List ℕ) (d : Deck) (pool : List ℤ) (cs : List Call
 
 -- to open all definitions of this file, on an `unfolding` line
 unfoldable pub ordering : Unit {0}
-unfolding Along RefusedAsPlaced Settles leavesWithin
+unfolding Along RefusedAsPlaced Settles leavesWithin hasCharge
 ordering = tt

@@ -6,6 +6,7 @@ ghost use lib.ListN.{length, drop};
 ghost use Rattle.lists.specs.Lists.{flatMap};
 ghost use Rattle.deck.specs.Reader.{times, value};
 ghost use Rattle.deck.specs.Marks.{Reads, markedPart, partRow};
+use deck::Deck;
 use deck::Step;
 
 // So many opening values, of four bytes each: whatever the bytes are, only their number matters.
@@ -25,7 +26,7 @@ fn values_at(s: &[u8], at: usize, count: usize) -> Step
 
 // A part's row, and the place after the part.
 pub struct PartRead {
-    pub row: [u64; 4],
+    pub row: [u64; Deck::PART_ROW],
     pub step: Step,
 }
 
@@ -33,7 +34,7 @@ fn no_part(step: Step) -> PartRead
     ensures { λ r. ⌜ r .step ≡ step ⌝ }
 {
     PartRead {
-        row: [0; 4],
+        row: [0; Deck::PART_ROW],
         step: step,
     }
 }
@@ -87,7 +88,7 @@ pub fn parts_at(
         let Step::Next(next) = step else {
             return step;
         };
-        let from = 4 * i;
+        let from = Deck::PART_ROW * i;
         fields::write_row(&mut table[from..], &row);
         place = next;
         i += 1;

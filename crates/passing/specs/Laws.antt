@@ -10,3 +10,4 @@ pub mod Opening
 pub mod Places
 pub mod Judged
 pub mod Tables
+pub mod Longest

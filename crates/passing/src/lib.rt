@@ -2,15 +2,17 @@
 // The crate `judging` computes the tests.
 use deck::Deck;
 
-// The numbers of a table of rules and of a memo of charges, for decks of at most 16 rules and for the others. They begin as zeros
-// in each call.
-pub const SHORT_RULES: usize = 256;
+// The numbers of a table of rules and of a memo of charges, for decks of few rules and for the others, and of a table of parts. They
+// begin as zeros in each call. A table of rules has a row for each channel as well.
+pub const SHORT_RULES: usize = Deck::CHANNELS * Deck::RULE_ROW;
 
-pub const RULES: usize = 512;
+pub const RULES: usize = Deck::RULES * Deck::RULE_ROW;
 
-pub const SHORT_MEMO: usize = 256;
+pub const SHORT_MEMO: usize = Deck::FEW_RULES * Deck::PARTS;
 
-pub const MEMO: usize = 1024;
+pub const MEMO: usize = Deck::RULES * Deck::PARTS;
+
+pub const PARTS: usize = Deck::PARTS * Deck::PART_ROW;
 
 // A deck that passes, with the largest charge of its carried rules; or the refusal, 1 to 8.
 pub enum Judged {

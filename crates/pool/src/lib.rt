@@ -10,6 +10,9 @@ ghost use Rattle.pool.specs.States.{goodLength};
 ghost use Rattle.pool.specs.Moves.{written, moved, removed, shifted};
 use deck::Deck;
 
+// The places of the longest pool.
+const MOST_PLACES: usize = 65535;
+
 // A value table, channel c of part p at 32 p + c, and the pending number.
 pub struct State {
     pub values: [i32; Deck::VALUES],
@@ -23,7 +26,7 @@ pub fn good_length(n: usize) -> bool
     if n < Deck::PLACE {
         return false;
     }
-    if n > 65535 * Deck::PLACE {
+    if n > MOST_PLACES * Deck::PLACE {
         return false;
     }
     n % Deck::PLACE == 0
@@ -48,7 +51,7 @@ pub fn push(pool: &mut [i32], pending: usize, update: &[i32])
     requires { ⌜ (length (now update) ≡ 10) × (10 * pending + 10 ≤ length (now pool)) ⌝ }
     ensures { λ _. ⌜ now (pool .exit) ≡ written (now (pool .entry)) (10 * pending) (now (update .entry)) ⌝ }
 {
-    let at = 10 * pending;
+    let at = Deck::PLACE * pending;
     write_update(&mut pool[at..], update);
 }
 
@@ -87,9 +90,9 @@ pub fn take_out(pool: &mut [i32], pending: usize, k: usize)
     requires { ⌜ (k < pending) × (10 * pending ≤ length (now pool)) ⌝ }
     ensures { λ _. ⌜ now (pool .exit) ≡ removed (now (pool .entry)) pending k ⌝ }
 {
-    let last = 10 * (pending - 1);
-    move_down(pool, 10 * k, 10, 10 * (pending - 1 - k));
-    let none = [0i32; 10];
+    let last = Deck::PLACE * (pending - 1);
+    move_down(pool, Deck::PLACE * k, Deck::PLACE, Deck::PLACE * (pending - 1 - k));
+    let none = [0i32; Deck::PLACE];
     write_update(&mut pool[last..], &none);
 }
 

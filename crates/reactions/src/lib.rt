@@ -36,13 +36,13 @@ fn fire_here(
     let to = from + counts.channels;
     let own = &values[from..to];
     let far = &values[0..0];
-    let default = rules[8 * r + 4] as usize;
+    let default = rules[Deck::RULE_ROW * r + 4] as usize;
     let first = offers::offer_default(deck, counts, rules, parts, memo, index, pool, gone, capacity, queue, default, p, own, far);
-    if rules[8 * r + 3] == 1 {
+    if rules[Deck::RULE_ROW * r + 3] == 1 {
         return first;
     }
-    if judging::truth_from(deck, rules[8 * r + 5] as usize, values, from, counts.channels, 0, 0) {
-        let action = rules[8 * r + 6] as usize;
+    if judging::truth_from(deck, rules[Deck::RULE_ROW * r + 5] as usize, values, from, counts.channels, 0, 0) {
+        let action = rules[Deck::RULE_ROW * r + 6] as usize;
         offers::offer(deck, counts, rules, parts, memo, index, pool, gone, capacity, first, action, p, own, far)
     } else {
         first
@@ -69,7 +69,7 @@ fn fire_there(
     requires { ⌜ Tabled (now deck) counts (now rules) (now parts) × Offering (now rules) (now parts) counts capacity (now memo) (heldOf gone (now index) (now pool)) queue × (length (now values) ≡ 512) × (p < counts .parts) × (r < counts .rules) × (q < counts .parts) ⌝ }
     ensures { λ s. ⌜ Offered (shape (now (rules .entry)) (now (parts .entry)) counts) capacity (firedThere (now (values .entry)) p (ruleAt (deckOf (now (deck .entry))) r) q) (heldOf gone (now (index .entry)) (now (pool .entry))) queue (now (memo .exit)) (heldOf gone (now (index .exit)) (now (pool .exit))) s ⌝ }
 {
-    if rules[8 * r + 3] != 1 {
+    if rules[Deck::RULE_ROW * r + 3] != 1 {
         return queue;
     }
     let from = Deck::CHANNELS * p;
@@ -78,8 +78,8 @@ fn fire_there(
     let start = Deck::CHANNELS * q;
     let end = start + counts.channels;
     let far = &values[start..end];
-    if judging::truth_from(deck, rules[8 * r + 5] as usize, values, from, counts.channels, start, counts.channels) {
-        let action = rules[8 * r + 6] as usize;
+    if judging::truth_from(deck, rules[Deck::RULE_ROW * r + 5] as usize, values, from, counts.channels, start, counts.channels) {
+        let action = rules[Deck::RULE_ROW * r + 6] as usize;
         offers::offer(deck, counts, rules, parts, memo, index, pool, gone, capacity, queue, action, q, own, far)
     } else {
         queue

@@ -1,7 +1,8 @@
 // The pass over a deck's bytes: the faults 1 to 5, the two tables, and the stretch of a section. The definitions are in `deck`.
 ghost use mathlib.Core.Path.{_≡_};
-ghost use Prim.Native.Nat.{_+_, _≤_};
+ghost use Prim.Native.Nat.{_≤_};
 ghost use lib.ListN.{length};
+ghost use Rattle.deck.specs.Stretch.{LiesAt};
 ghost use Rattle.deck.specs.Marks.{RulesFit, FewRules, ReadsFront, Loads, offsetOf, stretchOf};
 use deck::Deck;
 use deck::Front;
@@ -96,7 +97,7 @@ pub fn few_rules(deck: &[u8]) -> bool
     if deck.len() - 1 <= channels {
         return false;
     }
-    fields::wide(deck[1 + channels]) <= 16
+    fields::wide(deck[1 + channels]) <= Deck::FEW_RULES
 }
 
 // The offset of a section's count; from 3 on, the deck's end.
@@ -118,7 +119,8 @@ fn offset(deck: Deck, number: usize, end: usize) -> usize
 // The stretch of a section, from its count to its end.
 pub fn stretch<'a>(bytes: &'a [u8], deck: Deck, number: usize) -> &'a [u8]
     requires { ⌜ (deck .second ≤ deck .third) × (deck .third ≤ length (now bytes)) × (number ≤ 2) ⌝ }
-    ensures { λ r. ⌜ (now r ≡ stretchOf (deck .second) (deck .third) (now (bytes .entry)) number) × (r .ptr .0 ≡ bytes .entry .ptr .0) × (r .ptr .1 ≡ bytes .entry .ptr .1 + offsetOf (deck .second) (deck .third) (length (now (bytes .entry))) number) ⌝ }
+    ensures { λ r. ⌜ (now r ≡ stretchOf (deck .second) (deck .third) (now (bytes .entry)) number)
+        × LiesAt (bytes .entry .ptr) (r .ptr) (offsetOf (deck .second) (deck .third) (length (now (bytes .entry))) number) ⌝ }
 {
     let from = offset(deck, number, bytes.len());
     let to = offset(deck, number + 1, bytes.len());

@@ -132,7 +132,7 @@ fn task_at(s: &[u8], at: usize, own: usize) -> Task
 
 // A rule's row, and the place after the rule.
 pub struct RuleRead {
-    pub row: [u64; 8],
+    pub row: [u64; Deck::RULE_ROW],
     pub step: Step,
 }
 
@@ -140,7 +140,7 @@ fn no_rule(step: Step) -> RuleRead
     ensures { λ r. ⌜ r .step ≡ step ⌝ }
 {
     RuleRead {
-        row: [0; 8],
+        row: [0; Deck::RULE_ROW],
         step: step,
     }
 }
@@ -198,7 +198,7 @@ pub fn rules_at(s: &[u8], at: usize, own: usize, count: usize, table: &mut [u64]
         let Step::Next(next) = step else {
             return step;
         };
-        let from = 8 * i;
+        let from = Deck::RULE_ROW * i;
         fields::write_row(&mut table[from..], &row);
         place = next;
         i += 1;

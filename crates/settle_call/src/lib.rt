@@ -11,6 +11,8 @@ ghost use Rattle.offers.specs.Stored.{Committing};
 use calls::Response;
 use deck::Deck;
 
+const LARGEST_BUDGET: u32 = 65535;
+
 // Place 0 is committed until none is pending or the budget is used. What was tested once is not tested again, and the places
 // move down once, at the end.
 fn settle_turns(
@@ -66,7 +68,7 @@ pub fn settle_tested(
     requires { ⌜ Passed (now deck) (now rules) (now parts) (now memo) (now index) (memoryAt (now values) (now pending) (now pool)) counts charge ⌝ }
     ensures { λ r. ⌜ replyAt (outcomeTo (Asked.Settle budget) r) (now (values .exit)) (now (pending .exit)) (now (pool .exit)) ≡ Calls.settle (now (deck .entry)) (memoryAt (now (values .entry)) (now (pending .entry)) (now (pool .entry))) budget ⌝ }
 {
-    if budget > 65535 {
+    if budget > LARGEST_BUDGET {
         return Response::Refused {
             number: refusals::BUDGET_TOO_LARGE,
             place: 0,

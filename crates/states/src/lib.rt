@@ -211,8 +211,8 @@ fn weigh(
     let mut total: u32 = 0;
     let mut k: usize = 0;
     while k < pending {
-        let at = 10 * k;
-        let next = at + 10;
+        let at = Deck::PLACE * k;
+        let next = at + Deck::PLACE;
         let mask = place_fits(&pool[at..next], channels, parts_count);
         if mask == 0 {
             return Goodness::Bad;
@@ -244,7 +244,7 @@ fn state_fits(values: &[i32], pending: usize, pool: &[i32], channels: usize, par
     if pool.len() / Deck::PLACE < pending {
         return false;
     }
-    let end = 10 * pending;
+    let end = Deck::PLACE * pending;
     pool::all_zero(&pool[end..])
 }
 

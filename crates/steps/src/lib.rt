@@ -9,6 +9,9 @@ ghost use Rattle.offers.specs.Stored.{Committing};
 ghost use Rattle.steps.specs.Commits.{Looking, Looks, Finishing, Finishes, Commits, CommitsFront};
 use deck::Deck;
 
+// The number of an update's pairs is below this.
+const COUNTS: usize = Deck::ASSIGNMENTS + 1;
+
 // The part of an update and the number of its pairs, its charge, up to 65,536, and the channels that it changes, as a set.
 pub struct Looked {
     pub part: usize,
@@ -32,11 +35,11 @@ fn look(
     requires { ⌜ Looking counts (now rules) (now parts) (now memo) (now pool) pending k × (length (now values) ≡ 512) × (length (now back) ≡ 8) ⌝ }
     ensures { λ r. ⌜ Looks (shape (now (rules .entry)) (now (parts .entry)) counts) k (now (values .entry)) (now (pool .entry)) (now (memo .exit)) (now (values .exit)) (now (back .exit)) (r .part) (r .count) (r .charge) (r .changed) ⌝ }
 {
-    let at = 10 * k;
-    let end = at + 10;
+    let at = Deck::PLACE * k;
+    let end = at + Deck::PLACE;
     let place = &pool[at..end];
     let part = states::number_at(place, 0, counts.parts);
-    let count = states::number_at(place, 1, 5);
+    let count = states::number_at(place, 1, COUNTS);
     let mask = states::channels_of(place);
     let c = charge_tables::update_charge(rules, parts, memo, counts.channels, counts.rules, counts.parts, part, mask);
     let to = 2 + 2 * count;

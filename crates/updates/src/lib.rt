@@ -24,11 +24,11 @@ fn number_from(deck: &[u8], at: usize, own: &[i32], far: &[i32]) -> i32
 
 // The place of the update that an action of one assignment, at an offset, makes for a part. Most actions have one, and its numbers are
 // written without a loop.
-fn evaluate_one(deck: &[u8], at: usize, part: usize, own: &[i32], far: &[i32]) -> [i32; 10]
+fn evaluate_one(deck: &[u8], at: usize, part: usize, own: &[i32], far: &[i32]) -> [i32; Deck::PLACE]
     requires { ⌜ HasAction (now deck) at (length (now own)) (length (now far)) × (part < 16) × (getD (now deck) at 0 ≡ 1) ⌝ }
     ensures { λ r. ⌜ ActionIs (now (deck .entry)) at part (now (own .entry)) (now (far .entry)) r ⌝ }
 {
-    let mut row = [0i32; 10];
+    let mut row = [0i32; Deck::PLACE];
     let value = number_from(deck, at + 2, own, far);
     row[0] = part as i32;
     row[1] = 1;
@@ -38,7 +38,7 @@ fn evaluate_one(deck: &[u8], at: usize, part: usize, own: &[i32], far: &[i32]) -
 }
 
 // The place of the update that the action at an offset makes for a part.
-pub fn evaluate(deck: &[u8], at: usize, part: usize, own: &[i32], far: &[i32]) -> [i32; 10]
+pub fn evaluate(deck: &[u8], at: usize, part: usize, own: &[i32], far: &[i32]) -> [i32; Deck::PLACE]
     requires { ⌜ HasAction (now deck) at (length (now own)) (length (now far)) × (part < 16) ⌝ }
     ensures { λ r. ⌜ ActionIs (now (deck .entry)) at part (now (own .entry)) (now (far .entry)) r ⌝ }
 {
@@ -46,7 +46,7 @@ pub fn evaluate(deck: &[u8], at: usize, part: usize, own: &[i32], far: &[i32]) -
     if count == 1 {
         return evaluate_one(deck, at, part, own, far);
     }
-    let mut row = [0i32; 10];
+    let mut row = [0i32; Deck::PLACE];
     row[0] = part as i32;
     row[1] = count as i32;
     let mut place = at + 1;

@@ -1,5 +1,5 @@
--- "On an acyclic deck the charge of an update and the charge of a rule are defined from each other": the depth is enough,
--- and the document's two equations hold. Assumes nothing.
+-- "On an acyclic deck the charge of an update and the charge of a rule are defined from each other": the depth is enough, the
+-- document's two equations hold, and whatever satisfies them is the charge. Assumes nothing.
 use Prim.Native.Nat.{ℕ, zero, suc, _+_, _*_, _≤_, _<_}
 use mathlib.Core.Path.{_≡_, refl, sym, ap, ap₂, _∙_}
 use mathlib.Core.Logic.{⊎-elim}
@@ -91,41 +91,83 @@ module _ {d : Deck} (known : KnownTargets d) (acyclic : Acyclic d) where
             (edge-intro d r c b (found .0) carried (found .2 .2) t),
       )
 
-  mutual
-    update-stable : (k m p : ℕ) (u : List ℕ) → p < N d → Low m u → 2 * m < k → updateBy k d p u ≡ updateBy (suc k) d p u
-    update-stable zero m p u l h e = absurd (omega arith)
-    update-stable (suc k) m p u l h e =
-        update-step d k p u
-        ∙ ap (λ x. 1 + x)
-        (sum-cong (ruleBy k d p) (ruleBy (suc k) d p) (active d p u)
-        (λ r a. let low = low-active m p r u l h a in rule-stable k (low .0) p r l (low .2) (omega (arith, low .1))))
-        ∙ sym (update-step d (suc k) p u)
+  -- charges that are as deep as those of the definition, by the same two equations at every part
+  record Equated (U : ℕ → ℕ → List ℕ → ℕ) (Q : ℕ → ℕ → ℕ → ℕ) : Type 0 where
+    pub update : (k p : ℕ) (u : List ℕ) → p < N d → U (suc k) p u ≡ 1 + sum (Q k p) (active d p u)
+    pub rule : (k p r : ℕ) → p < N d → Q (suc k) p r
+        ≡ unlessEmpty (defaults d r) (U k p (defaults d r))
+        + sum (λ q. unlessEmpty (actions d r) (U k q (actions d r))) (receivers d p r)
 
-    rule-stable : (k m p r : ℕ) → p < N d → LowRule m r → 2 * m + 1 < k → ruleBy k d p r ≡ ruleBy (suc k) d p r
-    rule-stable zero m p r l h e = absurd (omega arith)
-    rule-stable (suc k) m p r l h e =
-        rule-step d k p r
-        ∙ ap₂ _+_
-        (ap (unlessEmpty (defaults d r)) (update-stable k m p (defaults d r) l (low-defaults m r h) (omega arith)))
-        (sum-cong _ _ (receivers d p r)
-        (λ q z.
-        ap (unlessEmpty (actions d r))
-        (update-stable k m q (actions d r) (receivers-inside d p q r l z) (low-actions m r h) (omega arith))))
-        ∙ sym (rule-step d (suc k) p r)
+  module _ (U : ℕ → ℕ → List ℕ → ℕ) (Q : ℕ → ℕ → ℕ → ℕ) (x : Equated U Q) where
+    mutual
+      update-same : (k m p : ℕ) (u : List ℕ) → p < N d → Low m u → 2 * m < k → updateBy k d p u ≡ U k p u
+      update-same zero m p u l h e = absurd (omega arith)
+      update-same (suc k) m p u l h e =
+          update-step d k p u
+          ∙ ap (λ x. 1 + x)
+          (sum-cong (ruleBy k d p) (Q k p) (active d p u)
+          (λ r a. let low = low-active m p r u l h a in rule-same k (low .0) p r l (low .2) (omega (arith, low .1))))
+          ∙ sym (x .update k p u l)
 
-  pub charge-of-update : (p : ℕ) (u : List ℕ) → p < N d
-      → updateCharge d p u ≡ 1 + sum (ruleCharge d p) (active d p u)
-  unfolding updateCharge ruleCharge Low depth
-  charge-of-update p u l =
-      update-stable (depth d) (suc (R d)) p u l (λ c _. omega (arith, height-most (R d) (edge d) c)) (omega arith)
-      ∙ update-step d (depth d) p u
+      rule-same : (k m p r : ℕ) → p < N d → LowRule m r → 2 * m + 1 < k → ruleBy k d p r ≡ Q k p r
+      rule-same zero m p r l h e = absurd (omega arith)
+      rule-same (suc k) m p r l h e =
+          rule-step d k p r
+          ∙ ap₂ _+_
+          (ap (unlessEmpty (defaults d r)) (update-same k m p (defaults d r) l (low-defaults m r h) (omega arith)))
+          (sum-cong _ _ (receivers d p r)
+          (λ q z.
+          ap (unlessEmpty (actions d r))
+          (update-same k m q (actions d r) (receivers-inside d p q r l z) (low-actions m r h) (omega arith))))
+          ∙ sym (x .rule k p r l)
+
+    -- the depth is enough for every update and every rule
+    updates-same : (p : ℕ) (u : List ℕ) → p < N d → updateCharge d p u ≡ U (depth d) p u
+    unfolding updateCharge Low depth
+    updates-same p u l =
+        update-same (depth d) (suc (R d)) p u l (λ c _. omega (arith, height-most (R d) (edge d) c)) (omega arith)
+
+    rules-same : (p r : ℕ) → p < N d → ruleCharge d p r ≡ Q (depth d) p r
+    unfolding ruleCharge LowRule depth
+    rules-same p r l =
+        rule-same (depth d) (R d) p r l
+        (λ c t. height-less (R d) (edge d) (edge-inside known) acyclic c (known .known r c t)) (omega arith)
+
+  -- one step deeper
+  deeper : Equated (λ k. updateBy (suc k) d) (λ k. ruleBy (suc k) d)
+  deeper = record { update = λ k p u _. update-step d (suc k) p u; rule = λ k p r _. rule-step d (suc k) p r }
+
+  pub charge-of-update : (p : ℕ) (u : List ℕ) → p < N d → updateCharge d p u ≡ 1 + sum (ruleCharge d p) (active d p u)
+  unfolding ruleCharge
+  charge-of-update p u l = updates-same _ _ deeper p u l ∙ update-step d (depth d) p u
 
   pub charge-of-rule : (p r : ℕ) → p < N d → ruleCharge d p r
       ≡ unlessEmpty (targets (ruleAt d r .default)) (updateCharge d p (targets (ruleAt d r .default)))
       + sum (λ q. unlessEmpty (targets (ruleAt d r .action)) (updateCharge d q (targets (ruleAt d r .action))))
       (receivers d p r)
-  unfolding updateCharge ruleCharge LowRule depth
-  charge-of-rule p r l =
-      rule-stable (depth d) (R d) p r l
-      (λ c t. height-less (R d) (edge d) (edge-inside known) acyclic c (known .known r c t)) (omega arith)
-      ∙ rule-step d (depth d) p r
+  unfolding updateCharge
+  charge-of-rule p r l = rules-same _ _ deeper p r l ∙ rule-step d (depth d) p r
+
+-- document 01's two equations at every part, of charges U of updates and Q of rules
+pub record ChargeEquations (d : Deck) (U : ℕ → List ℕ → ℕ) (Q : ℕ → ℕ → ℕ) : Type 0 where
+  pub update : (p : ℕ) (u : List ℕ) → p < N d → U p u ≡ 1 + sum (Q p) (active d p u)
+  pub rule : (p r : ℕ) → p < N d → Q p r
+      ≡ unlessEmpty (targets (ruleAt d r .default)) (U p (targets (ruleAt d r .default)))
+      + sum (λ q. unlessEmpty (targets (ruleAt d r .action)) (U q (targets (ruleAt d r .action)))) (receivers d p r)
+
+-- the charges satisfy them, and nothing else does
+pub record Charges (d : Deck) : Type 1 where
+  pub equations : ChargeEquations d (updateCharge d) (ruleCharge d)
+  pub updates : (U : ℕ → List ℕ → ℕ) (Q : ℕ → ℕ → ℕ) → ChargeEquations d U Q → (p : ℕ) (u : List ℕ) → p < N d → U p u ≡ updateCharge d p u
+  pub rules : (U : ℕ → List ℕ → ℕ) (Q : ℕ → ℕ → ℕ) → ChargeEquations d U Q → (p r : ℕ) → p < N d → Q p r ≡ ruleCharge d p r
+
+pub charge-unique : (d : Deck) → KnownTargets d → Acyclic d → Charges d
+charge-unique d known acyclic =
+    record {
+      equations = record { update = charge-of-update known acyclic; rule = charge-of-rule known acyclic };
+      updates = λ U Q x p u l. sym (updates-same known acyclic (λ _. U) (λ _. Q) (equated U Q x) p u l);
+      rules = λ U Q x p r l. sym (rules-same known acyclic (λ _. U) (λ _. Q) (equated U Q x) p r l);
+    }
+  where
+    equated : (U : ℕ → List ℕ → ℕ) (Q : ℕ → ℕ → ℕ) → ChargeEquations d U Q → Equated known acyclic (λ _. U) (λ _. Q)
+    equated U Q x = record { update = λ _. x .update; rule = λ _. x .rule }

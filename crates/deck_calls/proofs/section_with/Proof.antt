@@ -1,17 +1,32 @@
 -- `deck_calls::section_with` meets its contract. Assumes nothing.
-use mathlib.Core.Path.{refl, sym, ap, _∙_}
+use Prim.Native.Nat.{ℕ}
+use mathlib.Core.Path.{_≡_, refl, sym, ap, _∙_}
+use mathlib.Core.List.{List, []}
 use native.Mathlib.Omega.{arith}
 use borrow.Author.Needs.{needs}
+use Rattle.deck.specs.Stretch.{LiesAt}
+use Rattle.calls.specs.Calls.{section, sectionFrom}
 use Rattle.calls.specs.Answers.{sectionOf}
-use Rattle.deck_calls.specs.Laws.SectionAnswers.{section-refused, section-unknown, section-known, section-order}
+use Rattle.deck_calls.specs.Laws.SectionAnswers.{Handed, section-refused, section-unknown, section-known, section-order}
 use Rattle.deck_calls.proofs.section_with.Statement.{statement}
 use Rattle.deck_calls.proofs.section_with.Tie as tie
+
+-- the empty stretch begins with the deck
+empty : (s : List ℕ) (k n p : ℕ) (deck r : ℕ × ℕ) → r .0 ≡ deck .0 → r .1 ≡ deck .1 → Handed s k [] 0 n p
+    → (sectionOf [] n p ≡ section s k) × LiesAt deck r (sectionFrom s k)
+empty s k n p deck r e f h = (sym (h .is), record { block = e; offset = omega (arith, f, h .begins) })
+
+-- a stretch that lies where the section begins
+lent : (s : List ℕ) (k : ℕ) (r t : List ℕ) (from : ℕ) (places : (ℕ × ℕ) × (ℕ × ℕ)) → Handed s k t from 0 0
+    → (r ≡ t) × LiesAt (places .0) (places .1) from → (sectionOf r 0 0 ≡ section s k) × LiesAt (places .0) (places .1) (sectionFrom s k)
+lent s k r t from places h (e, at) =
+    (ap (λ l. sectionOf l 0 0) e ∙ sym (h .is), record { block = at .block; offset = omega (arith, at .offset, h .begins) })
 
 returns : tie.Need-returns
 returns c =
     let j = c .before .before .before in
     let w = rw (j .judged2 .given .1) at (j .before .before .before .before .before .before .before .judge .ensures) in
-    (sym (section-unknown _ _ _ _ _ _ w _ (c .before .if1 .taken)), refl)
+    empty _ _ _ _ _ _ refl (omega arith) (section-unknown _ _ _ _ _ _ w _ (c .before .if1 .taken))
 
 stretch-requires : tie.Need-stretch-requires
 stretch-requires c κs =
@@ -24,13 +39,13 @@ returns-2 : tie.Need-returns-2
 returns-2 c =
     let j = c .before .before in
     let w = rw (j .judged .given .1) at (j .before .before .before .before .before .before .before .judge .ensures) in
-    (sym (section-refused _ _ _ _ w), refl)
+    empty _ _ _ _ _ _ refl (omega arith) (section-refused _ _ _ _ w)
 
 returns-3 : tie.Need-returns-3
 returns-3 c =
     let j = c .before .before .before in
     let w = rw (j .judged2 .given .1) at (j .before .before .before .before .before .before .before .judge .ensures) in
-    (ap (λ l. sectionOf l 0 0) (c .stretch .ensures .0) ∙ sym (section-known _ _ _ _ _ _ w _ (omega (arith, c .before .if1 .left))), c .stretch .ensures .1)
+    lent _ _ _ _ _ _ (section-known _ _ _ _ _ _ w _ (omega (arith, c .before .if1 .left))) (c .stretch .ensures)
 
 pub section-with-spec : {M : Type 1} → statement M
 section-with-spec =

@@ -4,8 +4,7 @@ use mathlib.Core.Path.{_≡_, sym, ap, ap₂, _∙_}
 use mathlib.Core.List.{List, [], _∷_, _++_}
 use native.Mathlib.Omega.{arith}
 use lib.ListN.{length, getD, take, drop, length-append}
-use borrow.Author.Tests.{le-leb, lt-leb}
-use Rattle.refusals.specs.Outcome.{refused, outcomes}
+use Rattle.refusals.specs.Outcome.{refused}
 use Rattle.refusals.specs.Numbers.{unknownSection}
 use Rattle.deck.specs.Deck.{Deck}
 use Rattle.deck.specs.Encoding.{encodeChannels, encodeRules, encodeParts, encode}
@@ -16,17 +15,26 @@ use Rattle.passing.specs.Check.{passing}
 use Rattle.passing.specs.Tabled.{layoutOf}
 use Rattle.passing.specs.Judged.{Passed}
 use Rattle.passing.specs.Laws.Passing.{passing-clean}
-use Rattle.calls.specs.Calls.{sectionReply, sectionAt, section}
+use Rattle.calls.specs.Calls.{sectionAt, sectionEnds, sectionReply, section, stretchFrom, sectionFrom, stretches}
 use Rattle.calls.specs.Answers.{sectionOf}
+use Rattle.calls.specs.Laws.Sections.{ends-refused, ends-unknown, ends-known}
 
-pub section-refused : (s : List ℕ) (k n p : ℕ) → passing s ≡ refused n p → section s k ≡ sectionOf [] n p
-unfolding section sectionReply outcomes
-section-refused s k n p e = rw e
+-- what is handed back, and where it begins
+pub record Handed (s : List ℕ) (k : ℕ) (stretch : List ℕ) (from number place : ℕ) : Type 0 where
+  pub is : section s k ≡ sectionOf stretch number place
+  pub begins : sectionFrom s k ≡ from
+
+-- the empty stretch
+refused-handed : (s : List ℕ) (k n p : ℕ) → sectionEnds s k ≡ refused n p → Handed s k [] 0 n p
+unfolding stretches
+refused-handed s k n p e = record { is = ap (sectionReply s) e; begins = ap stretchFrom e }
+
+pub section-refused : (s : List ℕ) (k n p : ℕ) → passing s ≡ refused n p → Handed s k [] 0 n p
+section-refused s k n p e = refused-handed s k n p (ends-refused s k n p e)
 
 module _ (s rules parts memo : List ℕ) (c : Counted.Deck) (n : ℕ) (w : Passed s rules parts memo c n) where
-  pub section-unknown : (k : ℕ) → 2 < k → section s k ≡ sectionOf [] unknownSection 0
-  unfolding section sectionReply outcomes
-  section-unknown k h = rw (w .passes, lt-leb k 2 h)
+  pub section-unknown : (k : ℕ) → 2 < k → Handed s k [] 0 unknownSection 0
+  section-unknown k h = refused-handed s k unknownSection 0 (ends-unknown s k (layoutOf s) (w .passes) h)
 
   -- the code keeps the offsets of the definition
   offset-kept : (k : ℕ) → sectionAt (layoutOf s) s k ≡ offsetOf (c .second) (c .third) (length s) k
@@ -34,13 +42,16 @@ module _ (s rules parts memo : List ℕ) (c : Counted.Deck) (n : ℕ) (w : Passe
   offset-kept k =
       ap₂ (λ a b. getD (0 ∷ a ∷ b ∷ []) k (length s)) (sym (w .tabled .counts .second)) (sym (w .tabled .counts .third))
 
-  pub section-known : (k : ℕ) → k ≤ 2 → section s k ≡ sectionOf (stretchOf (c .second) (c .third) s k) 0 0
-  unfolding section sectionReply outcomes stretchOf
+  pub section-known : (k : ℕ) → k ≤ 2
+      → Handed s k (stretchOf (c .second) (c .third) s k) (offsetOf (c .second) (c .third) (length s) k) 0 0
+  unfolding stretches stretchOf
   section-known k h =
-      reached ∙ ap₂ (λ from to. sectionOf (take (to - from) (drop from s)) 0 0) (offset-kept k) (offset-kept (suc k))
-    where
-      reached : section s k ≡ sectionOf (take (sectionAt (layoutOf s) s (suc k) - sectionAt (layoutOf s) s k) (drop (sectionAt (layoutOf s) s k) s)) 0 0
-      reached = rw (w .passes, le-leb k 2 h)
+      let e = ends-known s k (layoutOf s) (w .passes) h in
+      record {
+        is = ap (sectionReply s) e
+            ∙ ap₂ (λ from to. sectionOf (take (to - from) (drop from s)) 0 0) (offset-kept k) (offset-kept (suc k));
+        begins = ap stretchFrom e ∙ offset-kept k;
+      }
 
   encode-length : (d : Deck) → length (encode d) ≡ length (encodeChannels d) + length (encodeRules d) + length (encodeParts d)
   unfolding encode

@@ -25,7 +25,7 @@ use Rattle.orders.specs.Calculus.{State, overridden, activeRules, change
 
 -- ---- the state
 
-overridden-at : (s s′ : State) (l : List Pair) (c : ℕ) → s c ≡ s′ c → overridden s l c ≡ overridden s′ l c
+pub overridden-at : (s s′ : State) (l : List Pair) (c : ℕ) → s c ≡ s′ c → overridden s l c ≡ overridden s′ l c
 unfolding overridden
 overridden-at s s′ [] c e = e
 overridden-at s s′ (a ∷ l) c e =

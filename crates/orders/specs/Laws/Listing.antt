@@ -5,12 +5,12 @@ use mathlib.Core.Path.{_≡_, refl, sym, _∙_, ap, ap₂, subst}
 use mathlib.Core.Bool.{Bool, true, false, cond}
 use mathlib.Core.List.{List, [], _∷_, _++_}
 use native.Mathlib.Omega.{arith}
-use lib.Dec.{leb, ltb}
+use lib.Dec.{leb}
 use lib.ListN.{length}
 use lib.IntN.{ℤ}
-use borrow.Author.Tests.{le-ltb, lt-ltb}
+use borrow.Author.Tests.{le-leb, le-ltb}
 use Rattle.lists.specs.Lists.{lists, all, sum}
-use Rattle.lists.specs.Laws.Alls.{all-append}
+use Rattle.lists.specs.Laws.Alls.{all-append, all-every}
 use Rattle.refusals.specs.Outcome.{Outcome, refused, accepted, _>>=_, _>>_, require, outcomes}
 use Rattle.refusals.specs.Numbers.{badPool, placeNotPending, budgetTooLarge}
 use Rattle.refusals.specs.Laws.Outcomes.{refused≢accepted, accepted-inj}
@@ -18,7 +18,9 @@ use Rattle.deck.specs.Deck.{Deck}
 use Rattle.deck.specs.Layout.{Layout}
 use Rattle.deck.specs.Laws.Formed.{Formed}
 use Rattle.graph.specs.Laws.Cycles.{Acyclic}
-use Rattle.pool.specs.Updates.{charge}
+use Rattle.charge.specs.Charge.{updateCharge}
+use Rattle.charge.specs.Laws.Equations.{update-at-least-one}
+use Rattle.pool.specs.Updates.{Update, channels, charge}
 use Rattle.pool.specs.Places.{capacity}
 use Rattle.pool.specs.States.{Machine, Memory, store, goodLength}
 use Rattle.pool.specs.Laws.Good.{Fine}
@@ -28,9 +30,9 @@ use Rattle.calls.specs.Calls.{started, settled, spent, Reply, reply, opened}
 use Rattle.calls.specs.Laws.Opening.{fine-opened}
 use Rattle.orders.specs.Calling.{Call, input, commit, settle, runFrom, run}
 use Rattle.orders.specs.Listed.{turn, turns, Taken, taken, machineAfter, Listed, inFront, listFrom, listed, commitsOf, addedOf, commitsMade, chargeAdded, chargePending}
-use Rattle.orders.specs.Order.{Along, Accepted, yes-accepted, RefusedAsPlaced, Settles, leavesWithin, Order}
+use Rattle.orders.specs.Order.{Along, Accepted, yes-accepted, RefusedAsPlaced, Settles, leavesWithin, hasCharge, Order}
 use Rattle.orders.specs.Laws.Agreement.{handed, made-agrees}
-use Rattle.orders.specs.Laws.Taking.{answered, turnsOf, guard, turning, taking}
+use Rattle.orders.specs.Laws.Taking.{answered, turnsOf, guard, takenTurn, commit-taken, turning, taking}
 
 -- one call in front of a list
 front-answers : (o : Outcome Taken) (l : Listed) → inFront o l .answers ≡ answered o ∷ l .answers
@@ -54,21 +56,9 @@ module _ (d : Deck) (C : ℕ) where
   unfolding RefusedAsPlaced taken outcomes
   refused-as-placed x (input p l) = tt
   refused-as-placed x (commit k) = (
-    λ h. go (ltb k (length (x .pending))) (lt-ltb k (length (x .pending)) h),
-    λ h. ap (λ b. require b placeNotPending 0 >> rest) (le-ltb k (length (x .pending)) h),
+    λ h. subst (λ (o : Outcome Taken). Accepted o) (sym (commit-taken d C x k h)) (yes-accepted _),
+    λ h. ap (λ b. require b placeNotPending 0 >> accepted (takenTurn d (turn d k x))) (le-ltb k (length (x .pending)) h),
   )
-    where
-      rest : Outcome Taken
-      rest =
-          accepted (record {
-            answer = cond (turn d k x .applied) (Calls.applied (charge d (turn d k x .after .pending))) (Calls.discarded (charge d (turn d k x .after .pending)));
-            turns = turn d k x ∷ [];
-            machine = turn d k x .after;
-          })
-
-      go : (b : Bool) → b ≡ true → Accepted (require b placeNotPending 0 >> rest)
-      go true e = yes-accepted _
-      go false e = absurd (mathlib.Core.Bool.false≢true e)
   refused-as-placed x (settle b) = tt
 
   along : (P : Machine → Call → Type 0) → ((x : Machine) (c : Call) → P x c) → (x : Machine) (cs : List Call) → Along P d C x cs
@@ -182,6 +172,12 @@ start-fresh bytes pool h = go (passing bytes) refl (goodLength (length pool)) re
     go (accepted l) e true f a =
         (l, record { passes = e; long = f; left = ap₂ (λ o b. after o b .memory) e f })
 
+-- an update's charge counts the commit of the update itself
+all-charged : (d : Deck) (us : List Update) → all (hasCharge d) us ≡ true
+unfolding hasCharge
+all-charged d us =
+    all-every (hasCharge d) (λ u. le-leb 1 (updateCharge d (u .part) (channels u)) (update-at-least-one d (u .part) (channels u))) us
+
 nothing-charged : (d : Deck) → charge d (opened d .pending) ≡ 0
 unfolding opened charge lists
 nothing-charged d = refl
@@ -202,5 +198,6 @@ module _ (bytes : List ℕ) (pool : List ℤ) (l : Layout) (fresh : Fresh bytes 
         bound = omega (arith, list-paid d C formed acyclic x f cs, nothing-charged d);
         commit-refused = along d C (RefusedAsPlaced d C) (refused-as-placed d C) x cs;
         stays-within = list-stays d C formed acyclic x f cs;
+        each-charged = all-charged d (listFrom d C x cs .machine .pending);
         settles = along-fine d C formed acyclic (Settles d C) (settles-paid d C formed acyclic) x f cs;
       }

@@ -1,14 +1,14 @@
 -- The published calls against the published calculus: every accepted input and commit is a step of it, with its label, and
 -- every published commit from a good state is the commit of a place. Assumes nothing.
 use Prim.Native.Nat.{ℕ, _<_}
-use mathlib.Core.Logic.{_↔_}
+use mathlib.Core.Logic.{_↔_, _⊎_, inl, inr}
 use mathlib.Core.Path.{_≡_, refl, sym, _∙_, ap, subst}
 use mathlib.Core.Bool.{Bool, true, false, cond}
 use mathlib.Core.List.{List, [], _∷_}
 use lib.Dec.{leb, ltb}
 use lib.ListN.{length}
 use lib.IntN.{ℤ}
-use borrow.Author.Tests.{ltb-true, lt-ltb}
+use borrow.Author.Tests.{ltb-true}
 use Rattle.refusals.specs.Outcome.{Outcome, refused, accepted, _>>_, require, outcomes}
 use Rattle.refusals.specs.Numbers.{unknownPart, badInput, overCapacity, placeNotPending}
 use Rattle.refusals.specs.Laws.Outcomes.{refused≢accepted, accepted-inj}
@@ -32,18 +32,18 @@ use Rattle.orders.specs.Listed.{turn, Taken, taken, machineAfter}
 use Rattle.orders.specs.Order.{Accepted, yes-accepted}
 use Rattle.orders.specs.Calculus.{Task, Agree, executes, enters, sentTasks, Exec, ExecFail, programOf, Step, System, systemOf}
 use Rattle.orders.specs.Laws.Agreement.{handed, made-agrees}
-use Rattle.orders.specs.Laws.Taking.{answered, guard, taking}
+use Rattle.orders.specs.Laws.Taking.{answered, guard, commit-taken, taking}
 use Rattle.orders.specs.Laws.Listing.{handed-answer, handed-memory}
 use Rattle.orders.specs.Laws.Kept.{Tested, accepted-tested, passed-formed, passed-acyclic}
 use Rattle.orders.specs.Laws.Steps.{sending, input-step, commit-step}
-use Rattle.orders.specs.Laws.Reaches.{commit-reaches}
+use Rattle.orders.specs.Laws.Reaches.{Alike, input-determined, commit-reaches}
 
 -- the channels of a deck that passes are known wherever its expressions name one
 module _ (bytes : List ℕ) (b : Bytes bytes) (m : Memory) (t : Tested bytes m) where
   abbrev pub deckOf : Deck
   deckOf = t .layout .deck
 
-  passed-scoped : Scoped deckOf
+  pub passed-scoped : Scoped deckOf
   passed-scoped = scoped deckOf (passes-exactly bytes b (t .layout) .0 (t .passes) .layout .0)
 
   fine : Fine deckOf (capacity (length (m .pool))) (load m)
@@ -78,14 +78,21 @@ pub record InputStep (bytes : List ℕ) (m m′ : Memory) (p : ℕ) (pairs : Lis
   pub passes : passing bytes ≡ accepted layout
   pub tasks : List Task
   pub step : Step (layout .deck) (systemOf (load m)) p (enters pairs tasks) (systemOf (load m′))
+  -- and there is no other (INPUT) of these values at this part
+  pub only : (ts : List Task) (S : System) → Step (layout .deck) (systemOf (load m)) p (enters pairs ts) S
+      → (q : ℕ) → q < N (layout .deck) → Alike (R (layout .deck)) (S q) (systemOf (load m′) q)
 
 module _ (d : Deck) (formed : Formed d) (scope : Scoped d) (C : ℕ) (x : Machine) (f : Fine d C x) where
+  -- an input that was answered is a step, and its list is a good one
+  abbrev Entered : ℕ → List ℤ → Outcome Taken → Type 1
+  Entered p l o =
+      (ts : List Task) × (Step d (systemOf x) p (enters (pairsOf l) ts) (systemOf (machineAfter x o)) × (goodInput d l ≡ true))
+
   input-stepped : (p : ℕ) (l : List ℤ) (a : Answer) → answered (taken d C x (input p l)) ≡ accepted a
-      → (ts : List Task) × Step d (systemOf x) p (enters (pairsOf l) ts) (systemOf (machineAfter x (taken d C x (input p l))))
+      → Entered p l (taken d C x (input p l))
   unfolding taken machineAfter
   input-stepped p l a =
-      let goal : Outcome Taken → Type 1 = λ o. answered o ≡ accepted a
-      → (ts : List Task) × Step d (systemOf x) p (enters (pairsOf l) ts) (systemOf (machineAfter x o)) in
+      let goal : Outcome Taken → Type 1 = λ o. answered o ≡ accepted a → Entered p l o in
       guard goal (ltb p (N d)) unknownPart _ (λ e. absurd (refused≢accepted e))
       (λ lp.
       guard goal (goodInput d l) badInput _ (λ e. absurd (refused≢accepted e))
@@ -93,7 +100,7 @@ module _ (d : Deck) (formed : Formed d) (scope : Scoped d) (C : ℕ) (x : Machin
       guard goal (leb (charge d (setAndFire d p (pairsOf l) x .pending)) C) overCapacity _ (λ e. absurd (refused≢accepted e))
       (λ _ e. (
         sending d p (pairsOf l) x (setAndFire d p (pairsOf l) x),
-        input-step d formed scope p (ltb-true p (N d) lp) (pairsOf l) x (f .long) (input-known d l g),
+        (input-step d formed scope p (ltb-true p (N d) lp) (pairsOf l) x (f .long) (input-known d l g), g),
       ))))
 
 pub input-is-published : (bytes : List ℕ) (m : Memory) (p : ℕ) (l : List ℤ) → Bytes bytes → (a : Answer) → Calls.input bytes m p l .answer ≡ accepted a
@@ -103,15 +110,26 @@ input-is-published bytes m p l b a h =
     let t = accepted-tested bytes m (input p l) a h in
     let d = t .layout .deck in
     let x = load m in
-    let r = input-stepped d (passed-formed bytes b (t .layout) (t .passes)) (passed-scoped bytes b m t) (capacity (length (m .pool))) x (fine bytes b m t) p l a (taken-answer bytes b m t (input p l) a h) in
+    let scope = passed-scoped bytes b m t in
+    let r = input-stepped d (passed-formed bytes b (t .layout) (t .passes)) scope (capacity (length (m .pool))) x (fine bytes b m t) p l a
+    (taken-answer bytes b m t (input p l) a h) in
+    let y = load (Calls.input bytes m p l .memory) in
+    let there = subst (λ (y : Machine). Step d (systemOf x) p (enters (pairsOf l) (r .0)) (systemOf y))
+    (sym (loaded-after bytes b m t (input p l))) (r .1 .0) in
     record {
       layout = t .layout;
       passes = t .passes;
       tasks = r .0;
-      step = subst (λ (y : Machine). Step d (systemOf x) p (enters (pairsOf l) (r .0)) (systemOf y)) (sym (loaded-after bytes b m t (input p l))) (r .1);
+      step = there;
+      only = λ ts S step.
+          input-determined d scope (systemOf x) p (pairsOf l) ts (r .0) S (systemOf y) (input-known d l (r .1 .1)) step there;
     }
 
 -- ---- commits
+
+-- an answer that is one of the two that a commit has
+abbrev pub Told : Answer → Type 0
+Told a = (c : ℕ) × ((a ≡ applied c) ⊎ (a ≡ discarded c))
 
 -- An accepted commit of place k: applied is (EXEC) at the part of its update, discarded is (EXEC-FAIL), with (DISC) at all others
 pub record CommitStep (bytes : List ℕ) (m m′ : Memory) (k : ℕ) (a : Answer) : Type 1 where
@@ -122,6 +140,8 @@ pub record CommitStep (bytes : List ℕ) (m m′ : Memory) (k : ℕ) (a : Answer
   pub part : ℕ
   pub upd : List Pair
   pub update : pick k (load m .pending) ≡ record { part = part; pairs = upd }
+  -- applied or discarded, and nothing else
+  pub told : Told a
   pub applied-executes : (c : ℕ) → a ≡ applied c
       → Exec (programOf (layout .deck) part) (systemOf (load m) part) upd (systemOf (load m′) part)
       × Step (layout .deck) (systemOf (load m)) part (executes upd (sentTasks (programOf (layout .deck) part) (systemOf (load m) part) upd (systemOf (load m′) part))) (systemOf (load m′))
@@ -146,6 +166,10 @@ told-applied false n c e = absurd (subst IsApplied (sym e) tt)
 told-discarded : (b : Bool) (n c : ℕ) → cond b (applied n) (discarded n) ≡ discarded c → b ≡ false
 told-discarded true n c e = absurd (subst IsApplied e tt)
 told-discarded false n c e = refl
+
+told-one : (b : Bool) (n : ℕ) → Told (cond b (applied n) (discarded n))
+told-one true n = (n, inl refl)
+told-one false n = (n, inr refl)
 
 module _ (d : Deck) (C : ℕ) (x : Machine) (k : ℕ) (a : Answer) where
   -- an answered commit named a place that is pending, and took its update
@@ -180,6 +204,7 @@ commit-is-published bytes m k b a h =
       part = u .part;
       upd = u .pairs;
       update = refl;
+      told = subst Told (sym (how .answer)) (told-one (committed d k x .applied) now);
       applied-executes = λ n e.
           let yes = told-applied (committed d k x .applied) now n (sym (how .answer) ∙ e) in
           subst (λ (y : Machine). Exec (programOf d (u .part)) (systemOf x (u .part)) (u .pairs) (systemOf y (u .part))
@@ -201,38 +226,32 @@ pub record ReachedByCall (bytes : List ℕ) (m : Memory) (d : Deck) (p : ℕ) (u
   pub accepts : Accepted (Calls.commit bytes m place .answer)
   pub state : (q : ℕ) → q < N d → Agree (R d) (S q .state) (systemOf (load (Calls.commit bytes m place .memory)) q .state)
   pub pool : (q : ℕ) → q < N d → (v : List Pair) → S q .pool v ↔ systemOf (load (Calls.commit bytes m place .memory)) q .pool v
-
-module _ (d : Deck) (C : ℕ) (x : Machine) (k : ℕ) (h : k < length (x .pending)) where
-  -- a commit of a pending place is answered, and leaves what its definition has
-  commit-lands : (machineAfter x (taken d C x (commit k)) ≡ committed d k x .machine) × Accepted (answered (taken d C x (commit k)))
-  unfolding taken machineAfter turn outcomes
-  commit-lands = (
-    ap (λ b. machineAfter x (require b placeNotPending 0 >> accepted after)) (lt-ltb k (length (x .pending)) h),
-    subst (λ (b : Bool). Accepted (answered (require b placeNotPending 0 >> accepted after))) (sym (lt-ltb k (length (x .pending)) h)) (yes-accepted (after .answer)),
-  )
-    where
-      after : Taken
-      after =
-          let t = turn d k x in
-          let now = charge d (t .after .pending) in
-          record { answer = cond (t .applied) (applied now) (discarded now); turns = t ∷ []; machine = t .after }
+  -- (EXEC) is answered by applied, and (EXEC-FAIL) by discarded
+  pub exec-applied : Exec (programOf d p) (systemOf (load m) p) upd (S p)
+      → (c : ℕ) × (Calls.commit bytes m place .answer ≡ accepted (applied c))
+  pub fail-discarded : ExecFail (programOf d p) (systemOf (load m) p) upd (S p)
+      → (c : ℕ) × (Calls.commit bytes m place .answer ≡ accepted (discarded c))
 
 pub commit-reached : (bytes : List ℕ) (m : Memory) → Bytes bytes → (t : Tested bytes m) (p : ℕ) (upd : List Pair) (ts : List Task) (S : System)
     → Step (t .layout .deck) (systemOf (load m)) p (executes upd ts) S → ReachedByCall bytes m (t .layout .deck) p upd S
-unfolding made
+unfolding made machineAfter turn
 commit-reached bytes m b t p upd ts S step =
     let d = t .layout .deck in
     let n = length (m .pool) in
     let x = load m in
     let r = commit-reaches d (passed-formed bytes b (t .layout) (t .passes)) (passed-scoped bytes b m t) (capacity n) x (fine bytes b m t) p upd ts S step in
     let k = r .place in
-    let lands = commit-lands d (capacity n) x k (r .inside) in
-    let same = sym (loaded-after bytes b m t (commit k) ∙ lands .0) in
     let o = taken d (capacity n) x (commit k) in
+    let lands = commit-taken d (capacity n) x k (r .inside) in
+    let same = sym (loaded-after bytes b m t (commit k) ∙ ap (machineAfter x) lands) in
+    let now = charge d (committed d k x .machine .pending) in
+    let tells = ap (λ z. z .answer) (from-loaded bytes b m t (commit k)) ∙ handed-answer n x o ∙ ap answered lands in
     record {
       place = k;
       update = r .update;
-      accepts = subst (λ (z : Outcome Answer). Accepted z) (sym (ap (λ z. z .answer) (from-loaded bytes b m t (commit k)) ∙ handed-answer n x o)) (lands .1);
+      accepts = subst (λ (z : Outcome Answer). Accepted z) (sym tells) (yes-accepted _);
       state = λ q lq. subst (λ (y : Machine). Agree (R d) (S q .state) (systemOf y q .state)) same (r .state q lq);
       pool = λ q lq v. subst (λ (y : Machine). S q .pool v ↔ systemOf y q .pool v) same (r .pool q lq v);
+      exec-applied = λ e. (now, tells ∙ ap (λ z. accepted (cond z (applied now) (discarded now))) (r .exec-applied e));
+      fail-discarded = λ f. (now, tells ∙ ap (λ z. accepted (cond z (applied now) (discarded now))) (r .fail-discarded f));
     }

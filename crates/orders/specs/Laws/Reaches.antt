@@ -19,16 +19,23 @@ use Rattle.pool.specs.Laws.Good.{Fine}
 use Rattle.firing.specs.Firing.{pick, committed}
 use Rattle.firing.specs.Laws.Among.{among-pick}
 use Rattle.firing.specs.Laws.Commits.{pick-known}
-use Rattle.orders.specs.Calculus.{Agree, In, Task, overridden, defUpds, localUpds, extTasks, changedBy, Program, Node, executes, tasksOf, sentTasks, New, Exec, ExecFail, Acts, exec, exec-fail, Discovers, discovered, System, programOf, Step, systemOf}
+use Rattle.orders.specs.Calculus.{Agree, In, Task, overridden, defUpds, localUpds, extTasks, discovered, changedBy}
+use Rattle.orders.specs.Calculus.{Program, Node, Label, executes, enters, tasksOf, sentTasks, New, Without, Exec, ExecFail, Input}
+use Rattle.orders.specs.Calculus.{Acts, exec, exec-fail, input, Discovers, System, programOf, Step, systemOf}
 use Rattle.orders.specs.Laws.Fired.{at}
 use Rattle.orders.specs.Laws.Known.{limit-same, defUpds-same, localUpds-same, extTasks-same, changedBy-same}
 use Rattle.orders.specs.Laws.Steps.{Committing, commit-step, sending}
 
 -- what executes an update: (EXEC) or (EXEC-FAIL)
-executed : (P : Program) (n n′ : Node) (upd : List Pair) (ts : List Task) → Acts P n (executes upd ts) n′
+pub executed : (P : Program) (n n′ : Node) (upd : List Pair) (ts : List Task) → Acts P n (executes upd ts) n′
     → (Exec P n upd n′ × (ts ≡ sentTasks P n upd n′)) ⊎ (ExecFail P n upd n′ × (ts ≡ []))
 executed P n n′ upd ts (exec e) = inl (e, refl)
 executed P n n′ upd ts (exec-fail e) = inr (e, refl)
+
+-- what enters values: (INPUT)
+entered : (P : Program) (n n′ : Node) (upd : List Pair) (ts : List Task) → Acts P n (enters upd ts) n′
+    → Input P n upd n′ × (ts ≡ sentTasks P n upd n′)
+entered P n n′ upd ts (input i) = (i, refl)
 
 -- two nodes of n channels that cannot be told apart
 pub record Alike (n : ℕ) (a b : Node) : Type 0 where
@@ -65,9 +72,13 @@ module _ (d : Deck) (scoped : Scoped d) (p : ℕ) (n a b : Node) (upd : List Pai
   unfolding programOf
   exec-state e f c lc = e .state c lc ∙ sym (f .state c lc)
 
-  exec-pool : Exec Q n upd a → Exec Q n upd b → (u : List Pair) → a .pool u → b .pool u
-  exec-pool e f u h =
-      f .pool u .1 (⊎-elim (λ w. inl w) (λ w. inr (new-same d scoped p n a b upd few (exec-state e f) u w)) (e .pool u .0 h))
+  -- what is kept, and what is new
+  abbrev Holds : (List Pair → Type 0) → Node → Type 0
+  Holds kept m = (u : List Pair) → m .pool u ↔ (kept u ⊎ New Q n upd m u)
+
+  new-pool : (kept : List Pair → Type 0) → Agree (R d) (a .state) (b .state) → Holds kept a → Holds kept b
+      → (u : List Pair) → a .pool u → b .pool u
+  new-pool kept same e f u h = f u .1 (⊎-elim (λ w. inl w) (λ w. inr (new-same d scoped p n a b upd few same u w)) (e u .0 h))
 
   -- the state that fails is the one that is kept
   fails-kept : {A : Type 0} → Exec Q n upd a → ExecFail Q n upd b → A
@@ -82,6 +93,36 @@ module _ (d : Deck) (scoped : Scoped d) (p : ℕ) (n a b : Node) (upd : List Pai
   unfolding programOf
   fail-state e f c lc = e .state c lc ∙ sym (f .state c lc)
 
+  input-state : Input Q n upd a → Input Q n upd b → Agree (R d) (a .state) (b .state)
+  unfolding programOf
+  input-state e f c lc = e .state c lc ∙ sym (f .state c lc)
+
+-- two nodes that came to the same state, each with what was kept and what is new, are alike
+alike-new : (d : Deck) → Scoped d → (p : ℕ) (n a b : Node) (upd : List Pair) → all (λ c. ltb c (R d)) (channelsIn upd) ≡ true
+    → (kept : List Pair → Type 0) → Agree (R d) (a .state) (b .state)
+    → ((u : List Pair) → a .pool u ↔ (kept u ⊎ New (programOf d p) n upd a u))
+    → ((u : List Pair) → b .pool u ↔ (kept u ⊎ New (programOf d p) n upd b u)) → Alike (R d) a b
+alike-new d scoped p n a b upd few kept same e f =
+    record {
+      state = same;
+      pool = λ u. (
+        new-pool d scoped p n a b upd few kept same e f u,
+        new-pool d scoped p n b a upd few kept (λ c lc. sym (same c lc)) f e u,
+      );
+    }
+
+-- two inputs of the same values at one node end alike and send the same tasks
+pub enters-determined : (d : Deck) → Scoped d → (p : ℕ) (n a b : Node) (upd : List Pair) (ts us : List Task)
+    → all (λ c. ltb c (R d)) (channelsIn upd) ≡ true
+    → Acts (programOf d p) n (enters upd ts) a → Acts (programOf d p) n (enters upd us) b → Alike (R d) a b × (ts ≡ us)
+enters-determined d scoped p n a b upd ts us few x y =
+    let e = entered (programOf d p) n a upd ts x in
+    let f = entered (programOf d p) n b upd us y in
+    let there = input-state d scoped p n a b upd few (e .0) (f .0) in (
+      alike-new d scoped p n a b upd few (λ u. n .pool u) there (e .0 .pool) (f .0 .pool),
+      e .1 ∙ sent-same d scoped p n a b upd few there ∙ sym (f .1),
+    )
+
 -- two executions of one update at one node end alike and send the same tasks
 pub acts-determined : (d : Deck) → Scoped d → (p : ℕ) (n a b : Node) (upd : List Pair) (ts us : List Task)
     → all (λ c. ltb c (R d)) (channelsIn upd) ≡ true
@@ -95,7 +136,7 @@ acts-determined d scoped p n a b upd ts us few x y = go (executed _ n a upd ts x
         → (Exec P n upd b × (us ≡ sentTasks P n upd b)) ⊎ (ExecFail P n upd b × (us ≡ [])) → Alike (R d) a b × (ts ≡ us)
     go (inl (e, i)) (inl (f, j)) =
         let there = exec-state d scoped p n a b upd few e f in (
-          record { state = there; pool = λ u. (exec-pool d scoped p n a b upd few e f u, exec-pool d scoped p n b a upd few f e u) },
+          alike-new d scoped p n a b upd few (Without P n upd a) there (e .pool) (f .pool),
           i ∙ sent-same d scoped p n a b upd few there ∙ sym j,
         )
     go (inl (e, i)) (inr (f, j)) = fails-kept d scoped p n a b upd few e f
@@ -121,20 +162,32 @@ discovers-determined d q n a b ts us e x y =
       );
     }
 
-pub step-determined : (d : Deck) → Scoped d → (S : System) (p : ℕ) (upd : List Pair) (ts us : List Task) (A B : System)
-    → all (λ c. ltb c (R d)) (channelsIn upd) ≡ true
-    → Step d S p (executes upd ts) A → Step d S p (executes upd us) B → (q : ℕ) → q < N d → Alike (R d) (A q) (B q)
-unfolding tasksOf
-step-determined d scoped S p upd ts us A B few x y q lq = go (eqb q p) refl
+-- two steps from one system end alike at every node where the node that acts ends alike and the tasks are the same
+steps-alike : (d : Deck) (S : System) (p : ℕ) (α β : Label) (A B : System) → Step d S p α A → Step d S p β B
+    → Alike (R d) (A p) (B p) × (tasksOf α ≡ tasksOf β) → (q : ℕ) → q < N d → Alike (R d) (A q) (B q)
+steps-alike d S p α β A B x y both q lq = go (eqb q p) refl
   where
-    both : Alike (R d) (A p) (B p) × (ts ≡ us)
-    both = acts-determined d scoped p (S p) (A p) (B p) upd ts us few (x .acts) (y .acts)
-
     go : (t : Bool) → eqb q p ≡ t → Alike (R d) (A q) (B q)
     go true e = subst (λ r. Alike (R d) (A r) (B r)) (sym (eqb-true q p e)) (both .0)
     go false e =
         let other = eqb-false q p e in
-        discovers-determined d q (S q) (A q) (B q) ts us (both .1) (x .others q lq other) (y .others q lq other)
+        discovers-determined d q (S q) (A q) (B q) (tasksOf α) (tasksOf β) (both .1) (x .others q lq other) (y .others q lq other)
+
+pub step-determined : (d : Deck) → Scoped d → (S : System) (p : ℕ) (upd : List Pair) (ts us : List Task) (A B : System)
+    → all (λ c. ltb c (R d)) (channelsIn upd) ≡ true
+    → Step d S p (executes upd ts) A → Step d S p (executes upd us) B → (q : ℕ) → q < N d → Alike (R d) (A q) (B q)
+unfolding tasksOf
+step-determined d scoped S p upd ts us A B few x y =
+    steps-alike d S p (executes upd ts) (executes upd us) A B x y
+    (acts-determined d scoped p (S p) (A p) (B p) upd ts us few (x .acts) (y .acts))
+
+pub input-determined : (d : Deck) → Scoped d → (S : System) (p : ℕ) (upd : List Pair) (ts us : List Task) (A B : System)
+    → all (λ c. ltb c (R d)) (channelsIn upd) ≡ true
+    → Step d S p (enters upd ts) A → Step d S p (enters upd us) B → (q : ℕ) → q < N d → Alike (R d) (A q) (B q)
+unfolding tasksOf
+input-determined d scoped S p upd ts us A B few x y =
+    steps-alike d S p (enters upd ts) (enters upd us) A B x y
+    (enters-determined d scoped p (S p) (A p) (B p) upd ts us few (x .acts) (y .acts))
 
 -- S is what the commit of a place leaves, and that place holds update upd of part p
 pub record Reached (d : Deck) (x : Machine) (p : ℕ) (upd : List Pair) (S : System) : Type 0 where
@@ -143,6 +196,9 @@ pub record Reached (d : Deck) (x : Machine) (p : ℕ) (upd : List Pair) (S : Sys
   pub update : pick place (x .pending) ≡ at p upd
   pub state : (q : ℕ) → q < N d → Agree (R d) (S q .state) (systemOf (committed d place x .machine) q .state)
   pub pool : (q : ℕ) → q < N d → (v : List Pair) → S q .pool v ↔ systemOf (committed d place x .machine) q .pool v
+  -- (EXEC) is applied, and (EXEC-FAIL) discarded
+  pub exec-applied : Exec (programOf d p) (systemOf x p) upd (S p) → committed d place x .applied ≡ true
+  pub fail-discarded : ExecFail (programOf d p) (systemOf x p) upd (S p) → committed d place x .applied ≡ false
 
 picked : (d : Deck) (x : Machine) (p : ℕ) (upd : List Pair) (ts : List Task) (S : System) → Step d (systemOf x) p (executes upd ts) S
     → isAmong (at p upd) (x .pending) ≡ true
@@ -170,10 +226,30 @@ commit-reaches d formed scoped C x fine p upd ts S step =
     let few = subst (λ u. all (λ c. ltb c (R d)) (channelsIn (u .pairs)) ≡ true) (found .2) (pick-known d C x k fine (found .1) .inside) in
     let there = subst (λ u. Step d (systemOf x) (u .part) (executes (u .pairs) (made .0)) (systemOf (committed d k x .machine))) (found .2) (made .1) in
     let alike = step-determined d scoped (systemOf x) p upd ts (made .0) S (systemOf (committed d k x .machine)) few step there in
+    let y = committed d k x .machine in
+    let c = commit-step d formed scoped C x fine k (found .1) in
     record {
       place = k;
       inside = found .1;
       update = found .2;
       state = λ q lq. alike q lq .state;
       pool = λ q lq. alike q lq .pool;
+      exec-applied = λ e.
+          yes-unless-no (committed d k x .applied)
+          (λ h. fails-kept d scoped p (systemOf x p) (S p) (systemOf y p) upd few e
+          (subst (λ u. ExecFail (programOf d (u .part)) (systemOf x (u .part)) (u .pairs) (systemOf y (u .part))) (found .2)
+          (c .failed h)));
+      fail-discarded = λ f.
+          no-unless-yes (committed d k x .applied)
+          (λ h. fails-kept d scoped p (systemOf x p) (systemOf y p) (S p) upd few
+          (subst (λ u. Exec (programOf d (u .part)) (systemOf x (u .part)) (u .pairs) (systemOf y (u .part))) (found .2)
+          (c .executed h)) f);
     }
+  where
+    yes-unless-no : (b : Bool) → (b ≡ false → b ≡ true) → b ≡ true
+    yes-unless-no true h = refl
+    yes-unless-no false h = h refl
+
+    no-unless-yes : (b : Bool) → (b ≡ true → b ≡ false) → b ≡ false
+    no-unless-yes true h = h refl
+    no-unless-yes false h = refl

@@ -1,14 +1,14 @@
 -- One call of a list: it keeps a good state good, its commits are paid by the charge that it adds or that was pending, and its
 -- applied commits leave their parts within their limits. Assumes nothing.
 use Prim.Native.Nat.{ℕ, zero, suc, _+_, _-_, _≤_, _<_}
-use mathlib.Core.Path.{_≡_, refl}
+use mathlib.Core.Path.{_≡_, refl, ap}
 use mathlib.Core.Bool.{Bool, true, false, not, _||_, cond}
 use mathlib.Core.List.{List, [], _∷_}
 use native.Mathlib.Omega.{arith}
 use native.Mathlib.Nat.{not-suc-le-zero}
 use lib.Dec.{leb, ltb}
 use lib.ListN.{length}
-use borrow.Author.Tests.{leb-true, ltb-true}
+use borrow.Author.Tests.{leb-true, ltb-true, lt-ltb}
 use Rattle.lists.specs.Lists.{lists, all, isEmpty}
 use Rattle.lists.specs.Laws.Booleans.{contradiction}
 use Rattle.lists.specs.Laws.Alls.{all-cons}
@@ -45,9 +45,20 @@ unfolding outcomes
 guard P true number o h g = g refl
 guard P false number o h g = h
 
+-- a commit of a pending place is taken, with its turn
+abbrev pub takenTurn : Deck → Turn → Taken
+takenTurn d t =
+    let now = charge d (t .after .pending) in
+    record { answer = cond (t .applied) (applied now) (discarded now); turns = t ∷ []; machine = t .after }
+
+pub commit-taken : (d : Deck) (C : ℕ) (x : Machine) (k : ℕ) → k < length (x .pending)
+    → taken d C x (commit k) ≡ accepted (takenTurn d (turn d k x))
+unfolding taken outcomes
+commit-taken d C x k h = ap (λ b. require b placeNotPending 0 >> accepted (takenTurn d (turn d k x))) (lt-ltb k (length (x .pending)) h)
+
 -- ---- turns
 
-some-pending : (us : List Update) → isEmpty us ≡ false → 0 < length us
+pub some-pending : (us : List Update) → isEmpty us ≡ false → 0 < length us
 unfolding lists
 some-pending [] h = contradiction refl h
 some-pending (u ∷ us) h = omega arith

@@ -19,6 +19,7 @@ use Rattle.graph.specs.Laws.Cycles.{no-cycle}
 use Rattle.graph.specs.Laws.Targets.{known-targets}
 use Rattle.charge.specs.Charge.{ruleCharge}
 use Rattle.charge.specs.Laws.Bound.{none-above}
+use Rattle.charge.specs.Laws.Equations.{Charges, charge-unique}
 use Rattle.passing.specs.Check.{within, openingValues, outside, passing}
 use Rattle.passing.specs.Laws.Passing.{judge-clean, passing-judges, passing-clean}
 
@@ -69,3 +70,9 @@ module _ (bytes : List ℕ) (b : Bytes bytes) (l : Layout) where
 
   pub passes-exactly : (passing bytes ≡ accepted l) ↔ Passes bytes l
   passes-exactly = (passing-passes, passes-passing)
+
+  -- of a deck that passes: the two equations of the charges, and that nothing else satisfies them
+  pub passed-charges : passing bytes ≡ accepted l → Charges (l .deck)
+  passed-charges e =
+      let h = passing-passes e in
+      charge-unique (l .deck) (known-targets (l .deck) (formed (l .deck) (h .layout .0))) (h .acyclic)

@@ -1,5 +1,5 @@
 -- `reading::stretch` meets its contract: the ends of the part, in order. Assumes nothing.
-use Prim.Native.Nat.{_≤_, _-_, _+_}
+use Prim.Native.Nat.{_≤_, _-_}
 use mathlib.Core.Path.{refl, _∙_, ap, ap₂}
 use native.Mathlib.Omega.{arith}
 use native.Mathlib.Numerals.{add-one}
@@ -47,7 +47,7 @@ returns c =
     let a = c .before .before .before .before .args in
     let e = c .before .before .offset .ensures in
     let f = c .before .offset2 .ensures ∙ ap (offsetOf (a .deck .second) (a .deck .third) (length (a .bytes .now))) (add-one (a .number)) in
-    (ap₂ (λ x y. take (y - x) (drop x (a .bytes .now))) e f, refl, omega (arith, e))
+    (ap₂ (λ x y. take (y - x) (drop x (a .bytes .now))) e f, record { block = refl; offset = omega (arith, e) })
 
 pub stretch-spec : {M : Type 1} → statement M
 stretch-spec =
