@@ -1,5 +1,5 @@
-//! The definitions of a repository: which crate has a module, what it imports, and the name that
-//! opens it.
+//! The definitions of a repository: which crate has a module, what it imports, and the names that
+//! open it.
 
 use std::collections::{BTreeMap, BTreeSet};
 use std::fs;
@@ -39,8 +39,10 @@ impl Definitions {
         let roots =
             template.lines().filter_map(cited).map(|name| self.the_one(name)).collect::<Result<_>>()?;
         let modules = self.closure(roots);
-        let openers: Vec<(&Module, &str)> =
-            modules.iter().filter_map(|module| Some((module, opener(&self.texts[module])?))).collect();
+        let openers: Vec<(&Module, &str)> = modules
+            .iter()
+            .flat_map(|module| openers(&self.texts[module]).map(move |opener| (module, opener)))
+            .collect();
         let mut text = String::new();
         for line in template.lines() {
             if let Some(name) = cited(line) {
@@ -122,7 +124,7 @@ fn imported(line: &str) -> Option<Module> {
     Some((of.trim_end_matches("·specs").to_string(), name.to_string()))
 }
 
-/// The name of a module that opens its definitions on an `unfolding` line: `unfoldable pub NAME : Unit {0}`.
-fn opener(text: &str) -> Option<&str> {
-    text.lines().find_map(|line| line.strip_prefix("unfoldable pub ")?.strip_suffix(" : Unit {0}"))
+/// The names that open definitions of a module on an `unfolding` line: `unfoldable pub NAME : Unit {0}`.
+fn openers(text: &str) -> impl Iterator<Item = &str> {
+    text.lines().filter_map(|line| line.strip_prefix("unfoldable pub ")?.strip_suffix(" : Unit {0}"))
 }
