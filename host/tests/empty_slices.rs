@@ -20,6 +20,20 @@ fn no_deck() {
     assert_eq!((stretch.length, answer), (0, [0; 5]));
 }
 
+/// A stretch as the header asks for it before the call.
+#[test]
+fn no_stretch() {
+    for (number, refused, length) in [(0, 0, 4), (3, 15, 0)] {
+        let mut answer = [7; raw::ANSWER];
+        let mut stretch = Stretch { bytes: null(), length: 0 };
+        // Safety: what has a length is lent whole.
+        let returned =
+            unsafe { reaction_section(DECK.as_ptr(), DECK.len(), number, &mut stretch, answer.as_mut_ptr()) };
+        assert_eq!((returned, stretch.length, answer), (refused, length, [0; 5]));
+        assert_eq!(stretch.bytes, DECK.as_ptr());
+    }
+}
+
 #[test]
 fn no_pool() {
     let (mut answer, mut values, mut pending) = ([7; raw::ANSWER], [7; raw::VALUES], 7);
