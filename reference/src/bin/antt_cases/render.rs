@@ -35,13 +35,16 @@ fn theorem(name: &str, found: &str, wanted: &str) -> String {
     format!("{name} : {found}\n    ≡ {wanted}\nunfolding everything\n{name} = refl\n\n")
 }
 
+/// The stretch with the two numbers; and where it begins.
 fn section(name: &str, deck: &[u8], number: u32, answer: &Result<Range<usize>, Refusal>) -> String {
-    let (stretch, refusal) = match answer {
-        Ok(range) => (bytes(&deck[range.clone()]), (0, 0)),
-        Err(refusal) => ("[]".to_string(), (refusal.number, refusal.place)),
+    let (range, refusal) = match answer {
+        Ok(range) => (range.clone(), (0, 0)),
+        Err(refusal) => (0..0, (refusal.number, refusal.place)),
     };
+    let (from, stretch, deck) = (range.start, bytes(&deck[range]), bytes(deck));
     let wanted = format!("record {{ stretch = {stretch}; number = {}; place = {} }}", refusal.0, refusal.1);
-    theorem(name, &format!("section {} {number}", bytes(deck)), &wanted)
+    theorem(name, &format!("section {deck} {number}"), &wanted)
+        + &theorem(&format!("{name}-from"), &format!("sectionFrom {deck} {number}"), &from.to_string())
 }
 
 /// The calls on memory; and the definition of a list, where the start is accepted.
