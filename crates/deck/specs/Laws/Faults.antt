@@ -484,5 +484,5 @@ module _ (s : List ℕ) (p : ℕ) where
       go (refused m q) e x = refused≢accepted (sym (read-refused (take p s) m q e) ∙ h)
 
 -- 5 is found exactly where the bytes before it are a whole deck
-pub bytes-follow : (bytes : List ℕ) (p : ℕ) → (read bytes ≡ refused bytesFollow p) ↔ WholeBefore bytes p
-bytes-follow bytes p = (five-whole bytes p, whole-five bytes p)
+pub follows-exactly : (bytes : List ℕ) (p : ℕ) → (read bytes ≡ refused bytesFollow p) ↔ WholeBefore bytes p
+follows-exactly bytes p = (five-whole bytes p, whole-five bytes p)
