@@ -62,7 +62,7 @@ within-requires c κs =
     let l = looked (taken (c .before .before .before .before .before)) in
     let s = began l in
     let w = commit-finishing (s .pre .0) (s .args .k) (s .pre .1) (l .look .ensures) in
-    (record { counts = w .tabled .counts; table = w .tabled .partTable }, omega (arith, after-long w), part-known w)
+    (record { counts = w .tabled .counts; table = w .tabled .partTable }, omega (arith, after-long w), omega (arith, part-known w))
 
 finish-requires : tie.Need-finish-requires
 finish-requires c κs =

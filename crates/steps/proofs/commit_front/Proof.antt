@@ -55,7 +55,7 @@ within-requires c κs =
     let l = c .before .before .before .before .before .before .before in
     let s = began l in
     let w = front-finishing (s .pre .0) (s .pre .1) (l .look .ensures) in
-    (record { counts = w .tabled .counts; table = w .tabled .partTable }, omega (arith, after-long w), part-known w)
+    (record { counts = w .tabled .counts; table = w .tabled .partTable }, omega (arith, after-long w), omega (arith, part-known w))
 
 finish-requires : tie.Need-finish-requires
 finish-requires c κs =
