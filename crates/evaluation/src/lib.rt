@@ -100,8 +100,8 @@ fn negate_at(operand: NumAt) -> NumAt
     }
 }
 
-// The number at a place of s, with the values of the own and of the far channels. Literals and channels come first: for them the
-// compiled code saves no registers.
+// The number at a place of s, with the values of the own and of the far channels. Literals and channels, the bytes below 3, come
+// first: for them the compiled code saves no registers.
 fn num_at(s: &&[u8], at: usize, own: &&[i32], far: &&[i32]) -> NumAt
     requires { ⌜ length (now (now s)) < 18446744073709551616 ⌝ }
     ensures { λ r. ⌜ Answers (numAt (now (now (own .entry))) (now (now (far .entry)))) (now (now (s .entry))) at (ofNum r) ⌝ }

@@ -91,7 +91,12 @@ pub fn take_out(pool: &mut [i32], pending: usize, k: usize)
     ensures { λ _. ⌜ now (pool .exit) ≡ removed (now (pool .entry)) pending k ⌝ }
 {
     let last = Deck::PLACE * (pending - 1);
-    move_down(pool, Deck::PLACE * k, Deck::PLACE, Deck::PLACE * (pending - 1 - k));
+    move_down(
+        pool,
+        Deck::PLACE * k,
+        Deck::PLACE,
+        Deck::PLACE * (pending - 1 - k),
+    );
     let none = [0i32; Deck::PLACE];
     write_update(&mut pool[last..], &none);
 }

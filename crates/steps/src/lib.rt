@@ -3,6 +3,7 @@ ghost use mathlib.Core.Path.{_≡_};
 ghost use Prim.Native.Nat.{_+_, _<_};
 ghost use lib.ListN.{length, drop};
 ghost use Rattle.passing.specs.Tabled.{deckOf};
+ghost use Rattle.passing.specs.Check as Check;
 ghost use Rattle.passing.specs.Judged.{shape};
 ghost use Rattle.offers.specs.Queue.{heldOf};
 ghost use Rattle.offers.specs.Stored.{Committing};
@@ -61,8 +62,8 @@ pub struct Step {
     pub applied: bool,
 }
 
-// The rest of a commit, when the update is out of the pool and applied: the limit of its part decides. `back` has the pairs that
-// set its channels back.
+// The rest of a commit, when the update is out of the pool and applied: whether the limit of its part holds decides. `back` has the
+// pairs that set its channels back. The limit is tested before the call, so that the compiler puts this function into its callers.
 fn finish(
     deck: &[u8],
     counts: Deck,
@@ -79,11 +80,12 @@ fn finish(
     changed: u64,
     pending: usize,
     charge: u32,
+    within: bool,
 ) -> Step
-    requires { ⌜ Finishing (now deck) counts (now rules) (now parts) (now memo) (heldOf gone (now index) (now pool)) capacity (now back) (now values) part changed pending charge ⌝ }
+    requires { ⌜ Finishing (now deck) counts (now rules) (now parts) (now memo) (heldOf gone (now index) (now pool)) capacity (now back) (now values) part changed pending charge × (within ≡ Check.within (deckOf (now deck)) part (now values)) ⌝ }
     ensures { λ r. ⌜ Finishes (deckOf (now (deck .entry))) (shape (now (rules .entry)) (now (parts .entry)) counts) capacity (now (back .entry)) (now (values .entry)) part changed pending charge (heldOf gone (now (index .entry)) (now (pool .entry))) (now (memo .exit)) (heldOf gone (now (index .exit)) (now (pool .exit))) (now (values .exit)) (r .pending) (r .charge) (r .applied) ⌝ }
 {
-    if judging::within(deck, counts, parts, values, part) {
+    if within {
         let queue = reactions::react(deck, counts, rules, parts, memo, index, pool, gone, capacity, pending, charge, values, part, changed);
         return Step { pending: queue.pending, charge: queue.charge, applied: true };
     }
@@ -115,7 +117,8 @@ pub fn commit(
     index::forget(index, k);
     let left = charge - found.charge;
     let held = 2 * found.count;
-    finish(deck, counts, rules, parts, memo, index, pool, 0, capacity - 1, &back[..held], values, found.part, found.changed, pending - 1, left)
+    let within = judging::within(deck, counts, parts, values, found.part);
+    finish(deck, counts, rules, parts, memo, index, pool, 0, capacity - 1, &back[..held], values, found.part, found.changed, pending - 1, left, within)
 }
 
 // The commit of place 0, where the others stay: the pool from the next place on is lent.
@@ -137,8 +140,9 @@ pub fn commit_front(
     ensures { λ r. ⌜ CommitsFront (deckOf (now (deck .entry))) (shape (now (rules .entry)) (now (parts .entry)) counts) capacity (heldOf gone (now (index .entry)) (now (pool .entry))) (now (values .entry)) pending charge (now (memo .exit)) (heldOf (gone + 1) (now (index .exit)) (drop 10 (now (pool .exit)))) (now (values .exit)) (r .pending) (r .charge) (r .applied) ⌝ }
 {
     let mut back = [0i32; 2 * Deck::ASSIGNMENTS];
-    let found = look(counts, rules, parts, memo, pool, values, &mut back, pending, 0);
-    let left = charge - found.charge;
-    let held = 2 * found.count;
-    finish(deck, counts, rules, parts, memo, index, &mut pool[Deck::PLACE..], gone + 1, capacity - 1, &back[..held], values, found.part, found.changed, pending - 1, left)
+    let first = look(counts, rules, parts, memo, pool, values, &mut back, pending, 0);
+    let left = charge - first.charge;
+    let held = 2 * first.count;
+    let within = judging::within(deck, counts, parts, values, first.part);
+    finish(deck, counts, rules, parts, memo, index, &mut pool[Deck::PLACE..], gone + 1, capacity - 1, &back[..held], values, first.part, first.changed, pending - 1, left, within)
 }

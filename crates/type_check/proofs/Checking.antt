@@ -1,6 +1,6 @@
 -- The type check: only the end of an expression counts, and it is known from the ends of its operands. Assumes nothing.
 use Prim.Native.Nat.{ℕ, zero, suc, _+_, _<_, _≤_}
-use mathlib.Core.Path.{_≡_, refl, sym, ap}
+use mathlib.Core.Path.{_≡_, refl, sym}
 use mathlib.Core.Bool.{Bool}
 use mathlib.Core.List.{List}
 use native.Mathlib.Omega.{arith}
@@ -83,7 +83,8 @@ module _ (out go : Reader (Unit {0})) (s : List ℕ) (at : ℕ) (inside : at < l
       → Answers out s at r
   one {r} e d = with-one out s at inside go same e d (sym (map-same r))
 
-  module _ (e : (g : ℕ) → out (suc g) s at ≡ mapTwo last (go g s (at + 1)) (λ n. go g s n)) {n : ℕ} (d : Answers go s (at + 1) (ofEnd n)) where
+  module _ (e : (g : ℕ) → out (suc g) s at ≡ mapTwo last (go g s (at + 1)) (λ n. go g s n))
+      {n : ℕ} (d : Answers go s (at + 1) (ofEnd n)) where
     second : {r : Read (Unit {0})} → ¬ (n ≡ 0) → Answers go s n r → Answers out s at r
     second {r} h d′ = with-two out s at inside go last e (rw (an-end n h) at d) d′ (sym (map-same r))
 
@@ -96,9 +97,6 @@ module _ (out go : Reader (Unit {0})) (s : List ℕ) (at : ℕ) (inside : at < l
 pub record Here {Op : Type 0} (of : ℕ → Op) (sc : Scope) (s : List ℕ) (at : ℕ) (op : Op) : Type 0 where
   pub inside : at < length s
   pub is : op ≡ of (getD s at 0)
-
-pub here : (sc : Scope) (s : List ℕ) (at : ℕ) → at < length s → {b : ℕ} → b ≡ getD s at 0 → Here numOp sc s at (numOp b)
-here sc s at inside e = record { inside = inside; is = ap numOp e }
 
 -- which bytes are operations
 pub operation : (b : ℕ) → 3 ≤ b → b < 6 → (k : Arith) × (numOp b ≡ OfNum.Two k)
@@ -117,7 +115,8 @@ module _ {sc : Scope} {s : List ℕ} {at : ℕ} {op : NumOp} (h : Here numOp sc 
 
   pub as-literal : {r : Read (Unit {0})} → op ≡ OfNum.Literal → r ≡ endOf (literalAt s (at + 1)) → Answers (numEnd sc) s at r
   as-literal e =
-      with-none (numEnd sc) s at (h .inside) _ (ahead-map (λ _. tt) at (length s) (literalAt s (at + 1)) (literal-ahead s at)) (step-num OfNum.Literal e)
+      with-none (numEnd sc) s at (h .inside) _ (ahead-map (λ _. tt) at (length s) (literalAt s (at + 1)) (literal-ahead s at))
+      (step-num OfNum.Literal e)
 
   pub as-own : {r : Read (Unit {0})} → op ≡ OfNum.Own → r ≡ endOf (channelAt (sc .owns) s (at + 1)) → Answers (numEnd sc) s at r
   as-own e = with-none (numEnd sc) s at (h .inside) _ (channel-ahead (λ _. tt) (sc .owns) s at) (step-num OfNum.Own e)

@@ -46,7 +46,8 @@ fn leaf_end(s: &[u8], at: usize, own: usize, far: usize) -> usize
     channel_end(s, next, far)
 }
 
-// The end of the number at a place of s, with so many own and far channels known.
+// The end of the number at a place of s, with so many own and far channels known. Bytes below 3 are literals and channels; 6 is the
+// negation, which has one operand.
 fn num_end(s: &&[u8], at: usize, own: usize, far: usize) -> usize
     requires { ⌜ length (now (now s)) < 18446744073709551616 ⌝ }
     ensures { λ r. ⌜ Answers (numEnd (scope own far)) (now (now (s .entry))) at (ofEnd r) ⌝ }

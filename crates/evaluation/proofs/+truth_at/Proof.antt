@@ -8,7 +8,8 @@ use mir.ValLaws.{toZ-ofZ}
 use borrow.Author.Needs.{needs}
 use borrow.Fn.Kinds.{In}
 use borrow.Fn.PlainCycle.{Measures, is, falls, and}
-use Rattle.evaluation.proofs.Evaluating.{TruthHere, no-truth, as-constant, as-no-truth, as-not, as-both, as-both-nothing, as-compared, as-compared-nothing}
+use Rattle.evaluation.proofs.Evaluating.{TruthHere, no-truth, as-constant, as-no-truth, as-not}
+use Rattle.evaluation.proofs.Evaluating.{as-both, as-both-nothing, as-compared, as-compared-nothing}
 use Rattle.evaluation.proofs.truth_at.Reads as truth-at
 use Rattle.evaluation.proofs.truth_at.Kinds as truth-at-kinds
 use Rattle.evaluation.proofs.+truth_at.Lts-truth_at as truth-at-lts
@@ -98,8 +99,10 @@ pub +truth-at-spec : {M : Type 1} → statement M
     as-not (here t (op .before .before)) (op .enum-told .given .1) (c .before .truth-at .ensures) (c .not-at .ensures))
     (both-returns t)
     (λ c. let op = c .before .before .before .before in
-    as-both-nothing (here t (op .before .before)) (op .op2 .given .1) (rw (c .enum-told2 .given .1) at (c .before .before .truth-at2 .ensures)))
+    as-both-nothing (here t (op .before .before)) (op .op2 .given .1)
+    (rw (c .enum-told2 .given .1) at (c .before .before .truth-at2 .ensures)))
     (compared-returns t)
     (λ c. let op = c .before .before .before .before in
-    as-compared-nothing (here t (op .before .before)) (op .op3 .given .1) (rw (c .enum-told3 .given .1) at (c .before .before .num-at .ensures)))
+    as-compared-nothing (here t (op .before .before)) (op .op3 .given .1)
+    (rw (c .enum-told3 .given .1) at (c .before .before .num-at .ensures)))
     (λ c. as-no-truth (here t (c .before .before)) (c .enum-told4 .given .1))

@@ -15,7 +15,8 @@ returns c =
     let o = c .before .before .operand .given in
     let f : SFits w32 (o .0 .0) = search needs in
     rw (o .1)
-    (ap (λ z. got z (o .0 .1 .0)) (result-back (arith (s .args .k)) (record { sfits = c .calculate .ok }) (s .fits .a) f (c .calculate .ensures)))
+    (ap (λ z. got z (o .0 .1 .0))
+    (result-back (arith (s .args .k)) (record { sfits = c .calculate .ok }) (s .fits .a) f (c .calculate .ensures)))
 
 pub calculate-at-spec : {M : Type 1} → statement M
 calculate-at-spec = tie.close (tie.spec (λ c. search needs) (λ c κs. search needs) (λ c. search needs) returns (λ c. search needs))

@@ -60,4 +60,5 @@ pub +num-end-spec : {M : Type 1} → statement M
     as-two-nothing (here t (op .before .before .before .before)) (two t op .1) (c .before .num-end2 .ensures) (c .if5 .taken))
     (λ c. let first = c .before .before in
     let op = first .before in
-    as-two (here t (op .before .before .before .before)) (two t op .1) (first .num-end2 .ensures) (c .before .if5 .left) (c .num-end3 .ensures))
+    as-two (here t (op .before .before .before .before)) (two t op .1) (first .num-end2 .ensures) (c .before .if5 .left)
+    (c .num-end3 .ensures))

@@ -7,7 +7,8 @@ use borrow.Fn.Kinds.{In}
 use borrow.Fn.PlainCycle.{Measures, is, falls, and}
 use Rattle.expression.specs.Reading.{truthOp}
 use Rattle.expression.specs.Answers.{scope}
-use Rattle.type_check.proofs.Checking.{Here, an-end, no-truth, as-constant, as-no-truth, as-not, as-both, as-both-nothing, as-compared, as-compared-nothing}
+use Rattle.type_check.proofs.Checking.{Here, an-end, no-truth, as-constant, as-no-truth, as-not}
+use Rattle.type_check.proofs.Checking.{as-both, as-both-nothing, as-compared, as-compared-nothing}
 use Rattle.type_check.proofs.truth_end.Reads as truth-end
 use Rattle.type_check.proofs.truth_end.Kinds as truth-end-kinds
 use Rattle.type_check.proofs.+truth_end.Lts-truth_end as truth-end-lts
@@ -65,10 +66,12 @@ pub +truth-end-spec : {M : Type 1} → statement M
     as-both-nothing (here t (op .before .before)) (op .enum-told3 .given .1) (c .before .truth-end2 .ensures) (c .if2 .taken))
     (λ c. let first = c .before .before in
     let op = first .before in
-    as-both (here t (op .before .before)) (op .enum-told3 .given .1) (first .truth-end2 .ensures) (c .before .if2 .left) (c .truth-end3 .ensures))
+    as-both (here t (op .before .before)) (op .enum-told3 .given .1) (first .truth-end2 .ensures) (c .before .if2 .left)
+    (c .truth-end3 .ensures))
     (λ c. let op = c .before .before in
     as-compared-nothing (here t (op .before .before)) (op .enum-told4 .given .1) (c .before .num-end .ensures) (c .if3 .taken))
     (λ c. let first = c .before .before in
     let op = first .before in
-    as-compared (here t (op .before .before)) (op .enum-told4 .given .1) (first .num-end .ensures) (c .before .if3 .left) (c .num-end2 .ensures))
+    as-compared (here t (op .before .before)) (op .enum-told4 .given .1) (first .num-end .ensures) (c .before .if3 .left)
+    (c .num-end2 .ensures))
     (λ c. as-no-truth (here t (c .before .before)) (c .enum-told5 .given .1))
