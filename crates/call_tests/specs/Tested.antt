@@ -12,7 +12,8 @@ use Rattle.deck.specs.declared.Deck as Counted
 use Rattle.pool.specs.Places.{places, capacity}
 use Rattle.pool.specs.States.{Machine, Memory, load, goodLength}
 use Rattle.charge.specs.Memo.{Memo}
-use Rattle.index.specs.Index.{holeOf, Indexed, Roomy}
+use Rattle.holes.specs.Slots.{whole}
+use Rattle.index.specs.Index.{Indexed, Roomy}
 use Rattle.pool.specs.Moves.{Laid}
 use Rattle.states.specs.Answer.{Fresh, goodnessOf}
 use Rattle.states.specs.declared.Goodness.the-variants.{Good, Bad}
@@ -32,7 +33,7 @@ Usable n index = goodLength n ≡ true → Fresh n index
 -- as many places as the pool has
 abbrev pub Entering : List ℕ → Counted.Deck → List ℕ → List ℕ → List ℕ → List ℕ → List ℤ → List ℤ → ℕ → ℕ → Type 0
 Entering s k rules parts memo index pool vs pending total =
-    Committing s k rules parts memo (heldOf 0 index pool) (capacity (length pool)) vs pending total
+    Committing s k rules parts memo (heldOf index pool) (capacity (length pool)) vs pending total
 
 -- the tests 9 and 10, by the shape of the tables: the refusal, or a good state with its charge
 abbrev pub TestsState : Counted.Deck → List ℕ → List ℕ → List ℕ → List ℕ → List ℤ → List ℤ → ℕ → Tested → Type 0
@@ -41,9 +42,8 @@ TestsState k rules parts memo index pool vs pending (Ready c total) =
     × (goodLength (length pool) ≡ true)
     × (Good total ≡ goodnessOf (shape rules parts k) (memoryAt vs pending pool))
     × Memo (shape rules parts k) memo
-    × Indexed 0 (places pending pool) index
+    × Indexed (places pending pool) index
     × Roomy (capacity (length pool)) index
-    × (holeOf index ≡ 0)
 TestsState k rules parts memo index pool vs pending (Refused n p) =
     (p ≡ 0)
     × (((n ≡ badPool) × (goodLength (length pool) ≡ false))
@@ -55,8 +55,10 @@ TestsState k rules parts memo index pool vs pending (Refused n p) =
 pub record Passed (s rules parts memo index : List ℕ) (m : Memory) (k : Counted.Deck) (total : ℕ) : Type 0 where
   pub accepted : tested s m ≡ accepted (deckOf s)
   pub entering : Entering s k rules parts memo index (m .pool) (m .state .values) (m .state .pending) total
-  pub loaded : Stored (deckOf s) (capacity (length (m .pool))) (load m) (m .state .values) (m .state .pending) total
-      (heldOf 0 index (m .pool))
+  pub loaded : Stored (deckOf s) (capacity (length (m .pool))) (whole (load m .pending)) (load m)
+      (m .state .values) (m .state .pending) total (heldOf index (m .pool))
+  -- no update was taken out yet
+  pub whole-slots : entering .slots ≡ whole (load m .pending)
 
 abbrev pub Tests : List ℕ → List ℕ → List ℕ → List ℕ → List ℕ → List ℤ → List ℤ → ℕ → Tested → Type 0
 Tests s rules parts memo index pool vs pending (Ready k total) =

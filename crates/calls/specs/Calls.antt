@@ -18,7 +18,7 @@ use Rattle.pool.specs.Updates.{charge}
 use Rattle.pool.specs.Places.{zeros, capacity, pairsOf}
 use Rattle.pool.specs.States.{Machine, Memory, load, store, goodLength, good}
 use Rattle.passing.specs.Check.{passing, openingValues}
-use Rattle.firing.specs.Firing.{setAndFire, committed}
+use Rattle.firing.specs.Firing.{setAndFire, committed, mayTake, nextPlace}
 
 -- what an accepted call answers
 pub data Answer : Type 0 where
@@ -98,7 +98,7 @@ input bytes m p l = reply m do
 unfoldable pub commit : List ℕ → Memory → ℕ → Reply
 commit bytes m k = reply m do
   d ← tested bytes m
-  require (ltb k (m .state .pending)) placeNotPending 0
+  require (mayTake (load m .pending) k) placeNotPending 0
   let c = committed d k (load m)
   let now = charge d (c .machine .pending)
   accepted (record { answer = cond (c .applied) (applied now) (discarded now); machine = c .machine })
@@ -115,7 +115,7 @@ oneMore s = record { made = suc (s .made); machine = s .machine }
 unfoldable pub settling : Deck → ℕ → Machine → Settling
 settling d zero x = record { made = 0; machine = x }
 settling d (suc budget) x =
-    let later = oneMore (settling d budget (committed d 0 x .machine)) in
+    let later = oneMore (settling d budget (committed d (nextPlace (x .pending)) x .machine)) in
     cond (isEmpty (x .pending)) (record { made = 0; machine = x }) later
 
 -- "With nothing pending it is settled, otherwise spent"

@@ -11,6 +11,7 @@ use Rattle.pool.specs.Places.{capacity}
 use Rattle.pool.specs.States.{Machine}
 use Rattle.passing.specs.Tabled.{deckOf}
 use Rattle.firing.specs.Firing.{committed}
+use Rattle.holes.specs.Slots.{whole}
 use Rattle.offers.specs.Queue.{heldOf}
 use Rattle.offers.specs.Stored.{Stored}
 use Rattle.calls.specs.Calls.{Answer, applied, discarded}
@@ -23,6 +24,6 @@ committedAs b now = cond b (applied now) (discarded now)
 -- what is left of a commit behind the tests, for a pending place
 abbrev pub CommitsAs : List ℕ → List ℤ → ℕ → ℕ → List ℕ → List ℤ → ℕ → Outcome Answer → List ℤ → ℕ → List ℤ → Type 0
 CommitsAs s vs₀ pending₀ total index₀ pool₀ k answer vs pending pool =
-    (x : Machine) → Stored (deckOf s) (capacity (length pool₀)) x vs₀ pending₀ total (heldOf 0 index₀ pool₀)
+    (x : Machine) → Stored (deckOf s) (capacity (length pool₀)) (whole (x .pending)) x vs₀ pending₀ total (heldOf index₀ pool₀)
     → (answer ≡ accepted (committedAs (committed (deckOf s) k x .applied) (charge (deckOf s) (committed (deckOf s) k x .machine .pending))))
     × Left (committed (deckOf s) k x .machine) vs pending pool

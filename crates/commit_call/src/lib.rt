@@ -8,6 +8,9 @@ ghost use Rattle.call_tests.specs.Tested.{Passed};
 use calls::Response;
 use deck::Deck;
 
+// So many commits are made.
+const ONE: u32 = 1;
+
 // The commit of a place, if it is pending (14).
 pub fn commit_tested(
     deck: &[u8],
@@ -27,17 +30,17 @@ pub fn commit_tested(
 {
     let k = place as usize;
     let n = *pending as usize;
-    if k >= n {
+    if !steps::may_take(n, k) {
         return Response::Refused {
             number: refusals::PLACE_NOT_PENDING,
             place: 0,
         };
     }
     let capacity = (pool.len() / Deck::PLACE) as u32;
-    let step = steps::commit(deck, counts, rules, parts, memo, index, pool, capacity, values, n, charge, k);
-    *pending = step.pending as u32;
+    let turn = turns::take_turns(deck, counts, rules, parts, memo, index, pool, capacity, values, n, charge, k, ONE);
+    *pending = turn.pending as u32;
     Response::Done {
-        flag: step.applied,
-        number: step.charge,
+        flag: turn.applied,
+        number: turn.charge,
     }
 }

@@ -15,7 +15,7 @@ use Rattle.pool.specs.Updates.{Update, valueAt, updates}
 use Rattle.pool.specs.Places.{pools}
 use Rattle.pool.specs.States.{Machine}
 use Rattle.passing.specs.Check.{openingValues, checks}
-use Rattle.firing.specs.Firing.{Commit, setAndFire, committed, firing}
+use Rattle.firing.specs.Firing.{Commit, setAndFire, committed, firing, mayTake, nextPlace}
 
 abbrev sets : ℕ → Num → Action
 sets t e = record { target = t; value = e } ∷ []
@@ -79,3 +79,8 @@ seen c = record { applied = c .applied; b = valueAt (c .machine .values) 1 1; le
 pub commit-case : seen (committed deck 1 (setA 6)) ≡ record { applied = true; b = pos 1; left = (pos 0 ∷ pos 2 ∷ pos 6 ∷ []) ∷ [] }
 unfolding lists evaluation decks charges updates pools checks firing
 commit-case = refl
+
+-- of two pending updates places 0 and 1 may be taken and no other, and a settle takes place 0
+pub place-cases : (map (mayTake (setA 6 .pending)) (0 ∷ 1 ∷ 2 ∷ []) ≡ true ∷ true ∷ false ∷ []) × (nextPlace (setA 6 .pending) ≡ 0)
+unfolding lists evaluation decks charges updates pools checks firing
+place-cases = (refl, refl)

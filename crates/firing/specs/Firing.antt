@@ -2,7 +2,8 @@
 use Prim.Native.Nat.{ℕ, suc}
 use mathlib.Core.Bool.{Bool, not, _&&_, cond}
 use mathlib.Core.List.{List, [], _∷_, _++_, map}
-use lib.ListN.{getD, take, drop}
+use lib.Dec.{ltb}
+use lib.ListN.{length, getD, take, drop}
 use lib.IntN.{ℤ}
 use Rattle.lists.specs.Lists.{filter, flatMap, below, eqZ}
 use Rattle.expression.specs.Values.{numValue, truthValue}
@@ -74,6 +75,14 @@ committed d k x =
     let taken : Machine = record { values = x .values; pending = without k (x .pending) } in
     let holds = within d (u .part) (assign (u .part) (u .pairs) (x .values)) in
     record { applied = holds; machine = cond holds (setAndFire d (u .part) (u .pairs) taken) taken }
+
+-- which of the pending updates a commit may take: every one, by its place
+abbrev pub mayTake : List Update → ℕ → Bool
+mayTake us k = ltb k (length us)
+
+-- which of them a settle takes next: "It commits place 0"
+abbrev pub nextPlace : List Update → ℕ
+nextPlace us = 0
 
 -- to open all definitions of this file, on an `unfolding` line
 unfoldable pub firing : Unit {0}

@@ -2,7 +2,7 @@
 use Prim.Native.Nat.{ℕ, zero, suc, _+_, _-_, _*_, _/_, _≤_, _<_}
 use mathlib.Core.Path.{_≡_, refl, sym, ap, subst, _∙_}
 use mathlib.Core.Logic.{_⊎_, ⊎-elim, inl, inr}
-use mathlib.Core.Bool.{Bool, true, false, _||_}
+use mathlib.Core.Bool.{Bool, true, false}
 use mathlib.Core.List.{List, [], _∷_}
 use native.Mathlib.Omega.{arith}
 use lib.ListN.{length, getD, take, drop}
@@ -12,9 +12,8 @@ use Rattle.lists.specs.Laws.Booleans.{or-left, or-right, or-false-both, not-tru
 use Rattle.lists.specs.Laws.Equalities.{eqZ-true, eqList-true, eqZ-refl, eqList-refl}
 use Rattle.pool.specs.Places.{places}
 use Rattle.index.specs.Hash.{bucketOf, sideOf}
-use Rattle.index.specs.Index.{headsOf, holeOf, slotOf, ownerOf, numberOf, Leads, here, down, Ends, free, past, Ordered, Indexed, Seeking, Finds, PlaceOf, IsPlace}
+use Rattle.index.specs.Index.{headsOf, slotOf, ownerOf, Leads, here, down, Ends, free, past, lives, Ordered, Seeking, Finds}
 use Rattle.index.specs.Laws.Ways.{side-low, slot-inside, slot-owner}
-use Rattle.index.specs.Laws.Indexed.{number-some, number-whole}
 use Rattle.index.specs.Laws.Front.{places-length, places-at}
 
 -- the steps that are left at most
@@ -37,8 +36,8 @@ module _ {heads top : ℕ} {index : List ℕ} (o : Ordered heads top index) (i s
   abbrev next : ℕ
   next = getD index (slotOf heads i side) 0
 
-  pub next-inside : suc (slotOf heads i side) < length index
-  next-inside = subst (λ s. suc s < length index) (slot-suc heads i side some) (slot-inside o (i - 1) side (omega arith) low)
+  pub next-inside : slotOf heads i side < length index
+  next-inside = subst (λ s. s < length index) (slot-suc heads i side some) (slot-inside o (i - 1) side (omega arith) low)
 
   pub next-later : (next ≡ 0) ⊎ ((i < next) × (next ≤ top))
   next-later =
@@ -66,14 +65,14 @@ from-slot {index} {row} {d} {n = n} (down {i = i} h w) =
     inr (omega (arith, h), subst (λ j. Leads (headsOf index) index row (suc d) (slotOf (headsOf index) j (sideOf row d)) n) (sym h) w)
 
 -- the slot s at a depth holds the number i, the way ends where that from s on does, and it comes to each place that has these numbers
-pub record Searching (gone pending : ℕ) (pool row : List ℤ) (index : List ℕ) (s i d : ℕ) : Type 0 where
-  pub seeking : Seeking gone pending pool row index
-  pub inside : suc s < length index
+pub record Searching (used : ℕ) (pool row : List ℤ) (index : List ℕ) (s i d : ℕ) : Type 0 where
+  pub seeking : Seeking used pool row index
+  pub inside : s < length index
   pub value : i ≡ getD index s 0
-  pub most : i ≤ numberOf gone (holeOf index) (length (places pending pool)) - 1
+  pub most : i ≤ length (places used pool)
   pub deep : 0 < i → d < i
   pub back : (e : ℕ) → Ends (headsOf index) index row d s e → Ends (headsOf index) index row 0 (bucketOf (headsOf index) row) e
-  pub way : (p : ℕ) → p < pending → take 10 (drop (10 * p) pool) ≡ row → From index row d i (numberOf gone (holeOf index) p)
+  pub way : (p : ℕ) → p < used → take 10 (drop (10 * p) pool) ≡ row → From index row d i (suc p)
 
 any-at : {A : Type 0} (f : A → Bool) (l : List A) (j : ℕ) (x : A) → j < length l → f (getD l j x) ≡ true → any f l ≡ true
 unfolding any
@@ -86,9 +85,9 @@ unfolding any
 any-none f [] x h = refl
 any-none f (y ∷ l) x h = or-false-both (h 0 (omega arith)) (any-none f l x (λ j m. h (suc j) (omega arith)))
 
-pub searching-starts : {gone pending : ℕ} {pool row : List ℤ} {index : List ℕ} (b : ℕ) → Seeking gone pending pool row index
-    → b ≡ bucketOf (headsOf index) row → b < headsOf index → Searching gone pending pool row index b (getD index b 0) 0
-searching-starts {gone} {pending} {pool} {row} {index} b k e l =
+pub searching-starts : {used : ℕ} {pool row : List ℤ} {index : List ℕ} (b : ℕ) → Seeking used pool row index
+    → b ≡ bucketOf (headsOf index) row → b < headsOf index → Searching used pool row index b (getD index b 0) 0
+searching-starts {used} {pool} {row} {index} b k e l =
     record {
       seeking = k;
       inside = omega (arith, o .inside);
@@ -99,41 +98,41 @@ searching-starts {gone} {pending} {pool} {row} {index} b k e l =
       way = way;
     }
   where
-    o : Ordered (headsOf index) (numberOf gone (holeOf index) (length (places pending pool)) - 1) index
+    o : Ordered (headsOf index) (length (places used pool)) index
     o = k .indexed .ordered
 
-    way : (p : ℕ) → p < pending → take 10 (drop (10 * p) pool) ≡ row → From index row 0 (getD index b 0) (numberOf gone (holeOf index) p)
+    way : (p : ℕ) → p < used → take 10 (drop (10 * p) pool) ≡ row → From index row 0 (getD index b 0) (suc p)
     way p m q =
-        let there = places-at pending p pool m ∙ q in
+        let there = places-at used p pool m ∙ q in
         from-slot
-        (subst (λ s. Leads (headsOf index) index row 0 s (numberOf gone (holeOf index) p)) (sym e)
-        (subst (λ r. Leads (headsOf index) index r 0 (bucketOf (headsOf index) r) (numberOf gone (holeOf index) p)) there
-        (k .indexed .leads p (omega (arith, places-length pending pool)))))
+        (subst (λ s. Leads (headsOf index) index row 0 s (suc p)) (sym e)
+        (subst (λ r. Leads (headsOf index) index r 0 (bucketOf (headsOf index) r) (suc p)) there
+        (k .indexed .leads p (omega (arith, places-length used pool)) (ap lives there ∙ k .live))))
 
-module _ {gone pending : ℕ} {pool row : List ℤ} {index : List ℕ} {s i d : ℕ} (w : Searching gone pending pool row index s i d) where
-  pub searching-ends : i ≡ 0 → Finds pending pool row index s
+module _ {used : ℕ} {pool row : List ℤ} {index : List ℕ} {s i d : ℕ} (w : Searching used pool row index s i d) where
+  pub searching-ends : i ≡ 0 → Finds used pool row index s
   searching-ends e =
       record {
         found = λ q. absurd (omega (arith, q, w .inside));
-        none = λ _. any-none (λ w. eqList eqZ w row) (places pending pool) [] none;
+        none = λ _. any-none (λ w. eqList eqZ w row) (places used pool) [] none;
         ends = λ _. w .back s (free (sym (w .value) ∙ e));
       }
     where
-      nowhere : (p : ℕ) → p < pending → take 10 (drop (10 * p) pool) ≡ row → ⊥
+      nowhere : (p : ℕ) → p < used → take 10 (drop (10 * p) pool) ≡ row → ⊥
       nowhere p l q =
-          ⊎-elim (λ n. omega (arith, e, n, number-some gone (holeOf index) p)) (λ r. omega (arith, e, r .0)) (w .way p l q)
+          ⊎-elim (λ n. omega (arith, e, n)) (λ r. omega (arith, e, r .0)) (w .way p l q)
 
-      none : (p : ℕ) → p < length (places pending pool) → eqList eqZ (getD (places pending pool) p []) row ≡ false
+      none : (p : ℕ) → p < length (places used pool) → eqList eqZ (getD (places used pool) p []) row ≡ false
       none p l =
-          let m : p < pending = omega (arith, places-length pending pool) in
-          not-true→false (eqList eqZ (getD (places pending pool) p []) row)
-          (λ t. nowhere p m (sym (places-at pending p pool m) ∙ eqList-true eqZ eqZ-true (getD (places pending pool) p []) row t))
+          let m : p < used = omega (arith, places-length used pool) in
+          not-true→false (eqList eqZ (getD (places used pool) p []) row)
+          (λ t. nowhere p m (sym (places-at used p pool m) ∙ eqList-true eqZ eqZ-true (getD (places used pool) p []) row t))
 
   module _ (some : 0 < i) where
     abbrev search-step : ℕ
     search-step = slotOf (headsOf index) i (sideOf row d)
 
-    searching-inside : suc search-step < length index
+    searching-inside : search-step < length index
     searching-inside = next-inside (w .seeking .indexed .ordered) i (sideOf row d) some (w .most) (side-low row d)
 
     -- the slot as the code computes it
@@ -141,12 +140,12 @@ module _ {gone pending : ℕ} {pool row : List ℤ} {index : List ℕ} {s i d : 
     unfolding slotOf headsOf
     step-is e = ap (λ x. length index / 3 + 2 * (i - 1) + x) e
 
-    pub step-inside : {b : ℕ} → b ≡ sideOf row d → suc (length index / 3 + 2 * (i - 1) + b) < length index
-    step-inside e = subst (λ s. suc s < length index) (sym (step-is e)) searching-inside
+    pub step-inside : {b : ℕ} → b ≡ sideOf row d → length index / 3 + 2 * (i - 1) + b < length index
+    step-inside e = subst (λ s. s < length index) (sym (step-is e)) searching-inside
 
     -- numbers are at most 65,535
-    few : numberOf gone (holeOf index) (length (places pending pool)) - 1 ≤ 65535
-    few = omega (arith, ap (numberOf gone (holeOf index)) (places-length pending pool), w .seeking .few)
+    few : length (places used pool) ≤ 65535
+    few = omega (arith, places-length used pool, w .seeking .few)
 
     pub searching-less : steps (getD index search-step 0) < steps i
     searching-less = next-less (w .seeking .indexed .ordered) i (sideOf row d) some (w .most) (side-low row d) few
@@ -154,19 +153,21 @@ module _ {gone pending : ℕ} {pool row : List ℤ} {index : List ℕ} {s i d : 
     pub searching-few : d < 65535
     searching-few = omega (arith, w .deep some, w .most, few)
 
-    module _ {p : ℕ} {r : Bool} (place : PlaceOf i gone (holeOf index) pending p) (is : IsPlace pool pending p row r) where
-      pub searching-found : r ≡ true → Finds pending pool row index (length index)
+    pub searching-low : i - 1 < used
+    searching-low = omega (arith, w .most, some, places-length used pool)
+
+    module _ {r : Bool} (is : r ≡ eqList eqZ (take 10 (drop (10 * (i - 1)) pool)) row) where
+      pub searching-found : r ≡ true → Finds used pool row index (length index)
       searching-found t =
-          let f = is .found t in
           record {
             found = λ _.
-                any-at (λ w. eqList eqZ w row) (places pending pool) p [] (omega (arith, f .0, places-length pending pool))
-                (ap (λ w. eqList eqZ w row) (places-at pending p pool (f .0)) ∙ f .1);
+                any-at (λ w. eqList eqZ w row) (places used pool) (i - 1) [] (omega (arith, searching-low, places-length used pool))
+                (ap (λ w. eqList eqZ w row) (places-at used (i - 1) pool searching-low) ∙ sym is ∙ t);
             none = λ n. absurd (n refl);
             ends = λ n. absurd (n refl);
           }
 
-      pub searching-next : r ≡ false → Searching gone pending pool row index search-step (getD index search-step 0) (d + 1)
+      pub searching-next : r ≡ false → Searching used pool row index search-step (getD index search-step 0) (d + 1)
       searching-next f =
           record {
             seeking = w .seeking;
@@ -187,27 +188,13 @@ module _ {gone pending : ℕ} {pool row : List ℤ} {index : List ℕ} {s i d : 
               (subst (λ k. Ends (headsOf index) index row (suc d) k e) (sym (slot-suc (headsOf index) i (sideOf row d) some))
               (subst (λ k. Ends (headsOf index) index row k search-step e) n v)))
 
-          here-not : (q : ℕ) → q < pending → take 10 (drop (10 * q) pool) ≡ row → i ≡ numberOf gone (holeOf index) q → ⊥
+          here-not : (q : ℕ) → q < used → take 10 (drop (10 * q) pool) ≡ row → i ≡ suc q → ⊥
           here-not q l e n =
-              let same = place q l n in
-              let other = is .other f (omega (arith, same)) in
-              contradiction (ap (λ w. eqList eqZ w row) (ap (λ j. take 10 (drop (10 * j) pool)) same ∙ e) ∙ eqList-refl eqZ eqZ-refl row) other
+              let same : i - 1 ≡ q = omega (arith, n) in
+              contradiction (ap (λ w. eqList eqZ w row) (ap (λ j. take 10 (drop (10 * j) pool)) same ∙ e) ∙ eqList-refl eqZ eqZ-refl row) (sym is ∙ f)
 
-          way : (q : ℕ) → q < pending → take 10 (drop (10 * q) pool) ≡ row → From index row (d + 1) (getD index search-step 0) (numberOf gone (holeOf index) q)
+          way : (q : ℕ) → q < used → take 10 (drop (10 * q) pool) ≡ row → From index row (d + 1) (getD index search-step 0) (suc q)
           way q l e =
               let n : suc d ≡ d + 1 = omega arith in
-              subst (λ k. From index row k (getD index search-step 0) (numberOf gone (holeOf index) q)) n
+              subst (λ k. From index row k (getD index search-step 0) (suc q)) n
               (⊎-elim (λ m. absurd (here-not q l e m)) (λ v. from-slot (v .1)) (w .way q l e))
-
--- where nothing is gone or taken out, a number is that of its place
-module _ {pending : ℕ} {pool row : List ℤ} {index : List ℕ} {s i d : ℕ} (w : Searching 0 pending pool row index s i d) (e : holeOf index ≡ 0)
-    (some : 0 < i) where
-  pub first-place : PlaceOf i 0 (holeOf index) pending (i - 1)
-  first-place p l n = omega (arith, n, ap (λ h. numberOf 0 h p) e ∙ number-whole 0 p)
-
-  pub first-low : i - 1 < pending
-  first-low =
-      omega (arith, w .most, some, ap (λ h. numberOf 0 h (length (places pending pool))) e ∙ number-whole 0 (length (places pending pool)), places-length pending pool)
-
-  pub first-is : {r : Bool} → r ≡ eqList eqZ (take 10 (drop (10 * (i - 1)) pool)) row → IsPlace pool pending (i - 1) row r
-  first-is q = record { found = λ t. (first-low, sym q ∙ t); other = λ f _. sym q ∙ f }

@@ -1,11 +1,11 @@
 // An index of the pending updates, so that an equal one is found without going through all of them: buckets by a hash, and a tree
 // in each. The definitions are in specs/.
 ghost use mathlib.Core.Path.{_≡_};
-ghost use Prim.Native.Nat.{suc, _+_, _-_, _*_, _≤_, _<_};
+ghost use Prim.Native.Nat.{_+_, _*_, _≤_, _<_};
 ghost use lib.ListN.{length, getD, set};
 ghost use lib.IntN.{pos};
 ghost use Rattle.index.specs.Hash.{raised, factored, hashOf, bucketOf, sideOf};
-ghost use Rattle.index.specs.Index.{holeOf, lostOf, Seeking, Finds, PlaceOf, IsPlace};
+ghost use Rattle.index.specs.Index.{Seeking, Finds};
 use deck::Deck;
 
 // The number at an index, as one from 0 on.
@@ -67,66 +67,11 @@ fn side(row: &[i32], d: usize) -> usize
     ((y >> (d % 32)) % 2) as usize
 }
 
-// The place with a number; the pending number where it is gone or was taken out.
-fn place_of(number: usize, gone: usize, hole: usize, pending: usize) -> usize
-    ensures { λ r. ⌜ PlaceOf number gone hole pending r ⌝ }
-{
-    if number <= gone {
-        return pending;
-    }
-    let n = number - gone;
-    if n == hole {
-        return pending;
-    }
-    if hole == 0 {
-        return n - 1;
-    }
-    if n < hole {
-        return n - 1;
-    }
-    n - 2
-}
-
-// Whether a place is pending and has these numbers.
-fn is_place(pool: &[i32], pending: usize, p: usize, row: &[i32]) -> bool
-    requires { ⌜ (length (now row) ≡ 10) × (10 * pending ≤ length (now pool)) ⌝ }
-    ensures { λ r. ⌜ IsPlace (now (pool .entry)) pending p (now (row .entry)) r ⌝ }
-{
-    if p >= pending {
-        return false;
-    }
-    pool::same_at(pool, Deck::PLACE * p, row)
-}
-
 // Where a place with these numbers is to be entered: the free slot at the end of their way down the tree of their bucket; the length of
-// the index where one of the places has them.
-pub fn find(index: &[u16], pool: &[i32], gone: usize, pending: usize, row: &[i32]) -> usize
-    requires { ⌜ Seeking gone pending (now pool) (now row) (now index) ⌝ }
-    ensures { λ r. ⌜ Finds pending (now (pool .entry)) (now (row .entry)) (now (index .entry)) r ⌝ }
-{
-    let heads = index.len() / 3;
-    let hole = index[index.len() - 1] as usize;
-    let mut s = bucket(row, heads);
-    let mut i = index[s] as usize;
-    let mut d: usize = 0;
-    while i > 0 {
-        let p = place_of(i, gone, hole, pending);
-        if is_place(pool, pending, p, row) {
-            return index.len();
-        }
-        let b = side(row, d);
-        s = heads + 2 * (i - 1) + b;
-        i = index[s] as usize;
-        d += 1;
-    }
-    s
-}
-
-// The same where no place is gone or was taken out, so that a number is that of its place. A loop of its own, since the test for equal
-// pending updates goes through it for each of them.
-pub fn find_first(index: &[u16], pool: &[i32], pending: usize, row: &[i32]) -> usize
-    requires { ⌜ Seeking 0 pending (now pool) (now row) (now index) × (holeOf (now index) ≡ 0) ⌝ }
-    ensures { λ r. ⌜ Finds pending (now (pool .entry)) (now (row .entry)) (now (index .entry)) r ⌝ }
+// the index where one of the used places has them. A place that was taken out has zeros, and is only passed.
+pub fn find(index: &[u16], pool: &[i32], used: usize, row: &[i32]) -> usize
+    requires { ⌜ Seeking used (now pool) (now row) (now index) ⌝ }
+    ensures { λ r. ⌜ Finds used (now (pool .entry)) (now (row .entry)) (now (index .entry)) r ⌝ }
 {
     let heads = index.len() / 3;
     let mut s = bucket(row, heads);
@@ -144,31 +89,31 @@ pub fn find_first(index: &[u16], pool: &[i32], pending: usize, row: &[i32]) -> u
     s
 }
 
-// The number of one more place.
-fn next_number(at: usize, hole: u16) -> usize
-    requires { ⌜ at + 1 + lostOf hole ≤ 65535 ⌝ }
-    ensures { λ r. ⌜ r ≡ at + 1 + lostOf hole ⌝ }
+// The same, for the test of a state: the compiler puts a function into its caller only where it is called once, or small.
+pub fn find_first(index: &[u16], pool: &[i32], used: usize, row: &[i32]) -> usize
+    requires { ⌜ Seeking used (now pool) (now row) (now index) ⌝ }
+    ensures { λ r. ⌜ Finds used (now (pool .entry)) (now (row .entry)) (now (index .entry)) r ⌝ }
 {
-    if hole == 0 {
-        return at + 1;
+    let heads = index.len() / 3;
+    let mut s = bucket(row, heads);
+    let mut number = index[s] as usize;
+    let mut d: usize = 0;
+    while number > 0 {
+        if pool::same_at(pool, Deck::PLACE * (number - 1), row) {
+            return index.len();
+        }
+        let b = side(row, d);
+        s = heads + 2 * (number - 1) + b;
+        number = index[s] as usize;
+        d += 1;
     }
-    at + 2
+    s
 }
 
-// One more place is entered at a free slot; `at` is how many there were, gone ones too.
-pub fn note(index: &mut [u16], at: usize, slot: usize)
-    requires { ⌜ (at + 1 + lostOf (holeOf (now index)) ≤ 65535) × (slot < length (now index)) ⌝ }
-    ensures { λ _. ⌜ now (index .exit) ≡ set (now (index .entry)) slot (at + 1 + lostOf (holeOf (now (index .entry)))) ⌝ }
+// One more place is entered at a free slot.
+pub fn note(index: &mut [u16], used: usize, slot: usize)
+    requires { ⌜ (used < 65535) × (slot < length (now index)) ⌝ }
+    ensures { λ _. ⌜ now (index .exit) ≡ set (now (index .entry)) slot (used + 1) ⌝ }
 {
-    let number = next_number(at, index[index.len() - 1]);
-    index[slot] = number as u16;
-}
-
-// Place k is taken out: its number stays as a branch.
-pub fn forget(index: &mut [u16], k: usize)
-    requires { ⌜ (k < 65535) × (0 < length (now index)) ⌝ }
-    ensures { λ _. ⌜ now (index .exit) ≡ set (now (index .entry)) (length (now (index .entry)) - 1) (suc k) ⌝ }
-{
-    let last = index.len() - 1;
-    index[last] = (k + 1) as u16;
+    index[slot] = (used + 1) as u16;
 }

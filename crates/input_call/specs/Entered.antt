@@ -14,6 +14,7 @@ use Rattle.pool.specs.Places.{capacity, pairsOf}
 use Rattle.pool.specs.States.{Machine}
 use Rattle.passing.specs.Tabled.{deckOf}
 use Rattle.firing.specs.Firing.{setAndFire}
+use Rattle.holes.specs.Slots.{whole}
 use Rattle.offers.specs.Queue.{heldOf}
 use Rattle.offers.specs.Stored.{Stored}
 use Rattle.calls.specs.Calls.{Answer, added, Done, goodInput}
@@ -42,5 +43,5 @@ Leaves (accepted a) vs₀ pending₀ pool₀ answer vs pending pool = (answer �
 
 abbrev pub Enters : List ℕ → List ℤ → ℕ → ℕ → List ℕ → List ℤ → ℕ → List ℤ → Outcome Answer → List ℤ → ℕ → List ℤ → Type 0
 Enters s vs₀ pending₀ total index₀ pool₀ p l answer vs pending pool =
-    (x : Machine) → Stored (deckOf s) (capacity (length pool₀)) x vs₀ pending₀ total (heldOf 0 index₀ pool₀)
+    (x : Machine) → Stored (deckOf s) (capacity (length pool₀)) (whole (x .pending)) x vs₀ pending₀ total (heldOf index₀ pool₀)
     → Leaves (entered (deckOf s) (capacity (length pool₀)) x p l) vs₀ pending₀ pool₀ answer vs pending pool

@@ -95,12 +95,12 @@ pub fn input_tested(
     let mut after = *values;
     updates::assign_pairs(&mut after, p, pairs);
     let capacity = (pool.len() / Deck::PLACE) as u32;
-    let queue = reactions::react(deck, counts, rules, parts, memo, index, pool, 0, capacity, n, charge, &after, p, changed);
+    let queue = reactions::react(deck, counts, rules, parts, memo, index, pool, capacity, n, charge, &after, p, changed);
     if queue.full {
         take_back(pool, n);
         return refused(refusals::OVER_CAPACITY);
     }
     updates::assign_pairs(values, p, pairs);
-    *pending = queue.pending as u32;
+    *pending = queue.used as u32;
     Response::Done { flag: true, number: queue.charge - charge }
 }

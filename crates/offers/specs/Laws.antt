@@ -1,4 +1,5 @@
 -- Laws of new updates that are offered one by one.
 pub mod Queue
+pub mod Kept
 pub mod Adding
 pub mod Offers

@@ -2,7 +2,7 @@
 use Prim.Native.Nat.{ℕ, _+_, _*_, _≤_, _<_}
 use mathlib.Core.Path.{_≡_}
 use mathlib.Core.Bool.{true, false}
-use mathlib.Core.List.{List, [], _∷_, _++_}
+use mathlib.Core.List.{List, [], _∷_, _++_, map}
 use lib.Dec.{ltb}
 use lib.ListN.{length}
 use lib.IntN.{ℤ}
@@ -14,60 +14,58 @@ use Rattle.deck.specs.declared.Deck as Counted
 use Rattle.deck.specs.Laws.Points.{ReadsAt}
 use Rattle.charge.specs.Memo.{Memo, Ready}
 use Rattle.pool.specs.Updates.{Update, charge}
-use Rattle.pool.specs.Moves.{Laid}
-use Rattle.index.specs.Index.{holeOf, lostOf, Indexed, rowsOf, Roomy}
+use Rattle.holes.specs.Slots.{Slot, row, standing, holes, whole, Spread}
+use Rattle.index.specs.Index.{Indexed, Roomy}
 use Rattle.passing.specs.Judged.{shape}
 use Rattle.firing.specs.Firing.{enqueue}
 use Rattle.firing.specs.Evaluated.{updateBy}
 use Rattle.offers.specs.declared.Queue.{Queue}
 
--- the pool from the first place at hand on, with the index of its places: `gone` of those that it has numbers for are gone
+-- a pool and the index of its used places
 pub record Held : Type 0 where
-  pub gone : ℕ
   pub index : List ℕ
   pub pool : List ℤ
 
-abbrev pub heldOf : ℕ → List ℕ → List ℤ → Held
-heldOf gone index pool = record { gone = gone; index = index; pool = pool }
+abbrev pub heldOf : List ℕ → List ℤ → Held
+heldOf index pool = record { index = index; pool = pool }
 
--- these updates, zeros behind them, and their index
-pub record Kept (h : Held) (us : List Update) : Type 0 where
-  pub laid : Laid (h .pool) us
-  pub indexed : Indexed (h .gone) (rowsOf us) (h .index)
+-- the pool holds these slots, and the index leads to what stands in them
+pub record Kept (slots : List Slot) (h : Held) : Type 0 where
+  pub spread : Spread (h .pool) slots
+  pub indexed : Indexed (map row slots) (h .index)
 
--- room for C updates, and for the number of one that was taken out
-pub record Room (C : ℕ) (h : Held) : Type 0 where
-  pub bounded : h .gone + C + lostOf (holeOf (h .index)) ≤ 65535
-  pub places : 10 * C ≤ length (h .pool)
-  pub index : Roomy (h .gone + C) (h .index)
+-- room for C updates beside H holes
+pub record Room (C H : ℕ) (h : Held) : Type 0 where
+  pub bounded : H + C ≤ 65535
+  pub places : 10 * (H + C) ≤ length (h .pool)
+  pub index : Roomy (H + C) (h .index)
 
 pub record SameSize (h₀ h : Held) : Type 0 where
-  pub gone : h .gone ≡ h₀ .gone
   pub index : length (h .index) ≡ length (h₀ .index)
-  pub hole : holeOf (h .index) ≡ holeOf (h₀ .index)
   pub pool : length (h .pool) ≡ length (h₀ .pool)
 
--- `us` were pending at first, and `new` have been offered since. What is written behind `us` is `extra`: all that "written
--- behind the last pending one, one by one, unless equal to one then pending" leaves of them, unless the charge would pass C
-pub record Grown (d : Deck) (C : ℕ) (us new : List Update) (held : Held) (q : Queue) : Type 0 where
+-- these slots were used at first, and `new` have been offered since. What is written behind them is `extra`: all that "written
+-- behind the last pending one, one by one, unless equal to one then pending" leaves of `new`, unless the charge would pass C
+pub record Grown (d : Deck) (C : ℕ) (slots : List Slot) (new : List Update) (held : Held) (q : Queue) : Type 0 where
   pub extra : List Update
-  pub kept : Kept held (us ++ extra)
-  pub pending : q .pending ≡ length (us ++ extra)
-  pub room : q .full ≡ false → (us ++ extra ≡ enqueue us new) × (q .charge ≡ charge d (us ++ extra)) × (q .charge ≤ C)
-  pub over : q .full ≡ true → C < charge d (enqueue us new)
+  pub kept : Kept (slots ++ whole extra) held
+  pub used : q .used ≡ length (slots ++ whole extra)
+  pub room : q .full ≡ false
+      → (standing slots ++ extra ≡ enqueue (standing slots) new) × (q .charge ≡ charge d (standing slots ++ extra)) × (q .charge ≤ C)
+  pub over : q .full ≡ true → C < charge d (enqueue (standing slots) new)
 
--- what a function that offers updates takes: tables without a cycle, a memo that is right, and a pool of C places
+-- what a function that offers updates takes: tables without a cycle, a memo that is right, and room for C updates
 pub record Offering (rules parts : List ℕ) (k : Counted.Deck) (C : ℕ) (memo : List ℕ) (held : Held) (q : Queue) : Type 0 where
   pub ready : Ready rules parts (k .channels) (k .rules) (k .parts) memo
   pub few : k .channels ≤ 32
-  pub room : Room C held
-  pub us : List Update
+  pub slots : List Slot
+  pub room : Room C (holes slots) held
   pub new : List Update
-  pub grown : Grown (shape rules parts k) C us new held q
+  pub grown : Grown (shape rules parts k) C slots new held q
 
 -- what it leaves, when the updates `fresh` were offered
 pub record Offered (d : Deck) (C : ℕ) (fresh : List Update) (held₀ : Held) (q₀ : Queue) (m : List ℕ) (held : Held) (q : Queue) : Type 0 where
-  pub grows : (us new : List Update) → Grown d C us new held₀ q₀ → Grown d C us (new ++ fresh) held q
+  pub grows : (slots : List Slot) (new : List Update) → Grown d C slots new held₀ q₀ → Grown d C slots (new ++ fresh) held q
   pub memo : Memo d m
   pub size : SameSize held₀ held
 

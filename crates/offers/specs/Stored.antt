@@ -13,23 +13,25 @@ use Rattle.pool.specs.Updates.{charge}
 use Rattle.pool.specs.States.{Machine}
 use Rattle.pool.specs.Laws.Good.{Fine}
 use Rattle.passing.specs.Tabled.{deckOf, Tabled}
-use Rattle.index.specs.Index.{holeOf}
+use Rattle.holes.specs.Slots.{Slot, standing, holes}
 use Rattle.offers.specs.Queue.{Held, Kept, Room}
 
--- the numbers stand for the values and pending updates x, a good state with C places
-pub record Stored (d : Deck) (C : ℕ) (x : Machine) (vs : List ℤ) (pending total : ℕ) (held : Held) : Type 0 where
+-- the numbers stand for the values and pending updates x, a good state of charge C, held in these slots
+pub record Stored (d : Deck) (C : ℕ) (slots : List Slot) (x : Machine) (vs : List ℤ) (used total : ℕ) (held : Held) : Type 0 where
   pub fine : Fine d C x
   pub values : vs ≡ x .values
-  pub count : pending ≡ length (x .pending)
-  pub kept : Kept held (x .pending)
+  pub stands : standing slots ≡ x .pending
+  pub count : used ≡ length slots
+  pub kept : Kept slots held
   pub charged : total ≡ charge d (x .pending)
 
--- what a commit takes: tables without a cycle, a memo that is right, and such a state with room for C updates
-pub record Committing (s : List ℕ) (k : Counted.Deck) (rules parts memo : List ℕ) (held : Held) (C : ℕ) (values : List ℤ) (pending total : ℕ) : Type 0 where
+-- what a commit takes: tables without a cycle, a memo that is right, and such a state with room for C updates beside its holes
+pub record Committing (s : List ℕ) (k : Counted.Deck) (rules parts memo : List ℕ) (held : Held) (C : ℕ) (values : List ℤ)
+    (used total : ℕ) : Type 0 where
   pub tabled : Tabled s k rules parts
   pub ready : Ready rules parts (k .channels) (k .rules) (k .parts) memo
   pub acyclic : Acyclic (deckOf s)
-  pub room : Room C held
-  pub whole : holeOf (held .index) ≡ 0
+  pub slots : List Slot
+  pub room : Room C (holes slots) held
   pub machine : Machine
-  pub stored : Stored (deckOf s) C machine values pending total held
+  pub stored : Stored (deckOf s) C slots machine values used total held

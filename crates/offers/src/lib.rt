@@ -10,25 +10,26 @@ ghost use Rattle.passing.specs.Judged.{shape};
 ghost use Rattle.offers.specs.Queue.{heldOf, Offering, Offered, Offers, Sound};
 use deck::Deck;
 
-// The pending number and the charge of the pending updates; full where a new one would have passed the capacity.
+// The places used, those from which an update was taken out among them, and the charge of the pending updates; full where a new one
+// would have passed the capacity.
 pub struct Queue {
-    pub pending: usize,
+    pub used: usize,
     pub charge: u32,
     pub full: bool,
 }
 
 // The capacity would be passed: nothing more is taken.
 fn passed(queue: Queue) -> Queue
-    ensures { λ r. ⌜ (r .pending ≡ queue .pending) × (r .charge ≡ queue .charge) × (r .full ≡ true) ⌝ }
+    ensures { λ r. ⌜ (r .used ≡ queue .used) × (r .charge ≡ queue .charge) × (r .full ≡ true) ⌝ }
 {
     Queue {
-        pending: queue.pending,
+        used: queue.used,
         charge: queue.charge,
         full: true,
     }
 }
 
-// A new update behind the last pending one, unless it is equal to one then pending or its charge passes the capacity.
+// A new update behind the last place used, unless it is equal to one then pending or its charge passes the capacity.
 fn add(
     counts: Deck,
     rules: &[u64],
@@ -36,18 +37,17 @@ fn add(
     memo: &mut [u32],
     index: &mut [u16],
     pool: &mut [i32],
-    gone: usize,
     capacity: u32,
     queue: Queue,
     row: &[i32],
 ) -> Queue
-    requires { ⌜ Offering (now rules) (now parts) counts capacity (now memo) (heldOf gone (now index) (now pool)) queue × Holds (shape (now rules) (now parts) counts) (now row) ⌝ }
-    ensures { λ r. ⌜ Offered (shape (now (rules .entry)) (now (parts .entry)) counts) capacity (updateOf (now (row .entry)) ∷ []) (heldOf gone (now (index .entry)) (now (pool .entry))) queue (now (memo .exit)) (heldOf gone (now (index .exit)) (now (pool .exit))) r ⌝ }
+    requires { ⌜ Offering (now rules) (now parts) counts capacity (now memo) (heldOf (now index) (now pool)) queue × Holds (shape (now rules) (now parts) counts) (now row) ⌝ }
+    ensures { λ r. ⌜ Offered (shape (now (rules .entry)) (now (parts .entry)) counts) capacity (updateOf (now (row .entry)) ∷ []) (heldOf (now (index .entry)) (now (pool .entry))) queue (now (memo .exit)) (heldOf (now (index .exit)) (now (pool .exit))) r ⌝ }
 {
     if queue.full {
         return queue;
     }
-    let slot = index::find(index, pool, gone, queue.pending, row);
+    let slot = index::find(index, pool, queue.used, row);
     if slot == index.len() {
         return queue;
     }
@@ -56,10 +56,10 @@ fn add(
     if total > capacity {
         return passed(queue);
     }
-    pool::push(pool, queue.pending, row);
-    index::note(index, gone + queue.pending, slot);
+    pool::push(pool, queue.used, row);
+    index::note(index, queue.used, slot);
     Queue {
-        pending: queue.pending + 1,
+        used: queue.used + 1,
         charge: total,
         full: false,
     }
@@ -74,7 +74,6 @@ pub fn offer(
     memo: &mut [u32],
     index: &mut [u16],
     pool: &mut [i32],
-    gone: usize,
     capacity: u32,
     queue: Queue,
     at: usize,
@@ -82,14 +81,14 @@ pub fn offer(
     own: &[i32],
     far: &[i32],
 ) -> Queue
-    requires { ⌜ Offering (now rules) (now parts) counts capacity (now memo) (heldOf gone (now index) (now pool)) queue × Sound (now deck) at (length (now own)) (length (now far)) (counts .channels) × (part < counts .parts) ⌝ }
-    ensures { λ r. ⌜ Offers (now (deck .entry)) at (now (own .entry)) (now (far .entry)) part (shape (now (rules .entry)) (now (parts .entry)) counts) capacity (heldOf gone (now (index .entry)) (now (pool .entry))) queue (now (memo .exit)) (heldOf gone (now (index .exit)) (now (pool .exit))) r ⌝ }
+    requires { ⌜ Offering (now rules) (now parts) counts capacity (now memo) (heldOf (now index) (now pool)) queue × Sound (now deck) at (length (now own)) (length (now far)) (counts .channels) × (part < counts .parts) ⌝ }
+    ensures { λ r. ⌜ Offers (now (deck .entry)) at (now (own .entry)) (now (far .entry)) part (shape (now (rules .entry)) (now (parts .entry)) counts) capacity (heldOf (now (index .entry)) (now (pool .entry))) queue (now (memo .exit)) (heldOf (now (index .exit)) (now (pool .exit))) r ⌝ }
 {
     if deck[at] == 0 {
         return queue;
     }
     let row = updates::evaluate(deck, at, part, own, far);
-    add(counts, rules, parts, memo, index, pool, gone, capacity, queue, &row)
+    add(counts, rules, parts, memo, index, pool, capacity, queue, &row)
 }
 
 // The same for a default action. Most of them are empty, and then there is no call.
@@ -101,7 +100,6 @@ pub fn offer_default(
     memo: &mut [u32],
     index: &mut [u16],
     pool: &mut [i32],
-    gone: usize,
     capacity: u32,
     queue: Queue,
     at: usize,
@@ -109,11 +107,11 @@ pub fn offer_default(
     own: &[i32],
     far: &[i32],
 ) -> Queue
-    requires { ⌜ Offering (now rules) (now parts) counts capacity (now memo) (heldOf gone (now index) (now pool)) queue × Sound (now deck) at (length (now own)) (length (now far)) (counts .channels) × (part < counts .parts) ⌝ }
-    ensures { λ r. ⌜ Offers (now (deck .entry)) at (now (own .entry)) (now (far .entry)) part (shape (now (rules .entry)) (now (parts .entry)) counts) capacity (heldOf gone (now (index .entry)) (now (pool .entry))) queue (now (memo .exit)) (heldOf gone (now (index .exit)) (now (pool .exit))) r ⌝ }
+    requires { ⌜ Offering (now rules) (now parts) counts capacity (now memo) (heldOf (now index) (now pool)) queue × Sound (now deck) at (length (now own)) (length (now far)) (counts .channels) × (part < counts .parts) ⌝ }
+    ensures { λ r. ⌜ Offers (now (deck .entry)) at (now (own .entry)) (now (far .entry)) part (shape (now (rules .entry)) (now (parts .entry)) counts) capacity (heldOf (now (index .entry)) (now (pool .entry))) queue (now (memo .exit)) (heldOf (now (index .exit)) (now (pool .exit))) r ⌝ }
 {
     if deck[at] == 0 {
         return queue;
     }
-    offer(deck, counts, rules, parts, memo, index, pool, gone, capacity, queue, at, part, own, far)
+    offer(deck, counts, rules, parts, memo, index, pool, capacity, queue, at, part, own, far)
 }

@@ -13,7 +13,7 @@ use Rattle.pool.specs.Updates.{charge}
 use Rattle.pool.specs.Places.{capacity, pairsOf}
 use Rattle.pool.specs.States.{Machine}
 use Rattle.passing.specs.Check.{openingValues}
-use Rattle.firing.specs.Firing.{setAndFire, pick, committed}
+use Rattle.firing.specs.Firing.{setAndFire, pick, committed, mayTake, nextPlace}
 use Rattle.calls.specs.Calls.{Answer, passed, started, added, applied, discarded, settled, spent, goodInput}
 use Rattle.orders.specs.Calling.{Call, input, commit, settle}
 
@@ -32,7 +32,7 @@ turn d k x =
 unfoldable pub turns : Deck → ℕ → Machine → List Turn
 turns d zero x = []
 turns d (suc budget) x =
-    let first = turn d 0 x in
+    let first = turn d (nextPlace (x .pending)) x in
     let all = first ∷ turns d budget (first .after) in
     cond (isEmpty (x .pending)) [] all
 
@@ -56,7 +56,7 @@ taken d C x (input p l) = do
   require (leb (charge d (after .pending)) C) overCapacity 0
   accepted (record { answer = added (charge d (after .pending) - charge d (x .pending)); turns = []; machine = after })
 taken d C x (commit k) = do
-  require (ltb k (length (x .pending))) placeNotPending 0
+  require (mayTake (x .pending) k) placeNotPending 0
   let t = turn d k x
   let now = charge d (t .after .pending)
   accepted (record { answer = cond (t .applied) (applied now) (discarded now); turns = t ∷ []; machine = t .after })

@@ -1,7 +1,7 @@
 -- Demand 3 as one statement about a whole list of calls: a field for each sentence. Assumes nothing.
 use Prim.Native.Nat.{ℕ, _+_, _≤_, _<_}
 use mathlib.Core.Path.{_≡_}
-use mathlib.Core.Bool.{Bool, true, not, _||_}
+use mathlib.Core.Bool.{Bool, true, false, not, _||_}
 use mathlib.Core.List.{List, [], _∷_}
 use lib.Dec.{leb}
 use lib.ListN.{length}
@@ -14,6 +14,7 @@ use Rattle.charge.specs.Charge.{updateCharge}
 use Rattle.pool.specs.Updates.{Update, channels, charge}
 use Rattle.pool.specs.Places.{capacity}
 use Rattle.pool.specs.States.{Machine, store}
+use Rattle.firing.specs.Firing.{mayTake}
 use Rattle.passing.specs.Check.{within, openingValues}
 use Rattle.calls.specs.Calls.{settled}
 use Rattle.orders.specs.Calling.{Call, input, commit, settle, run}
@@ -32,8 +33,8 @@ pub data Accepted {A : Type 0} : Outcome A → Type 0 where
 unfoldable pub RefusedAsPlaced : Deck → ℕ → Machine → Call → Type 0
 RefusedAsPlaced d C x (input p l) = Unit {0}
 RefusedAsPlaced d C x (commit k) =
-    (k < length (x .pending) → Accepted (taken d C x (commit k)))
-    × (length (x .pending) ≤ k → taken d C x (commit k) ≡ refused placeNotPending 0)
+    (mayTake (x .pending) k ≡ true → Accepted (taken d C x (commit k)))
+    × (mayTake (x .pending) k ≡ false → taken d C x (commit k) ≡ refused placeNotPending 0)
 RefusedAsPlaced d C x (settle b) = Unit {0}
 
 -- an accepted settle with a budget of at least the charge pending before it ends settled, with as many commits as it made turns

@@ -1,16 +1,16 @@
 -- Numbers written into a pool: into a lent tail, moved down, and zeros. Assumes nothing.
-use Prim.Native.Nat.{ℕ, suc, _+_, _*_, _-_, _≤_, _<_}
-use mathlib.Core.Path.{_≡_, refl, sym, ap, ap₂, _∙_}
-use mathlib.Core.List.{List, [], _++_, append-nil, append-assoc}
+use Prim.Native.Nat.{ℕ, suc, _+_, _-_, _≤_, _<_}
+use mathlib.Core.Path.{_≡_, sym, ap, ap₂, _∙_}
+use mathlib.Core.List.{List, [], _++_, append-nil}
 use native.Mathlib.Nat.{le-refl}
 use native.Mathlib.Numerals.{add-one}
 use native.Mathlib.Omega.{arith}
-use lib.ListN.{length, take, drop, getD, set, length-take, length-drop, length-replicate, drop-of-length-le, replicate-append-replicate}
+use lib.ListN.{length, take, drop, getD, set, length-drop, length-replicate, drop-of-length-le, replicate-append-replicate}
 use lib.Seq.{take-all, drop-drop, drop-cons, set-at, append-snoc, getD-drop, getD-append-add}
-use lib.Seq.{paste, paste-suc, length-paste-head, take-paste, drop-paste}
+use lib.Seq.{paste, paste-suc, length-paste-head}
 use lib.IntN.{ℤ, pos}
 use Rattle.pool.specs.Places.{zeros}
-use Rattle.pool.specs.Moves.{written, moved, removed, shifted}
+use Rattle.pool.specs.Moves.{written, moved}
 
 -- the tail from an index on, as it is lent
 pub tail-is : (p : List ℤ) (at : ℕ) → take (length p - at) (drop at p) ≡ drop at p
@@ -46,27 +46,6 @@ moved-next p at distance i h =
     ∙ sym (getD-drop (at + distance) p i (pos 0) ∙ ap (λ (k : ℕ). getD p k (pos 0)) e) in
     rw (g, add-one) (paste-suc p at (drop (at + distance) p) i (pos 0) (omega arith) l)
 
-moved-written : (p z : List ℤ) (a m : ℕ) → a + 10 + m ≤ length p
-    → written (moved p a 10 m) (a + m) z ≡ take a p ++ (take m (drop (a + 10) p) ++ (z ++ drop (a + m + 10) p))
-moved-written p z a m h =
-    let l : m ≤ length (drop (a + 10) p) = simp length-drop (omega arith) in
-    let la : a ≤ length p = omega arith in
-    rw (
-      ← drop-drop 10 (a + m) (moved p a 10 m),
-      take-paste p a (drop (a + 10) p) m la l,
-      drop-paste p a (drop (a + 10) p) m la l,
-      drop-drop,
-      append-assoc,
-    ) refl
-
--- the later places moved down, and zeros at the last one
-pub removed-is : (p : List ℤ) (n k : ℕ) → k < n → 10 * n ≤ length p
-    → written (moved p (10 * k) 10 (10 * (n - 1 - k))) (10 * (n - 1)) (zeros 10) ≡ removed p n k
-removed-is p n k hk hn =
-    let e : 10 * (n - 1) ≡ 10 * k + 10 * (n - 1 - k) = omega arith in
-    let f : 10 * n ≡ 10 * k + 10 * (n - 1 - k) + 10 = omega arith in
-    rw (e, f) (moved-written p (zeros 10) (10 * k) (10 * (n - 1 - k)) (omega arith))
-
 -- ---- zeros
 
 -- one zero more at the front
@@ -80,30 +59,3 @@ zeros-next l i h =
 
 pub zeros-all : (l : List ℤ) (i : ℕ) → i ≡ length l → zeros i ++ drop i l ≡ zeros (length l)
 zeros-all l i e = rw (e, drop-of-length-le l {i = length l} (le-refl _)) (append-nil (zeros (length l)))
-
--- ---- moved to the front
-
-module _ (p : List ℤ) (from count : ℕ) (h : from + count ≤ length p) where
-  -- the numbers at the front, and those behind them, which are stale as far as they were moved
-  front : take count (moved p 0 from count) ≡ take count (drop from p)
-  front =
-      let e : 0 + from ≡ from = omega arith in
-      let f : 0 + count ≡ count = omega arith in
-      let t = take-paste p 0 (drop (0 + from) p) count (omega arith) (simp length-drop (omega arith)) in
-      ap (λ (k : ℕ). take k (moved p 0 from count)) (sym f) ∙ t ∙ ap (λ (k : ℕ). take count (drop k p)) e
-
-  behind : drop count (moved p 0 from count) ≡ drop count p
-  behind =
-      let f : 0 + count ≡ count = omega arith in
-      let t = drop-paste p 0 (drop (0 + from) p) count (omega arith) (simp length-drop (omega arith)) in
-      ap (λ (k : ℕ). drop k (moved p 0 from count)) (sym f) ∙ t ∙ ap (λ (k : ℕ). drop k p) f
-
-  -- the stale numbers were lent, and came back as zeros
-  pub shifted-is : (z : List ℤ) → z ≡ zeros (length (take (count + from - count) (drop count (moved p 0 from count))))
-      → take count (moved p 0 from count) ++ (z ++ drop (count + from - count) (drop count (moved p 0 from count)))
-      ≡ shifted p from count
-  shifted-is z e =
-      let k : count + from - count ≡ from = omega arith in
-      let size : length (take from (drop count p)) ≡ from = simp (length-take, length-drop) (omega arith) in
-      let g : count + from ≡ from + count = omega arith in
-      rw (front, e, behind, k, size, drop-drop, g) refl

@@ -1,5 +1,5 @@
--- What writing and taking out do to the numbers of a pool. Assumes nothing.
-use Prim.Native.Nat.{ℕ, _+_, _*_, _-_, _≤_}
+-- What writing and moving do to the numbers of a pool. Assumes nothing.
+use Prim.Native.Nat.{ℕ, _+_, _*_, _≤_}
 use mathlib.Core.Path.{_≡_}
 use mathlib.Core.Bool.{true}
 use mathlib.Core.List.{List, _++_}
@@ -8,7 +8,7 @@ use lib.ListN.{length, take, drop}
 use lib.IntN.{ℤ}
 use Rattle.lists.specs.Lists.{all}
 use Rattle.pool.specs.Updates.{Update}
-use Rattle.pool.specs.Places.{zeros, poolOf}
+use Rattle.pool.specs.Places.{poolOf}
 use Rattle.pool.specs.Laws.Places.{short}
 
 -- ten numbers written at an index
@@ -18,15 +18,6 @@ written pool at update = take at pool ++ (update ++ drop (at + 10) pool)
 -- so many numbers from a distance further on, moved down to an index
 abbrev pub moved : List ℤ → ℕ → ℕ → ℕ → List ℤ
 moved pool at distance count = paste pool at (drop (at + distance) pool) count
-
--- place k of n taken out: "later places move down", and the last one becomes zeros
-abbrev pub removed : List ℤ → ℕ → ℕ → List ℤ
-removed pool n k =
-    take (10 * k) pool ++ (take (10 * (n - 1 - k)) (drop (10 * k + 10) pool) ++ (zeros 10 ++ drop (10 * n) pool))
-
--- so many numbers from an index on, moved to the front, and zeros behind them
-abbrev pub shifted : List ℤ → ℕ → ℕ → List ℤ
-shifted pool from count = take count (drop from pool) ++ (zeros from ++ drop (from + count) pool)
 
 -- the pool holds exactly these updates, zeros behind them
 pub record Laid (pool : List ℤ) (us : List Update) : Type 0 where

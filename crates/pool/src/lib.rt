@@ -7,7 +7,7 @@ ghost use lib.ListN.{length, take, drop};
 ghost use Rattle.lists.specs.Lists.{all, eqZ, eqList};
 ghost use Rattle.pool.specs.Places.{zeros, isZero};
 ghost use Rattle.pool.specs.States.{goodLength};
-ghost use Rattle.pool.specs.Moves.{written, moved, removed, shifted};
+ghost use Rattle.pool.specs.Moves.{written, moved};
 use deck::Deck;
 
 // The places of the longest pool.
@@ -73,7 +73,7 @@ pub fn same_at(pool: &[i32], at: usize, update: &[i32]) -> bool
 }
 
 // So many numbers moved down to an index.
-fn move_down(pool: &mut [i32], at: usize, distance: usize, count: usize)
+pub fn move_down(pool: &mut [i32], at: usize, distance: usize, count: usize)
     requires { ⌜ at + distance + count ≤ length (now pool) ⌝ }
     ensures { λ _. ⌜ now (pool .exit) ≡ moved (now (pool .entry)) at distance count ⌝ }
 {
@@ -83,22 +83,6 @@ fn move_down(pool: &mut [i32], at: usize, distance: usize, count: usize)
         pool[at + i] = x;
         i += 1;
     }
-}
-
-// Place k is taken out: later places move down, and the last one becomes zeros.
-pub fn take_out(pool: &mut [i32], pending: usize, k: usize)
-    requires { ⌜ (k < pending) × (10 * pending ≤ length (now pool)) ⌝ }
-    ensures { λ _. ⌜ now (pool .exit) ≡ removed (now (pool .entry)) pending k ⌝ }
-{
-    let last = Deck::PLACE * (pending - 1);
-    move_down(
-        pool,
-        Deck::PLACE * k,
-        Deck::PLACE,
-        Deck::PLACE * (pending - 1 - k),
-    );
-    let none = [0i32; Deck::PLACE];
-    write_update(&mut pool[last..], &none);
 }
 
 // The pool's tail becomes zeros.
@@ -154,14 +138,4 @@ pub fn all_zero(tail: &[i32]) -> bool
         return false;
     }
     both_zero(&tail[..half], &tail[half..end])
-}
-
-// So many numbers from an index on move to the front, and zeros stand behind them.
-pub fn shift(pool: &mut [i32], from: usize, count: usize)
-    requires { ⌜ from + count ≤ length (now pool) ⌝ }
-    ensures { λ _. ⌜ now (pool .exit) ≡ shifted (now (pool .entry)) from count ⌝ }
-{
-    move_down(pool, 0, from, count);
-    let end = count + from;
-    clear(&mut pool[count..end]);
 }

@@ -14,6 +14,7 @@ use Rattle.pool.specs.Updates.{Update, charge}
 use Rattle.passing.specs.Tabled.{Tabled}
 use Rattle.passing.specs.Judged.{shape}
 use Rattle.firing.specs.Firing.{fired}
+use Rattle.holes.specs.Slots.{Slot, standing, holes}
 use Rattle.offers.specs.Queue.{Held, Kept, Room, SameSize, Grown, Offered}
 use Rattle.offers.specs.declared.Queue.{Queue}
 
@@ -36,25 +37,27 @@ Fires d values p mask e C held₀ q₀ m held q =
     (cs : List ℕ) → ((c : ℕ) → member c cs ≡ true → c < 32) → mask ≡ maskOf cs
     → Offered e C (fired d values p cs) held₀ q₀ m held q
 
--- tables, memo and places as for the firing, with a pool that holds exactly so many pending updates of so much charge
-pub record Reacting (s : List ℕ) (k : Counted.Deck) (rules parts memo : List ℕ) (held : Held) (C pending total : ℕ) : Type 0 where
+-- tables, memo and room as for the firing, with so many places used and pending updates of so much charge
+pub record Reacting (s : List ℕ) (k : Counted.Deck) (rules parts memo : List ℕ) (held : Held) (C used total : ℕ) : Type 0 where
   pub tabled : Tabled s k rules parts
   pub ready : Ready rules parts (k .channels) (k .rules) (k .parts) memo
-  pub room : Room C held
-  pub us : List Update
-  pub kept : Kept held us
-  pub count : pending ≡ length us
-  pub charged : total ≡ charge (shape rules parts k) us
+  pub slots : List Slot
+  pub room : Room C (holes slots) held
+  pub kept : Kept slots held
+  pub count : used ≡ length slots
+  pub charged : total ≡ charge (shape rules parts k) (standing slots)
   pub within : total ≤ C
 
 -- the firing for the channels cs was offered to the updates that the pool held
-pub record Reacted (d e : Deck) (C pending total : ℕ) (values : List ℤ) (p : ℕ) (cs : List ℕ) (held₀ : Held) (m : List ℕ) (held : Held) (q : Queue) : Type 0 where
-  pub grown : (us : List Update) → Kept held₀ us → pending ≡ length us → total ≡ charge e us → Grown e C us (fired d values p cs) held q
+pub record Reacted (d e : Deck) (C used total : ℕ) (values : List ℤ) (p : ℕ) (cs : List ℕ) (held₀ : Held) (m : List ℕ) (held : Held)
+    (q : Queue) : Type 0 where
+  pub grown : (slots : List Slot) → Kept slots held₀ → used ≡ length slots → total ≡ charge e (standing slots)
+      → Grown e C slots (fired d values p cs) held q
   pub memo : Memo e m
   pub size : SameSize held₀ held
 
 -- `mask` is the set of the channels
 abbrev pub Reacts : Deck → Deck → ℕ → ℕ → ℕ → List ℤ → ℕ → ℕ → Held → List ℕ → Held → Queue → Type 0
-Reacts d e C pending total values p mask held₀ m held q =
+Reacts d e C used total values p mask held₀ m held q =
     (cs : List ℕ) → ((c : ℕ) → member c cs ≡ true → c < 32) → mask ≡ maskOf cs
-    → Reacted d e C pending total values p cs held₀ m held q
+    → Reacted d e C used total values p cs held₀ m held q

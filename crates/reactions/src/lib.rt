@@ -22,28 +22,27 @@ fn fire_here(
     memo: &mut [u32],
     index: &mut [u16],
     pool: &mut [i32],
-    gone: usize,
     capacity: u32,
     queue: Queue,
     values: &[i32],
     p: usize,
     r: usize,
 ) -> Queue
-    requires { ⌜ Tabled (now deck) counts (now rules) (now parts) × Offering (now rules) (now parts) counts capacity (now memo) (heldOf gone (now index) (now pool)) queue × (length (now values) ≡ 512) × (p < counts .parts) × (r < counts .rules) ⌝ }
-    ensures { λ q. ⌜ Offered (shape (now (rules .entry)) (now (parts .entry)) counts) capacity (firedHere (now (values .entry)) p (ruleAt (deckOf (now (deck .entry))) r)) (heldOf gone (now (index .entry)) (now (pool .entry))) queue (now (memo .exit)) (heldOf gone (now (index .exit)) (now (pool .exit))) q ⌝ }
+    requires { ⌜ Tabled (now deck) counts (now rules) (now parts) × Offering (now rules) (now parts) counts capacity (now memo) (heldOf (now index) (now pool)) queue × (length (now values) ≡ 512) × (p < counts .parts) × (r < counts .rules) ⌝ }
+    ensures { λ q. ⌜ Offered (shape (now (rules .entry)) (now (parts .entry)) counts) capacity (firedHere (now (values .entry)) p (ruleAt (deckOf (now (deck .entry))) r)) (heldOf (now (index .entry)) (now (pool .entry))) queue (now (memo .exit)) (heldOf (now (index .exit)) (now (pool .exit))) q ⌝ }
 {
     let from = Deck::CHANNELS * p;
     let to = from + counts.channels;
     let own = &values[from..to];
     let far = &values[0..0];
     let default = rules[Deck::RULE_ROW * r + 4] as usize;
-    let first = offers::offer_default(deck, counts, rules, parts, memo, index, pool, gone, capacity, queue, default, p, own, far);
+    let first = offers::offer_default(deck, counts, rules, parts, memo, index, pool, capacity, queue, default, p, own, far);
     if rules[Deck::RULE_ROW * r + 3] == 1 {
         return first;
     }
     if judging::truth_from(deck, rules[Deck::RULE_ROW * r + 5] as usize, values, from, counts.channels, 0, 0) {
         let action = rules[Deck::RULE_ROW * r + 6] as usize;
-        offers::offer(deck, counts, rules, parts, memo, index, pool, gone, capacity, first, action, p, own, far)
+        offers::offer(deck, counts, rules, parts, memo, index, pool, capacity, first, action, p, own, far)
     } else {
         first
     }
@@ -58,7 +57,6 @@ fn fire_there(
     memo: &mut [u32],
     index: &mut [u16],
     pool: &mut [i32],
-    gone: usize,
     capacity: u32,
     queue: Queue,
     values: &[i32],
@@ -66,8 +64,8 @@ fn fire_there(
     r: usize,
     q: usize,
 ) -> Queue
-    requires { ⌜ Tabled (now deck) counts (now rules) (now parts) × Offering (now rules) (now parts) counts capacity (now memo) (heldOf gone (now index) (now pool)) queue × (length (now values) ≡ 512) × (p < counts .parts) × (r < counts .rules) × (q < counts .parts) ⌝ }
-    ensures { λ s. ⌜ Offered (shape (now (rules .entry)) (now (parts .entry)) counts) capacity (firedThere (now (values .entry)) p (ruleAt (deckOf (now (deck .entry))) r) q) (heldOf gone (now (index .entry)) (now (pool .entry))) queue (now (memo .exit)) (heldOf gone (now (index .exit)) (now (pool .exit))) s ⌝ }
+    requires { ⌜ Tabled (now deck) counts (now rules) (now parts) × Offering (now rules) (now parts) counts capacity (now memo) (heldOf (now index) (now pool)) queue × (length (now values) ≡ 512) × (p < counts .parts) × (r < counts .rules) × (q < counts .parts) ⌝ }
+    ensures { λ s. ⌜ Offered (shape (now (rules .entry)) (now (parts .entry)) counts) capacity (firedThere (now (values .entry)) p (ruleAt (deckOf (now (deck .entry))) r) q) (heldOf (now (index .entry)) (now (pool .entry))) queue (now (memo .exit)) (heldOf (now (index .exit)) (now (pool .exit))) s ⌝ }
 {
     if rules[Deck::RULE_ROW * r + 3] != 1 {
         return queue;
@@ -80,7 +78,7 @@ fn fire_there(
     let far = &values[start..end];
     if judging::truth_from(deck, rules[Deck::RULE_ROW * r + 5] as usize, values, from, counts.channels, start, counts.channels) {
         let action = rules[Deck::RULE_ROW * r + 6] as usize;
-        offers::offer(deck, counts, rules, parts, memo, index, pool, gone, capacity, queue, action, q, own, far)
+        offers::offer(deck, counts, rules, parts, memo, index, pool, capacity, queue, action, q, own, far)
     } else {
         queue
     }
@@ -95,22 +93,21 @@ fn fire_others(
     memo: &mut [u32],
     index: &mut [u16],
     pool: &mut [i32],
-    gone: usize,
     capacity: u32,
     queue: Queue,
     values: &[i32],
     p: usize,
     r: usize,
 ) -> Queue
-    requires { ⌜ Tabled (now deck) counts (now rules) (now parts) × Offering (now rules) (now parts) counts capacity (now memo) (heldOf gone (now index) (now pool)) queue × (length (now values) ≡ 512) × (p < counts .parts) × (r < counts .rules) ⌝ }
-    ensures { λ s. ⌜ Offered (shape (now (rules .entry)) (now (parts .entry)) counts) capacity (flatMap (firedThere (now (values .entry)) p (ruleAt (deckOf (now (deck .entry))) r)) (others (deckOf (now (deck .entry))) p)) (heldOf gone (now (index .entry)) (now (pool .entry))) queue (now (memo .exit)) (heldOf gone (now (index .exit)) (now (pool .exit))) s ⌝ }
+    requires { ⌜ Tabled (now deck) counts (now rules) (now parts) × Offering (now rules) (now parts) counts capacity (now memo) (heldOf (now index) (now pool)) queue × (length (now values) ≡ 512) × (p < counts .parts) × (r < counts .rules) ⌝ }
+    ensures { λ s. ⌜ Offered (shape (now (rules .entry)) (now (parts .entry)) counts) capacity (flatMap (firedThere (now (values .entry)) p (ruleAt (deckOf (now (deck .entry))) r)) (others (deckOf (now (deck .entry))) p)) (heldOf (now (index .entry)) (now (pool .entry))) queue (now (memo .exit)) (heldOf (now (index .exit)) (now (pool .exit))) s ⌝ }
 {
     let n = counts.parts;
     let mut out = queue;
     let mut q: usize = 0;
     while q < n {
         if q != p {
-            out = fire_there(deck, counts, rules, parts, memo, index, pool, gone, capacity, out, values, p, r, q);
+            out = fire_there(deck, counts, rules, parts, memo, index, pool, capacity, out, values, p, r, q);
         }
         q += 1;
     }
@@ -126,22 +123,21 @@ fn fire_all_here(
     memo: &mut [u32],
     index: &mut [u16],
     pool: &mut [i32],
-    gone: usize,
     capacity: u32,
     queue: Queue,
     values: &[i32],
     p: usize,
     set: u64,
 ) -> Queue
-    requires { ⌜ Tabled (now deck) counts (now rules) (now parts) × Offering (now rules) (now parts) counts capacity (now memo) (heldOf gone (now index) (now pool)) queue × (length (now values) ≡ 512) × (p < counts .parts) ⌝ }
-    ensures { λ s. ⌜ FiresAll (deckOf (now (deck .entry))) (λ r. firedHere (now (values .entry)) p r) p set (shape (now (rules .entry)) (now (parts .entry)) counts) capacity (heldOf gone (now (index .entry)) (now (pool .entry))) queue (now (memo .exit)) (heldOf gone (now (index .exit)) (now (pool .exit))) s × Offering (now (rules .entry)) (now (parts .entry)) counts capacity (now (memo .exit)) (heldOf gone (now (index .exit)) (now (pool .exit))) s ⌝ }
+    requires { ⌜ Tabled (now deck) counts (now rules) (now parts) × Offering (now rules) (now parts) counts capacity (now memo) (heldOf (now index) (now pool)) queue × (length (now values) ≡ 512) × (p < counts .parts) ⌝ }
+    ensures { λ s. ⌜ FiresAll (deckOf (now (deck .entry))) (λ r. firedHere (now (values .entry)) p r) p set (shape (now (rules .entry)) (now (parts .entry)) counts) capacity (heldOf (now (index .entry)) (now (pool .entry))) queue (now (memo .exit)) (heldOf (now (index .exit)) (now (pool .exit))) s × Offering (now (rules .entry)) (now (parts .entry)) counts capacity (now (memo .exit)) (heldOf (now (index .exit)) (now (pool .exit))) s ⌝ }
 {
     let n = counts.rules;
     let mut out = queue;
     let mut left = set;
     let mut r = lists::lowest(left);
     while r < n {
-        out = fire_here(deck, counts, rules, parts, memo, index, pool, gone, capacity, out, values, p, r);
+        out = fire_here(deck, counts, rules, parts, memo, index, pool, capacity, out, values, p, r);
         left = lists::rest(left);
         r = lists::lowest(left);
     }
@@ -157,22 +153,21 @@ fn fire_all_others(
     memo: &mut [u32],
     index: &mut [u16],
     pool: &mut [i32],
-    gone: usize,
     capacity: u32,
     queue: Queue,
     values: &[i32],
     p: usize,
     set: u64,
 ) -> Queue
-    requires { ⌜ Tabled (now deck) counts (now rules) (now parts) × Offering (now rules) (now parts) counts capacity (now memo) (heldOf gone (now index) (now pool)) queue × (length (now values) ≡ 512) × (p < counts .parts) ⌝ }
-    ensures { λ s. ⌜ FiresAll (deckOf (now (deck .entry))) (λ r. flatMap (firedThere (now (values .entry)) p r) (others (deckOf (now (deck .entry))) p)) p set (shape (now (rules .entry)) (now (parts .entry)) counts) capacity (heldOf gone (now (index .entry)) (now (pool .entry))) queue (now (memo .exit)) (heldOf gone (now (index .exit)) (now (pool .exit))) s ⌝ }
+    requires { ⌜ Tabled (now deck) counts (now rules) (now parts) × Offering (now rules) (now parts) counts capacity (now memo) (heldOf (now index) (now pool)) queue × (length (now values) ≡ 512) × (p < counts .parts) ⌝ }
+    ensures { λ s. ⌜ FiresAll (deckOf (now (deck .entry))) (λ r. flatMap (firedThere (now (values .entry)) p r) (others (deckOf (now (deck .entry))) p)) p set (shape (now (rules .entry)) (now (parts .entry)) counts) capacity (heldOf (now (index .entry)) (now (pool .entry))) queue (now (memo .exit)) (heldOf (now (index .exit)) (now (pool .exit))) s ⌝ }
 {
     let n = counts.rules;
     let mut out = queue;
     let mut left = set;
     let mut r = lists::lowest(left);
     while r < n {
-        out = fire_others(deck, counts, rules, parts, memo, index, pool, gone, capacity, out, values, p, r);
+        out = fire_others(deck, counts, rules, parts, memo, index, pool, capacity, out, values, p, r);
         left = lists::rest(left);
         r = lists::lowest(left);
     }
@@ -188,19 +183,18 @@ pub fn react(
     memo: &mut [u32],
     index: &mut [u16],
     pool: &mut [i32],
-    gone: usize,
     capacity: u32,
-    pending: usize,
+    used: usize,
     charge: u32,
     values: &[i32],
     p: usize,
     changed: u64,
 ) -> Queue
-    requires { ⌜ Reacting (now deck) counts (now rules) (now parts) (now memo) (heldOf gone (now index) (now pool)) capacity pending charge × (length (now values) ≡ 512) × (p < counts .parts) ⌝ }
-    ensures { λ r. ⌜ Reacts (deckOf (now (deck .entry))) (shape (now (rules .entry)) (now (parts .entry)) counts) capacity pending charge (now (values .entry)) p changed (heldOf gone (now (index .entry)) (now (pool .entry))) (now (memo .exit)) (heldOf gone (now (index .exit)) (now (pool .exit))) r ⌝ }
+    requires { ⌜ Reacting (now deck) counts (now rules) (now parts) (now memo) (heldOf (now index) (now pool)) capacity used charge × (length (now values) ≡ 512) × (p < counts .parts) ⌝ }
+    ensures { λ r. ⌜ Reacts (deckOf (now (deck .entry))) (shape (now (rules .entry)) (now (parts .entry)) counts) capacity used charge (now (values .entry)) p changed (heldOf (now (index .entry)) (now (pool .entry))) (now (memo .exit)) (heldOf (now (index .exit)) (now (pool .exit))) r ⌝ }
 {
     let queue = Queue {
-        pending: pending,
+        used: used,
         charge: charge,
         full: false,
     };
@@ -208,6 +202,6 @@ pub fn react(
     if set == 0 {
         return queue;
     }
-    let first = fire_all_here(deck, counts, rules, parts, memo, index, pool, gone, capacity, queue, values, p, set);
-    fire_all_others(deck, counts, rules, parts, memo, index, pool, gone, capacity, first, values, p, set)
+    let first = fire_all_here(deck, counts, rules, parts, memo, index, pool, capacity, queue, values, p, set);
+    fire_all_others(deck, counts, rules, parts, memo, index, pool, capacity, first, values, p, set)
 }

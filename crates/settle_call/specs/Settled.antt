@@ -6,8 +6,10 @@ use mathlib.Core.List.{List}
 use lib.IntN.{ℤ}
 use Rattle.lists.specs.Lists.{isEmpty}
 use Rattle.refusals.specs.Outcome.{Outcome, accepted}
+use Rattle.deck.specs.declared.Deck as Counted
 use Rattle.pool.specs.States.{Machine}
 use Rattle.passing.specs.Tabled.{deckOf}
+use Rattle.holes.specs.Slots.{whole}
 use Rattle.offers.specs.Queue.{heldOf}
 use Rattle.offers.specs.Stored.{Stored}
 use Rattle.calls.specs.Calls.{Answer, settled, spent, Settling, settling}
@@ -19,6 +21,6 @@ settledAs s = cond (isEmpty (s .machine .pending)) (settled (s .made)) (spent (s
 
 abbrev pub Settles : List ℕ → ℕ → List ℤ → ℕ → ℕ → List ℕ → List ℤ → ℕ → Outcome Answer → List ℤ → ℕ → List ℤ → Type 0
 Settles s C vs₀ pending₀ total index₀ pool₀ budget answer vs pending pool =
-    (x : Machine) → Stored (deckOf s) C x vs₀ pending₀ total (heldOf 0 index₀ pool₀)
+    (x : Machine) → Stored (deckOf s) C (whole (x .pending)) x vs₀ pending₀ total (heldOf index₀ pool₀)
     → (answer ≡ accepted (settledAs (settling (deckOf s) budget x)))
     × Left (settling (deckOf s) budget x .machine) vs pending pool

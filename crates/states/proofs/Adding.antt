@@ -18,10 +18,10 @@ use Rattle.pool.specs.Updates.{Update, channels, allDifferent, charge}
 use Rattle.pool.specs.Places.{updateOf, wellWritten, places, updatesOf}
 use Rattle.pool.specs.States.{known}
 use Rattle.index.specs.Hash.{bucketOf}
-use Rattle.index.specs.Index.{headsOf, holeOf, numberOf, Ends, Indexed, Roomy, Entering, Enters}
+use Rattle.index.specs.Index.{headsOf, Ends, Indexed, Roomy, Entering, Enters}
 use Rattle.index.specs.Laws.Entering.{entered-none, entered-next, roomy-heads}
 use Rattle.index.specs.Laws.Front.{places-length, places-at, places-end}
-use Rattle.index.specs.Laws.Indexed.{number-whole, lost-none, heads-same, zero-hole}
+use Rattle.index.specs.Laws.Indexed.{heads-same}
 use Rattle.states.specs.Answer.{Holds, PlaceGives, allFit, weightOf, Weighs}
 use Rattle.states.specs.declared.Goodness.the-variants.{Good, Bad}
 use Rattle.states.specs.Laws.Indexing.{index-none}
@@ -87,8 +87,7 @@ pub record Adding (d : Deck) (n : ℕ) (pool : List ℤ) (index₀ m index : Lis
   pub different : allDifferent (updatesOf k pool) ≡ true
   pub same : total ≡ capped (charge d (updatesOf k pool))
   pub long : length index ≡ length index₀
-  pub indexed : Indexed 0 (places k pool) index
-  pub whole : holeOf index ≡ 0
+  pub indexed : Indexed (places k pool) index
 
 module _ (d : Deck) (n : ℕ) (pool : List ℤ) where
   answer : (b : Bool) → (allFit d n pool && allDifferent (updatesOf n pool)) ≡ b
@@ -107,7 +106,6 @@ module _ (d : Deck) (n : ℕ) (pool : List ℤ) where
         same = omega arith;
         long = refl;
         indexed = entered-none pool r z;
-        whole = zero-hole _ z;
       }
 
   pub adding-heads : {index₀ m index : List ℕ} {total k : ℕ} → Adding d n pool index₀ m index total k → headsOf index ≡ headsOf index₀
@@ -121,7 +119,7 @@ module _ (d : Deck) (n : ℕ) (pool : List ℤ) where
       record {
         answer = ap Good (a .same ∙ ap (λ j. capped (charge d (updatesOf j pool))) e) ∙ answer true both;
         memo = a .memo;
-        indexes = record { indexed = λ _. rw e at (a .indexed); whole = λ _. a .whole; long = a .long };
+        indexes = record { indexed = λ _. rw e at (a .indexed); long = a .long };
       }
 
   module _ {index₀ m index : List ℕ} {total k : ℕ} (a : Adding d n pool index₀ m index total k) (h : k < n) where
@@ -131,23 +129,17 @@ module _ (d : Deck) (n : ℕ) (pool : List ℤ) where
     abbrev found : Bool
     found = any (λ w. eqList eqZ w l) (places k pool)
 
-    -- the numbers of the places before it
-    pub adding-number : n ≤ 65535 → numberOf 0 (holeOf index) k ≤ 65536
-    adding-number few = omega (arith, ap (λ x. numberOf 0 x k) (a .whole) ∙ number-whole 0 k)
-
     -- it can be entered where its way ends
-    pub adding-entering : {slot : ℕ} → n ≤ 65535 → Roomy n index₀ → Ends (headsOf index) index l 0 (bucketOf (headsOf index) l) slot
+    pub adding-entering : {slot : ℕ} → Roomy n index₀ → Ends (headsOf index) index l 0 (bucketOf (headsOf index) l) slot
         → Entering k l slot index
-    adding-entering few r w =
+    adding-entering r w =
         record {
-          gone = 0;
           ks = places k pool;
-          count = omega (arith, places-length k pool);
+          count = places-length k pool;
           indexed = a .indexed;
           ends = w;
           some = omega (arith, adding-heads a, roomy-heads r .0);
           room = omega (arith, adding-heads a, a .long, r .links);
-          few = omega (arith, lost-none (holeOf index) (a .whole));
         }
 
     -- a place that does not fit
@@ -196,5 +188,4 @@ module _ (d : Deck) (n : ℕ) (pool : List ℤ) where
             same = omega (arith, e, value, a .same, charge-more d pool k);
             long = w .long ∙ a .long;
             indexed = entered-next pool k (a .indexed) (subst (λ x. Enters k x index index′) (lent-same k pool) w);
-            whole = w .hole ∙ a .whole;
           }

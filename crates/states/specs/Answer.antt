@@ -15,7 +15,7 @@ use Rattle.charge.specs.Memo.{Memo, Answered, capped}
 use Rattle.pool.specs.Updates.{channels, allDifferent, charge}
 use Rattle.pool.specs.Places.{isZero, capacity, updateOf, wellWritten, places, updatesOf}
 use Rattle.pool.specs.States.{Memory, unusedZero, known, good}
-use Rattle.index.specs.Index.{holeOf, Indexed, Roomy}
+use Rattle.index.specs.Index.{Indexed, Roomy}
 use Rattle.states.specs.Fits.{within, channelsOf, channelsFit, pairsFit}
 use Rattle.states.specs.declared.Goodness.{Goodness}
 use Rattle.states.specs.declared.Goodness.the-variants.{Good, Bad}
@@ -60,8 +60,7 @@ weightOf d n pool = cond (allFit d n pool && allDifferent (updatesOf n pool)) (G
 
 -- the index of the pending places, where the test is passed
 pub record IndexedIf (pending : ℕ) (pool : List ℤ) (index₀ index : List ℕ) (passed : Type 0) : Type 0 where
-  pub indexed : passed → Indexed 0 (places pending pool) index
-  pub whole : passed → holeOf index ≡ 0
+  pub indexed : passed → Indexed (places pending pool) index
   pub long : length index ≡ length index₀
 
 pub record Weighs (d : Deck) (n : ℕ) (pool : List ℤ) (m index₀ index : List ℕ) (r : Goodness) : Type 0 where

@@ -34,7 +34,6 @@ test-state-spec =
       e .memo,
       e .indexes .indexed (_, c .before .good2 .given .1),
       roomy-same (e .indexes .long) (s .pre .2 long .roomy),
-      e .indexes .whole (_, c .before .good2 .given .1),
     ))
     (λ c. search needs)
     (λ c. search needs)

@@ -4,11 +4,8 @@ use mathlib.Core.Path.{_≡_, ap, ap₂, _∙_}
 use mathlib.Core.List.{List}
 use lib.ListN.{length}
 use lib.IntN.{ℤ}
-use Rattle.deck.specs.Deck.{Deck}
 use Rattle.pool.specs.Places.{poolOf}
 use Rattle.pool.specs.States.{Machine, store}
-use Rattle.offers.specs.Queue.{Held}
-use Rattle.offers.specs.Stored.{Stored}
 use Rattle.calls.specs.Answers.{memoryAt}
 use Rattle.call_tests.specs.Tested.{Left}
 
@@ -19,7 +16,3 @@ unfolding store
 left-memory x vs pending pool n s e =
     ap₂ (λ v k. memoryAt v k pool) (s .values) (s .count)
     ∙ ap (memoryAt (x .values) (length (x .pending))) (s .laid .is ∙ ap (λ k. poolOf k (x .pending)) e)
-
-pub stored-left : {d : Deck} {C : ℕ} {x : Machine} {vs : List ℤ} {pending total : ℕ} {held : Held}
-    → Stored d C x vs pending total held → Left x vs pending (held .pool)
-stored-left s = record { values = s .values; count = s .count; laid = s .kept .laid }

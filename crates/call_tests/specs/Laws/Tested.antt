@@ -2,11 +2,13 @@
 use Prim.Native.Nat.{ℕ, _+_, _*_, _/_, _≤_, _<_}
 use mathlib.Core.Path.{_≡_, refl, sym, ap, ap₂, _∙_, subst}
 use mathlib.Core.Logic.{inl, inr}
-use mathlib.Core.Bool.{true, false}
+use mathlib.Core.Bool.{true, false, not}
 use mathlib.Core.List.{List}
 use native.Mathlib.Omega.{arith}
 use lib.ListN.{length, replicate, length-replicate}
 use lib.IntN.{ℤ}
+use Rattle.lists.specs.Lists.{isEmpty}
+use Rattle.lists.specs.Laws.Alls.{all-weaken}
 use Rattle.refusals.specs.Outcome.{refused, accepted, outcomes}
 use Rattle.refusals.specs.Numbers.{badPool, badState}
 use Rattle.deck.specs.Deck.{Deck}
@@ -16,22 +18,25 @@ use Rattle.graph.specs.Laws.Targets.{known-targets}
 use Rattle.charge.specs.Memo.{Ready}
 use Rattle.pool.specs.Updates.{charge}
 use Rattle.pool.specs.Places.{places, capacity, updatesOf}
-use Rattle.pool.specs.States.{Memory, load, goodLength, good}
+use Rattle.pool.specs.States.{Memory, load, known, goodLength, good}
 use Rattle.pool.specs.Laws.Good.{fine-loaded, updates-length}
-use Rattle.pool.specs.Laws.Laid.{laid-good, laid-places}
+use Rattle.pool.specs.Laws.Laid.{laid-good}
 use Rattle.pool.specs.Laws.Lengths.{length-bounded, capacity-places}
 use Rattle.states.specs.Answer.{Fresh, goodnessOf}
 use Rattle.states.specs.Laws.Judged.{good-answer, bad-answer}
 use Rattle.states.specs.Laws.Shape.{shape-goodness}
+use Rattle.states.specs.Laws.Held.{known-some}
 use Rattle.passing.specs.Check.{passing}
 use Rattle.passing.specs.Tabled.{layoutOf, deckOf}
 use Rattle.passing.specs.Judged as Judging
 use Rattle.passing.specs.Judged.{shape}
 use Rattle.passing.specs.Laws.Passing.{passing-clean}
-use Rattle.index.specs.Index.{headsOf, holeOf, Indexed, Roomy, rowsOf}
-use Rattle.index.specs.Laws.Indexed.{lost-none}
+use Rattle.holes.specs.Slots.{Slot, holes, whole}
+use Rattle.holes.specs.Laws.Standing.{whole-standing, whole-length, whole-holes}
+use Rattle.index.specs.Index.{headsOf, Indexed, Roomy}
 use Rattle.offers.specs.Queue.{heldOf}
 use Rattle.offers.specs.Stored.{Stored}
+use Rattle.offers.specs.Laws.Kept.{kept-whole}
 use Rattle.calls.specs.Calls.{tested}
 use Rattle.calls.specs.Answers.{memoryAt}
 use Rattle.call_tests.specs.Tested.{Usable, TestsState, Passed, Tests}
@@ -105,24 +110,22 @@ module _ (s : List ℕ) (m : Memory) where
 -- the numbers of a good state stand for what they load as
 held-loaded : (d : Deck) (m : Memory) (index : List ℕ) (total : ℕ) → good d m ≡ true
     → total ≡ charge d (updatesOf (m .state .pending) (m .pool))
-    → Indexed 0 (places (m .state .pending) (m .pool)) index
-    → Stored d (capacity (length (m .pool))) (load m) (m .state .values) (m .state .pending) total (heldOf 0 index (m .pool))
-unfolding load rowsOf
+    → Indexed (places (m .state .pending) (m .pool)) index
+    → Stored d (capacity (length (m .pool))) (whole (load m .pending)) (load m) (m .state .values) (m .state .pending) total
+    (heldOf index (m .pool))
+unfolding load
 held-loaded d m index total g t x =
+    let us = updatesOf (m .state .pending) (m .pool) in
     let n = updates-length (m .state .pending) (m .pool) in
-    let laid = laid-good d m g in
+    let fine = fine-loaded d m g in
     record {
-      fine = fine-loaded d m g;
+      fine = fine;
       values = refl;
-      count = sym n;
+      stands = whole-standing us;
+      count = sym n ∙ sym (whole-length us);
       kept =
-          record {
-            laid = laid;
-            indexed =
-                subst (λ ks. Indexed 0 ks index)
-                (ap (λ k. places k (m .pool)) (sym n) ∙ laid-places laid)
-                x;
-          };
+          kept-whole (laid-good d m g) (all-weaken (λ u. not (isEmpty (u .pairs))) (known d) (known-some d) us (fine .known))
+          (subst (λ k. Indexed (places k (m .pool)) index) (sym n) x);
       charged = t;
     }
 
@@ -156,21 +159,29 @@ module _ (s rules parts charges : List ℕ) (k : Counted.Deck) (n : ℕ) (w : Ju
             ready = record { tables = w .acyclic; memo = t .3 };
             acyclic = passed-acyclic;
             room = record {
-              bounded = omega (arith, length-bounded (length pool) (t .1), lost-none (holeOf index) (t .6));
-              places = capacity-places (length pool);
-              index = subst (λ n. Roomy n index) (let e : capacity (length pool) ≡ 0 + capacity (length pool) = omega arith in e) (t .5);
+              bounded = omega (arith, none, length-bounded (length pool) (t .1));
+              places = omega (arith, none, capacity-places (length pool));
+              index = subst (λ n. Roomy n index)
+                  (let e : capacity (length pool) ≡ holes all + capacity (length pool) = omega (arith, none) in e) (t .5);
             };
-            whole = t .6;
+            slots = all;
             machine = load m;
             stored = held;
           };
           loaded = held;
+          whole-slots = refl;
         })
       where
         a : (good (deckOf s) m ≡ true) × (total ≡ charge (deckOf s) (updatesOf pending pool))
         a = good-answer (deckOf s) m (t .2 ∙ goodness-same m)
 
-        held : Stored (deckOf s) (capacity (length pool)) (load m) vs pending total (heldOf 0 index pool)
+        all : List Slot
+        all = whole (load m .pending)
+
+        none : holes all ≡ 0
+        none = whole-holes (load m .pending)
+
+        held : Stored (deckOf s) (capacity (length pool)) all (load m) vs pending total (heldOf index pool)
         held = held-loaded (deckOf s) m index total (a .0) (a .1) (t .4)
 
     pub state-refused : (n p : ℕ) → TestsState k rules parts memo index pool vs pending (Refused n p) → tested s m ≡ refused n p

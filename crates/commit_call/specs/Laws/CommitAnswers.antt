@@ -1,51 +1,54 @@
 -- Commit answers what the tests come to, and what the definition makes of the place. Assumes nothing.
-use Prim.Native.Nat.{ℕ, _≤_, _<_}
-use mathlib.Core.Path.{_≡_, sym, ap, ap₂, _∙_}
-use mathlib.Core.Bool.{Bool}
+use Prim.Native.Nat.{ℕ, _-_, _<_}
+use mathlib.Core.Path.{_≡_, sym, ap, ap₂, _∙_, subst}
+use mathlib.Core.Bool.{Bool, true, false}
 use mathlib.Core.List.{List}
 use native.Mathlib.Omega.{arith}
 use lib.ListN.{length}
 use lib.IntN.{ℤ}
-use borrow.Author.Tests.{lt-ltb, le-ltb}
+use borrow.Author.Tests.{ltb-true}
 use Rattle.refusals.specs.Outcome.{Outcome, refused, accepted, outcomes}
 use Rattle.refusals.specs.Numbers.{placeNotPending}
 use Rattle.deck.specs.Deck.{Deck}
-use Rattle.pool.specs.Updates.{charge}
+use Rattle.pool.specs.Updates.{Update, charge}
 use Rattle.pool.specs.Places.{capacity}
 use Rattle.pool.specs.States.{Memory, load, store}
 use Rattle.passing.specs.Tabled.{deckOf}
-use Rattle.firing.specs.Firing.{committed}
+use Rattle.firing.specs.Firing.{committed, mayTake}
+use Rattle.holes.specs.Slots.{whole}
+use Rattle.holes.specs.Laws.Standing.{whole-length}
 use Rattle.deck.specs.declared.Deck as Counted
-use Rattle.pool.specs.Laws.Good.{count-bounded}
 use Rattle.offers.specs.Queue.{heldOf}
 use Rattle.offers.specs.Stored.{Stored}
-use Rattle.steps.specs.Commits.{Commits}
 use Rattle.calls.specs.Calls.{Answer, applied, reply, tested, commit}
 use Rattle.calls.specs.Answers.{replyAt}
-use Rattle.call_tests.specs.Tested.{Entering}
+use Rattle.call_tests.specs.Tested.{Passed, Left}
+use Rattle.turns.specs.Turns.{Turned}
+use Rattle.turns.specs.Laws.Beginnings.{one-turn}
 use Rattle.commit_call.specs.Committed.{committedAs, CommitsAs}
-use Rattle.call_tests.specs.Laws.StoredMemory.{left-memory, stored-left}
+use Rattle.call_tests.specs.Laws.StoredMemory.{left-memory}
 
 module _ (s : List ℕ) (m : Memory) (k : ℕ) where
-  pub commit-no-place : (d : Deck) → tested s m ≡ accepted d → m .state .pending ≤ k
+  pub commit-no-place : (d : Deck) → tested s m ≡ accepted d → mayTake (load m .pending) k ≡ false
       → commit s m k ≡ record { answer = refused placeNotPending 0; memory = m }
   unfolding commit reply outcomes
-  commit-no-place d e h = rw (e, le-ltb k (m .state .pending) h)
+  commit-no-place d e h = rw (e, h)
 
-  commit-done : (d : Deck) → tested s m ≡ accepted d → k < m .state .pending
+  commit-done : (d : Deck) → tested s m ≡ accepted d → mayTake (load m .pending) k ≡ true
       → commit s m k
       ≡ record {
         answer = accepted (committedAs (committed d k (load m) .applied) (charge d (committed d k (load m) .machine .pending)));
         memory = store (length (m .pool)) (committed d k (load m) .machine);
       }
   unfolding commit reply outcomes
-  commit-done d e h = rw (e, lt-ltb k (m .state .pending) h)
+  commit-done d e h = rw (e, h)
 
   pub commit-made : {a : Outcome Answer} {index : List ℕ} {total : ℕ} {vs pool : List ℤ} {pending : ℕ}
       → tested s m ≡ accepted (deckOf s)
-      → Stored (deckOf s) (capacity (length (m .pool))) (load m) (m .state .values) (m .state .pending) total (heldOf 0 index (m .pool))
+      → Stored (deckOf s) (capacity (length (m .pool))) (whole (load m .pending)) (load m) (m .state .values) (m .state .pending) total
+      (heldOf index (m .pool))
       → CommitsAs s (m .state .values) (m .state .pending) total index (m .pool) k a vs pending pool
-      → length pool ≡ length (m .pool) → k < m .state .pending
+      → length pool ≡ length (m .pool) → mayTake (load m .pending) k ≡ true
       → replyAt a vs pending pool ≡ commit s m k
   commit-made {vs} {pool} {pending} t st c l h =
       let d = deckOf s in
@@ -54,28 +57,29 @@ module _ (s : List ℕ) (m : Memory) (k : ℕ) where
       (left-memory (committed d k (load m) .machine) vs pending pool (length (m .pool)) (r .1) l)
       ∙ sym (commit-done d t h)
 
--- from the commit on what was tested
-pub commit-as : (s : List ℕ) {vs₀ : List ℤ} {pending₀ total₀ : ℕ} {index₀ : List ℕ} {pool₀ : List ℤ} {k : ℕ} {e : Deck} {m index : List ℕ}
-    {vs pool : List ℤ} {pending total : ℕ} {b : Bool} {a : Outcome Answer}
-    → Commits (deckOf s) e (capacity (length pool₀)) k (heldOf 0 index₀ pool₀) vs₀ pending₀ total₀ m (heldOf 0 index pool) vs pending total b
-    → a ≡ accepted (committedAs b total)
-    → CommitsAs s vs₀ pending₀ total₀ index₀ pool₀ k a vs pending pool
-commit-as s c f x st =
-    let r = c .result x st in
-    (f ∙ ap accepted (ap₂ committedAs (r .1) (r .0 .charged)), stored-left (r .0))
+-- ---- the places of a good state
 
--- so many are pending that their number fits
-pub commit-few : {s : List ℕ} {c : Counted.Deck} {rules parts memo : List ℕ} {index₀ : List ℕ} {pool₀ vs₀ : List ℤ} {pending₀ total₀ k : ℕ}
-    {e : Deck} {m index : List ℕ} {vs pool : List ℤ} {pending total : ℕ} {b : Bool}
-    → Entering s c rules parts memo index₀ pool₀ vs₀ pending₀ total₀
-    → Commits (deckOf s) e (capacity (length pool₀)) k (heldOf 0 index₀ pool₀) vs₀ pending₀ total₀ m (heldOf 0 index pool) vs pending total b
-    → pending ≤ 65535
-commit-few {s} {k = k} w c =
-    let st = c .result (w .machine) (w .stored) .0 in
-    omega (
-      arith,
-      st .count,
-      count-bounded (deckOf s) (committed (deckOf s) k (w .machine) .machine .pending),
-      st .fine .bounded,
-      w .room .bounded,
-    )
+module _ {s rules parts memo index : List ℕ} {m : Memory} {c : Counted.Deck} {total : ℕ} (w : Passed s rules parts memo index m c total) where
+  abbrev us : List Update
+  us = load m .pending
+
+  pub commit-pending : m .state .pending ≡ length us
+  commit-pending = w .loaded .count ∙ whole-length us
+
+  -- a place that may be taken is pending
+  pub commit-below : (k : ℕ) → mayTake us k ≡ true → k < m .state .pending
+  commit-below k h = omega (arith, ltb-true k (length us) h, commit-pending)
+
+  -- from the turn on what was tested
+  pub commit-as : {k : ℕ} → k < m .state .pending → {made pending t : ℕ} {b : Bool} {vs pool : List ℤ} {a : Outcome Answer}
+      → Turned s (capacity (length (m .pool))) (m .state .values) (m .state .pending) total index (m .pool) k 1 made pending t b vs pool
+      → a ≡ accepted (committedAs b t)
+      → CommitsAs s (m .state .values) (m .state .pending) total index (m .pool) k a vs pending pool
+  commit-as {k} h {pending} {vs} {pool} turned f x st =
+      let r = turned .result x st in
+      let left = r .1 .1 .0 in
+      let one = one-turn (r .1 .0) (turned .within) (λ l. omega (arith, turned .ended l, left .count))
+      (omega (arith, h, st .count, whole-length (x .pending))) in (
+        f ∙ ap accepted (ap₂ committedAs (turned .told x st (one .0)) (r .1 .1 .1 ∙ ap (λ y. charge (deckOf s) (y .pending)) (one .1))),
+        subst (λ y. Left y vs pending pool) (one .1) left,
+      )

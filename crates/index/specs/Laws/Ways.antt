@@ -1,7 +1,7 @@
 -- Ways down the trees of an index, when a free slot is written. Assumes nothing.
-use Prim.Native.Nat.{ℕ, zero, suc, _+_, _*_, _%_, _≤_, _<_}
-use mathlib.Core.Path.{_≡_, refl, sym, ap, _∙_}
-use mathlib.Core.Logic.{_⊎_, ⊎-elim, inl, inr}
+use Prim.Native.Nat.{ℕ, suc, _%_, _≤_, _<_}
+use mathlib.Core.Path.{_≡_, ap, _∙_}
+use mathlib.Core.Logic.{_⊎_, ⊎-elim}
 use mathlib.Core.List.{List}
 use native.Mathlib.Omega.{arith}
 use lib.ListN.{length, getD, set}
@@ -52,17 +52,17 @@ head-owner heads s h = omega arith
 
 module _ {heads top : ℕ} {index : List ℕ} (o : Ordered heads top index) where
   -- the slots below the top are in the index
-  pub slot-inside : (i side : ℕ) → suc i ≤ top → side < 2 → suc (slotOf heads (suc i) side) < length index
+  pub slot-inside : (i side : ℕ) → suc i ≤ top → side < 2 → slotOf heads (suc i) side < length index
   unfolding slotOf
   slot-inside i side h l = omega (arith, o .inside)
 
   -- what a slot holds is a later number, up to the top
-  pub holds : {s i : ℕ} → suc s < length index → getD index s 0 ≡ suc i → (ownerOf heads s < suc i) × (suc i ≤ top)
+  pub holds : {s i : ℕ} → s < length index → getD index s 0 ≡ suc i → (ownerOf heads s < suc i) × (suc i ≤ top)
   holds {s} {i} l h = ⊎-elim (λ e. absurd (omega (arith, e, h))) (λ r. (omega (arith, h, r .0), omega (arith, h, r .1))) (o .slots s l)
 
   -- a way that begins in the index ends there, at a link of a place up to the top
-  pub ends-inside : {row : List ℤ} {d s e : ℕ} → suc s < length index → ownerOf heads s ≤ top → Ends heads index row d s e
-      → (suc e < length index) × (ownerOf heads e ≤ top)
+  pub ends-inside : {row : List ℤ} {d s e : ℕ} → s < length index → ownerOf heads s ≤ top → Ends heads index row d s e
+      → (e < length index) × (ownerOf heads e ≤ top)
   ends-inside l b (free h) = (l, b)
   ends-inside {row} {d} l b (past {i = i} h w) =
       let r = holds l h in

@@ -85,7 +85,7 @@ take-back-requires c κs =
     omega (
       arith,
       enter-cut w _ _ (known g) (good g) (compared-of f .compare .ensures) (set-of f .assign-pairs .ensures) (f .react .ensures),
-      enter-all w _ _ (known g) (good g) (compared-of f .compare .ensures) (set-of f .assign-pairs .ensures) (f .react .ensures),
+      enter-all w _ _ (known g) (good g) (compared-of f .compare .ensures) (set-of f .assign-pairs .ensures) (f .react .ensures) _ (start g .pre .loaded),
     )
 
 -- the pool keeps its length
@@ -116,14 +116,16 @@ cast-pending c =
     let g = good-of f in
     omega (
       arith,
-      enter-few (start g .pre .entering) _ _ (known g) (good g) (compared-of f .compare .ensures) (set-of f .assign-pairs .ensures) (f .react .ensures) (c .before .before .before .if3 .left),
+      enter-few (start g .pre .entering) _ _ (known g) (good g) (compared-of f .compare .ensures) (set-of f .assign-pairs .ensures) (f .react .ensures)
+          _ (start g .pre .loaded) (c .before .before .before .if3 .left),
     )
 
 sub-added : tie.Need-sub-t22
 sub-added c =
     let f = c .before .before .before .before .before .before .before .before .before .before in
     let g = good-of f in
-    enter-grows (start g .pre .entering) _ _ (known g) (good g) (compared-of f .compare .ensures) (set-of f .assign-pairs .ensures) (f .react .ensures) (c .before .before .before .before .if3 .left)
+    enter-grows (start g .pre .entering) _ _ (known g) (good g) (compared-of f .compare .ensures) (set-of f .assign-pairs .ensures) (f .react .ensures)
+    _ (start g .pre .loaded) (c .before .before .before .before .if3 .left)
 
 returns-4 : tie.Need-returns-4
 returns-4 c =

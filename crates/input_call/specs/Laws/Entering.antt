@@ -26,7 +26,10 @@ use Rattle.firing.specs.Evaluated.{Assignable, Compared}
 use Rattle.firing.specs.Laws.Commits.{set-grows}
 use Rattle.firing.specs.Laws.Setting.{compared-changed}
 use Rattle.offers.specs.declared.Queue.{Queue}
-use Rattle.offers.specs.Queue.{heldOf, Grown}
+use Rattle.holes.specs.Slots.{whole}
+use Rattle.holes.specs.Laws.Standing.{whole-append, whole-length, whole-standing}
+use Rattle.offers.specs.Queue.{Held, heldOf, Kept, Grown}
+use Rattle.offers.specs.Laws.Kept.{kept-laid}
 use Rattle.reactions.specs.Reactions.{Reacting, Reacted, Reacts}
 use Rattle.reactions.specs.Laws.Reacting.{changed-low}
 use Rattle.offers.specs.Stored.{Stored}
@@ -63,6 +66,27 @@ module _ (d : Deck) (C : ℕ) (x : Machine) (p : ℕ) (l : List ℤ) where
 
 -- ---- what is lent, and what is left
 
+-- where nothing was taken out: `us` were pending at first, and `extra` is written behind them
+record Written (d : Deck) (C : ℕ) (us new : List Update) (pool : List ℤ) (q : Queue) : Type 0 where
+  pub extra : List Update
+  pub laid : Laid pool (us ++ extra)
+  pub used : q .used ≡ length (us ++ extra)
+  pub room : q .full ≡ false → (us ++ extra ≡ enqueue us new) × (q .charge ≡ charge d (us ++ extra)) × (q .charge ≤ C)
+  pub over : q .full ≡ true → C < charge d (enqueue us new)
+
+grown-written : {d : Deck} {C : ℕ} {us new : List Update} {held : Held} {q : Queue} → Grown d C (whole us) new held q
+    → Written d C us new (held .pool) q
+grown-written {d} {C} {us} {new} {held} {q} g =
+    let same = sym (whole-append us (g .extra)) in
+    record {
+      extra = g .extra;
+      laid = kept-laid (subst (λ l. Kept l held) same (g .kept));
+      used = g .used ∙ ap length same ∙ whole-length (us ++ g .extra);
+      room = λ f. subst (λ l. (l ++ g .extra ≡ enqueue l new) × (q .charge ≡ charge d (l ++ g .extra)) × (q .charge ≤ C))
+          (whole-standing us) (g .room f);
+      over = λ f. subst (λ l. C < charge d (enqueue l new)) (whole-standing us) (g .over f);
+    }
+
 -- the end of a pool, cleared
 pub emptied : (n : ℕ) (pool tail : List ℤ) → n ≤ length pool → tail ≡ zeros (length (take (length pool - n) (drop n pool)))
     → take n pool ++ (tail ++ drop (length pool - n) (drop n pool)) ≡ take n pool ++ zeros (length pool - n)
@@ -88,18 +112,18 @@ module _ {s : List ℕ} {k : Counted.Deck} {rules parts memo index : List ℕ} {
   pub enter-long : length vs ≡ 512
   enter-long = ap length (w .stored .values) ∙ w .stored .fine .long
 
-  pub enter-reacting : Reacting s k rules parts memo (heldOf 0 index pool) C pending total
+  pub enter-reacting : Reacting s k rules parts memo (heldOf index pool) C pending total
   unfolding capacity
   enter-reacting =
       let st = w .stored in
       record {
         tabled = w .tabled;
         ready = w .ready;
+        slots = w .slots;
         room = w .room;
-        us = w .machine .pending;
         kept = st .kept;
         count = st .count;
-        charged = st .charged ∙ sym (charge-same s rules parts k (w .tabled) (w .machine .pending));
+        charged = st .charged ∙ sym (charge-same s rules parts k (w .tabled) (w .machine .pending)) ∙ ap (charge e) (sym (st .stands));
         within = omega (arith, st .charged, st .fine .bounded);
       }
 
@@ -153,11 +177,11 @@ module _ {s : List ℕ} {k : Counted.Deck} {rules parts memo index : List ℕ} {
             ∙ ap (λ a. maskOf (changed d p vs a)) (sym is)
 
         module _ {m index₁ : List ℕ} {pool₁ : List ℤ} {q : Queue}
-            (react : Reacts d e C pending total after p mask (heldOf 0 index pool) m (heldOf 0 index₁ pool₁) q) where
-          r : Reacted d e C pending total after p (changed d p vs after) (heldOf 0 index pool) m (heldOf 0 index₁ pool₁) q
+            (react : Reacts d e C pending total after p mask (heldOf index pool) m (heldOf index₁ pool₁) q) where
+          r : Reacted d e C pending total after p (changed d p vs after) (heldOf index pool) m (heldOf index₁ pool₁) q
           r = react (changed d p vs after) (changed-low d p vs after (w .tabled .counts .formed .channels)) changes
 
-          module _ (x : Machine) (st : Stored d (capacity (length pool)) x vs pending total (heldOf 0 index pool)) where
+          module _ (x : Machine) (st : Stored d (capacity (length pool)) (whole (x .pending)) x vs pending total (heldOf index pool)) where
             abbrev y : Machine
             y = setAndFire d p (pairsOf l) x
 
@@ -168,10 +192,16 @@ module _ {s : List ℕ} {k : Counted.Deck} {rules parts memo index : List ℕ} {
             unfolding setAndFire
             now = is ∙ ap (assign p (pairsOf l)) (st .values)
 
-            grown : Grown e C (x .pending) new (heldOf 0 index₁ pool₁) q
+            all-used : pending ≡ length (x .pending)
+            all-used = st .count ∙ whole-length (x .pending)
+
+            before-laid : Laid pool (x .pending)
+            before-laid = kept-laid (st .kept)
+
+            grown : Written e C (x .pending) new pool₁ q
             grown =
-                r .grown (x .pending) (st .kept) (st .count)
-                (st .charged ∙ sym (charge-same s rules parts k (w .tabled) (x .pending)))
+                grown-written (r .grown (whole (x .pending)) (st .kept) (st .count)
+                (st .charged ∙ sym (charge-same s rules parts k (w .tabled) (x .pending)) ∙ ap (charge e) (sym (st .stands))))
 
             same-pending : enqueue (x .pending) new ≡ y .pending
             unfolding setAndFire
@@ -192,12 +222,12 @@ module _ {s : List ℕ} {k : Counted.Deck} {rules parts memo index : List ℕ} {
             cleared : take (10 * pending) pool₁ ++ zeros (length pool₁ - 10 * pending) ≡ pool
             cleared =
                 let us = x .pending in
-                let z = laid-cleared us (grown .extra) (grown .kept .laid) in
-                let long = cleared-length us (grown .extra) (grown .kept .laid) ∙ r .size .pool in
-                ap (λ n. take (10 * n) pool₁ ++ zeros (length pool₁ - 10 * n)) (st .count)
+                let z = laid-cleared us (grown .extra) (grown .laid) in
+                let long = cleared-length us (grown .extra) (grown .laid) ∙ r .size .pool in
+                ap (λ n. take (10 * n) pool₁ ++ zeros (length pool₁ - 10 * n)) all-used
                 ∙ z .is
                 ∙ ap (λ n. poolOf n us) long
-                ∙ sym (st .kept .laid .is)
+                ∙ sym (before-laid .is)
 
             full-leaves : {answer : Outcome Answer} {vs₁ : List ℤ} {pending₁ : ℕ} {pool₂ : List ℤ} → q .full ≡ true
                 → answer ≡ refused overCapacity 0 → vs₁ ≡ vs → pending₁ ≡ pending
@@ -221,26 +251,26 @@ module _ {s : List ℕ} {k : Counted.Deck} {rules parts memo index : List ℕ} {
               grows : total ≤ q .charge
               grows = omega (arith, charged, st .charged, set-grows d (w .tabled .counts .formed) p (pairsOf l) x)
 
-              left : Left y after (q .pending) pool₁
+              left : Left y after (q .used) pool₁
               left =
                   let room = grown .room f in
                   record {
                     values = now;
-                    count = grown .pending ∙ ap length (room .0 ∙ same-pending);
-                    laid = subst (Laid pool₁) (room .0 ∙ same-pending) (grown .kept .laid);
+                    count = grown .used ∙ ap length (room .0 ∙ same-pending);
+                    laid = subst (Laid pool₁) (room .0 ∙ same-pending) (grown .laid);
                   }
 
               room-leaves : Leaves (entered d (capacity (length pool)) x p l) vs pending pool
-                  (accepted (added (q .charge - total))) after (q .pending) pool₁
+                  (accepted (added (q .charge - total))) after (q .used) pool₁
               room-leaves =
                   subst
-                  (λ o. Leaves o vs pending pool (accepted (added (q .charge - total))) after (q .pending) pool₁)
+                  (λ o. Leaves o vs pending pool (accepted (added (q .charge - total))) after (q .used) pool₁)
                   (sym (entered-done d (capacity (length pool)) x p l low g bounded))
                   (ap₂ (λ a b. accepted (added (a - b))) charged (st .charged), left)
 
           -- the pending updates of before stand in front
           pub enter-cut : 10 * pending ≤ length pool₁
-          enter-cut = omega (arith, r .size .pool, w .stored .kept .laid .room, w .stored .count)
+          enter-cut = omega (arith, r .size .pool, w .stored .kept .spread .room, w .stored .count)
 
           pub enter-full : {answer : Outcome Answer} {vs₁ : List ℤ} {pending₁ : ℕ} {pool₂ : List ℤ} → q .full ≡ true
               → answer ≡ refused overCapacity 0 → vs₁ ≡ vs → pending₁ ≡ pending
@@ -248,22 +278,20 @@ module _ {s : List ℕ} {k : Counted.Deck} {rules parts memo index : List ℕ} {
               → Enters s vs pending total index pool p l answer vs₁ pending₁ pool₂
           enter-full f a v c z x st = full-leaves x st f a v c z
 
-          -- all that is written lies in the pool
-          pub enter-all : 10 * q .pending ≤ length pool₁
-          enter-all =
-              let g = grown (w .machine) (w .stored) in
-              omega (arith, g .pending, g .kept .laid .room)
+          module _ (x : Machine) (st : Stored d (capacity (length pool)) (whole (x .pending)) x vs pending total (heldOf index pool)) where
+            -- all that is written lies in the pool
+            pub enter-all : 10 * q .used ≤ length pool₁
+            enter-all = let g = grown x st in omega (arith, g .used, g .laid .room)
+
+            pub enter-grows : q .full ≡ false → total ≤ q .charge
+            enter-grows f = grows x st f
+
+            pub enter-few : q .full ≡ false → q .used ≤ 65535
+            enter-few f =
+                let g = grown x st in
+                let room = g .room f in
+                omega (arith, g .used, count-bounded e (x .pending ++ g .extra), room .1, room .2, enter-room w)
 
           module _ (f : q .full ≡ false) where
-            pub enter-grows : total ≤ q .charge
-            enter-grows = grows (w .machine) (w .stored) f
-
-            pub enter-few : q .pending ≤ 65535
-            enter-few =
-                let x = w .machine in
-                let g = grown x (w .stored) in
-                let room = g .room f in
-                omega (arith, g .pending, count-bounded e (x .pending ++ g .extra), room .1, room .2, enter-room w)
-
-            pub enter-done : Enters s vs pending total index pool p l (accepted (added (q .charge - total))) after (q .pending) pool₁
+            pub enter-done : Enters s vs pending total index pool p l (accepted (added (q .charge - total))) after (q .used) pool₁
             enter-done x st = room-leaves x st f

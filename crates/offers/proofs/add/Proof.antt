@@ -1,12 +1,16 @@
 -- `offers::add` meets its contract: each way out leaves what the offered update makes of the pool. Assumes nothing.
 use Prim.Native.Nat.{_+_, _<_, _≤_}
-use mathlib.Core.Path.{_≡_, refl}
+use mathlib.Core.Path.{_≡_, refl, sym, subst}
 use mathlib.Core.Bool.{false}
 use native.Mathlib.Omega.{arith}
 use borrow.Author.Needs.{needs}
-use Rattle.index.specs.Index.{Entering}
+use Rattle.pool.specs.Places.{places}
+use Rattle.index.specs.Index.{Indexed, Entering}
 use Rattle.index.specs.Laws.Entering.{roomy-heads, entering-inside, entering-done}
-use Rattle.offers.specs.Laws.Adding.{amongPlaces, added-full, added-same, added-over, added-room, added-few, added-entering, added-more, few-pending, grown-indexed, grown-number}
+use Rattle.offers.specs.Laws.Adding.{amongPlaces, added-full, added-same, added-over, added-room, added-few, added-entering, added-more, few-used}
+use Rattle.states.specs.Laws.Held.{holds-lives}
+use Rattle.holes.specs.Slots.{holes}
+use Rattle.offers.specs.Laws.Kept.{kept-indexed}
 use Rattle.offers.proofs.add.Statement.{statement}
 use Rattle.offers.proofs.add.Tie as tie
 
@@ -30,11 +34,12 @@ find-requires c κs =
     let r = roomy-heads (o .room .index) in
     record {
       long = s .pre .1 .long;
-      room = omega (arith, g .pending, g .kept .laid .room);
+      live = holds-lives (s .pre .1);
+      room = omega (arith, g .used, g .kept .spread .room);
       some = r .0;
       most = r .1;
-      indexed = grown-indexed g;
-      few = grown-number g (o .room) (few-pending g (e .if1 .left));
+      indexed = subst (λ n. Indexed (places n (s .args .pool .now)) (s .args .index .now)) (sym (g .used)) (kept-indexed (g .kept));
+      few = omega (arith, few-used g (e .if1 .left), o .room .bounded);
     }
 
 returns-2 : tie.Need-returns-2
@@ -56,7 +61,7 @@ abbrev open-of : tie.After-place-charge → tie.Else1
 open-of c = found-of c .before .before .before
 
 -- no pending one is equal
-new-of : (c : tie.After-place-charge) → let a = start-of (open-of c) .args in amongPlaces (a .queue .pending) (a .pool .now) (a .row .now) ≡ false
+new-of : (c : tie.After-place-charge) → let a = start-of (open-of c) .args in amongPlaces (a .queue .used) (a .pool .now) (a .row .now) ≡ false
 new-of c = found-of c .find .ensures .none (c .before .before .if2 .left)
 
 add-total : tie.Need-add-total
@@ -86,7 +91,7 @@ push-requires c κs =
     )
 
 -- one more fits
-fewer : (c : tie.After-push) → let a = start-of (open-of (c .before .before .before .before .before .before)) .args in a .queue .pending < a .capacity
+fewer : (c : tie.After-push) → let s = start-of (open-of (c .before .before .before .before .before .before)) in s .args .queue .used < holes (s .pre .0 .slots) + s .args .capacity
 fewer c =
     let k = c .before .before .before .before .before .before in
     let f = open-of k in
@@ -94,17 +99,11 @@ fewer c =
     let o = s .pre .0 in
     added-few (s .pre .1) (few f) (f .if1 .left) (new-of k) (k .place-charge .ensures) (omega (arith, c .before .before .if3 .left)) (o .room) (o .grown)
 
-add-note : tie.Need-add-note
-add-note c =
-    let p = c .before .before .before in
-    let s = start-of (open-of (p .before .before .before .before .before .before)) in
-    omega (arith, fewer p, s .pre .0 .room .bounded)
-
 -- its place can be entered where the search ended
 entering : (c : tie.After-push)
     → let k = c .before .before .before .before .before .before in
     let a = start-of (open-of k) .args in
-    Entering (a .gone + a .queue .pending) (a .row .now) (found-of k .find .result) (a .index .now)
+    Entering (a .queue .used) (a .row .now) (found-of k .find .result) (a .index .now)
 entering c =
     let k = c .before .before .before .before .before .before in
     let f = open-of k in
@@ -114,12 +113,15 @@ entering c =
     (found-of k .find .ensures .ends (k .before .before .if2 .left))
 
 note-requires : tie.Need-note-requires
-note-requires c κs = let w = entering (c .before .before .before) in (w .few, entering-inside w)
+note-requires c κs =
+    let p = c .before .before in
+    let s = start-of (open-of (p .before .before .before .before .before .before)) in
+    (omega (arith, fewer p, s .pre .0 .room .bounded), entering-inside (entering p))
 
 returns-4 : tie.Need-returns-4
 returns-4 c =
     let n = c .before .before .before in
-    let p = n .before .before .before .before in
+    let p = n .before .before .before in
     let k = p .before .before .before .before .before .before in
     let f = open-of k in
     let s = start-of f in
@@ -145,13 +147,12 @@ add-spec =
     (λ c. refl)
     returns-3
     push-requires
-    add-note
     note-requires
     (λ c.
-    let p = c .before .before .before .before .before .before .before in
+    let p = c .before .before .before .before .before .before in
     let s = start-of (open-of (p .before .before .before .before .before .before)) in
     omega (arith, fewer p, s .pre .0 .room .bounded))
-    (λ c. c .before .before .before .before .before .before .before .before .before .before .before .before .before .place-charge .kept .1 .1 .0)
+    (λ c. c .before .before .before .before .before .before .before .before .before .before .before .before .place-charge .kept .1 .1 .0)
     (λ c. c .before .before .before .note .kept .0)
-    (λ c. c .before .before .before .before .before .before .before .push .kept .0)
+    (λ c. c .before .before .before .before .before .before .push .kept .0)
     returns-4)

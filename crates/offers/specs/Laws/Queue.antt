@@ -1,6 +1,6 @@
 -- Laws of new updates that are offered one by one. Assumes nothing.
 use Prim.Native.Nat.{ℕ, _+_}
-use mathlib.Core.Path.{_≡_, refl, sym, ap, _∙_, subst}
+use mathlib.Core.Path.{_≡_, refl, sym, _∙_, subst}
 use mathlib.Core.List.{List, [], _++_, append-assoc, append-nil}
 use native.Mathlib.Omega.{arith}
 use Rattle.deck.specs.Deck.{Deck}
@@ -8,31 +8,31 @@ use Rattle.deck.specs.declared.Deck as Counted
 use Rattle.charge.specs.Memo.{Memo}
 use Rattle.pool.specs.Updates.{Update}
 use Rattle.passing.specs.Judged.{shape}
-use Rattle.index.specs.Index.{headsOf, lostOf}
+use Rattle.index.specs.Index.{headsOf}
 use Rattle.offers.specs.Queue.{Held, Room, SameSize, Grown, Offering, Offered}
 use Rattle.offers.specs.declared.Queue.{Queue}
 
 -- ---- sizes
 
 pub same-size : {h : Held} → SameSize h h
-same-size = record { gone = refl; index = refl; hole = refl; pool = refl }
+same-size = record { index = refl; pool = refl }
 
 pub size-then : {h₀ h₁ h₂ : Held} → SameSize h₀ h₁ → SameSize h₁ h₂ → SameSize h₀ h₂
 size-then a b =
-    record { gone = b .gone ∙ a .gone; index = b .index ∙ a .index; hole = b .hole ∙ a .hole; pool = b .pool ∙ a .pool }
+    record { index = b .index ∙ a .index; pool = b .pool ∙ a .pool }
 
 -- room is a matter of size
-pub room-same : {C : ℕ} {h₀ h : Held} → SameSize h₀ h → Room C h₀ → Room C h
+pub room-same : {C H : ℕ} {h₀ h : Held} → SameSize h₀ h → Room C H h₀ → Room C H h
 unfolding headsOf
-room-same {C} {h₀} {h} s r =
+room-same {C} {H} {h₀} {h} s r =
     let roomy = r .index in
     record {
-      bounded = omega (arith, s .gone, ap lostOf (s .hole), r .bounded);
+      bounded = r .bounded;
       places = omega (arith, s .pool, r .places);
       index = record {
         some = omega (arith, s .index, roomy .some);
         few = omega (arith, s .index, roomy .few);
-        links = omega (arith, s .index, s .gone, roomy .links);
+        links = omega (arith, s .index, roomy .links);
       };
     }
 
@@ -43,7 +43,7 @@ module _ {d : Deck} {C : ℕ} {held₀ : Held} {q₀ : Queue} where
   pub offered-none : (m : List ℕ) → Memo d m → Offered d C [] held₀ q₀ m held₀ q₀
   offered-none m r =
       record {
-        grows = λ us new g. subst (λ l. Grown d C us l held₀ q₀) (sym (append-nil new)) g;
+        grows = λ slots new g. subst (λ l. Grown d C slots l held₀ q₀) (sym (append-nil new)) g;
         memo = r;
         size = same-size;
       }
@@ -58,8 +58,8 @@ module _ {d : Deck} {C : ℕ} {held₀ : Held} {q₀ : Queue} where
       → Offered d C b held q m′ held′ q′ → Offered d C (a ++ b) held₀ q₀ m′ held′ q′
   offered-then {a} {b} {held′} {q′} x y =
       record {
-        grows = λ us new g.
-            subst (λ l. Grown d C us l held′ q′) (append-assoc new a b) (y .grows us (new ++ a) (x .grows us new g));
+        grows = λ slots new g.
+            subst (λ l. Grown d C slots l held′ q′) (append-assoc new a b) (y .grows slots (new ++ a) (x .grows slots new g));
         memo = y .memo;
         size = size-then (x .size) (y .size);
       }
@@ -72,8 +72,8 @@ offering-next {C} {fresh} o x =
     record {
       ready = record { tables = o .ready .tables; memo = x .memo };
       few = o .few;
+      slots = o .slots;
       room = room-same (x .size) (o .room);
-      us = o .us;
       new = o .new ++ fresh;
-      grown = x .grows (o .us) (o .new) (o .grown);
+      grown = x .grows (o .slots) (o .new) (o .grown);
     }

@@ -16,7 +16,7 @@ use Rattle.pool.specs.Places.{capacity, pairsOf}
 use Rattle.pool.specs.States.{Machine, Memory, load, store, goodLength, good}
 use Rattle.pool.specs.Laws.Good.{Fine, load-store, store-length, good-stored}
 use Rattle.passing.specs.Check.{passing}
-use Rattle.firing.specs.Firing.{setAndFire, committed}
+use Rattle.firing.specs.Firing.{setAndFire, committed, mayTake}
 use Rattle.calls.specs.Calls as Calls
 use Rattle.calls.specs.Calls.{Answer, added, applied, discarded, settled, spent, Reply, Done, reply, tested, goodInput, settling, oneMore}
 use Rattle.orders.specs.Calling.{Call, input, commit, settle, made}
@@ -65,9 +65,9 @@ inputBody d C x p l = do
   require (leb (charge d (after .pending)) C) overCapacity 0
   accepted (record { answer = added (charge d (after .pending) - charge d (x .pending)); machine = after })
 
-commitBody : Deck → Machine → ℕ → ℕ → Outcome Done
-commitBody d x count k = do
-  require (ltb k count) placeNotPending 0
+commitBody : Deck → Machine → ℕ → Outcome Done
+commitBody d x k = do
+  require (mayTake (x .pending) k) placeNotPending 0
   let c = committed d k x
   let now = charge d (c .machine .pending)
   accepted (record { answer = cond (c .applied) (applied now) (discarded now); machine = c .machine })
@@ -125,10 +125,10 @@ module _ (bytes : List ℕ) (l : Layout) (passes : passing bytes ≡ accepted l)
       (guarded (leb (charge d (setAndFire d p (pairsOf pairs) x .pending)) (capacity n)) overCapacity _ _ (accepted-handed _ _ _)))
 
   commit-agrees : (k : ℕ) → Calls.commit bytes m k ≡ handed n x (taken d (capacity n) x (commit k))
-  unfolding Calls.commit taken commitBody store turn
+  unfolding Calls.commit taken commitBody turn
   commit-agrees k =
-      goes-on (λ k′ C y. commitBody k′ y (length (x .pending)) k)
-      ∙ guarded (ltb k (length (x .pending))) placeNotPending _ _ (accepted-handed _ _ _)
+      goes-on (λ k′ C y. commitBody k′ y k)
+      ∙ guarded (mayTake (x .pending) k) placeNotPending _ _ (accepted-handed _ _ _)
 
   settle-agrees : (b : ℕ) → Calls.settle bytes m b ≡ handed n x (taken d (capacity n) x (settle b))
   unfolding Calls.settle taken settleBody

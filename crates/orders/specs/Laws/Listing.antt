@@ -8,7 +8,7 @@ use native.Mathlib.Omega.{arith}
 use lib.Dec.{leb}
 use lib.ListN.{length}
 use lib.IntN.{ℤ}
-use borrow.Author.Tests.{le-leb, le-ltb}
+use borrow.Author.Tests.{le-leb, ltb-true}
 use Rattle.lists.specs.Lists.{lists, all, sum}
 use Rattle.lists.specs.Laws.Alls.{all-append, all-every}
 use Rattle.refusals.specs.Outcome.{Outcome, refused, accepted, _>>=_, _>>_, require, outcomes}
@@ -56,8 +56,8 @@ module _ (d : Deck) (C : ℕ) where
   unfolding RefusedAsPlaced taken outcomes
   refused-as-placed x (input p l) = tt
   refused-as-placed x (commit k) = (
-    λ h. subst (λ (o : Outcome Taken). Accepted o) (sym (commit-taken d C x k h)) (yes-accepted _),
-    λ h. ap (λ b. require b placeNotPending 0 >> accepted (takenTurn d (turn d k x))) (le-ltb k (length (x .pending)) h),
+    λ h. subst (λ (o : Outcome Taken). Accepted o) (sym (commit-taken d C x k (ltb-true k (length (x .pending)) h))) (yes-accepted _),
+    λ h. ap (λ b. require b placeNotPending 0 >> accepted (takenTurn d (turn d k x))) h,
   )
   refused-as-placed x (settle b) = tt
 

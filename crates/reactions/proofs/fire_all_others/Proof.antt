@@ -17,14 +17,14 @@ use Rattle.reactions.proofs.fire_all_others.Statement.{statement}
 use Rattle.reactions.proofs.fire_all_others.Tie as tie
 
 abbrev Inv-loop : tie.InvT-loop
-Inv-loop deck counts rules parts memo₀ index₀ pool₀ gone capacity values p set n out₀ left₀ r₀ memo index pool out left r =
+Inv-loop deck counts rules parts memo₀ index₀ pool₀ capacity values p set n out₀ left₀ r₀ memo index pool out left r =
     (r < 64 → bit set r ≡ true)
     × Walk set left r
     × Half rules parts counts capacity (deckOf deck) (λ r. flatMap (firedThere values p r) (others (deckOf deck) p)) p set (min r (M (deckOf deck)))
-    (heldOf gone index₀ pool₀) out₀ memo (heldOf gone index pool) out
+    (heldOf index₀ pool₀) out₀ memo (heldOf index pool) out
 
 abbrev μ-loop : tie.MeasureT-loop
-μ-loop deck counts rules parts memo₀ index₀ pool₀ gone capacity values p set n out₀ left₀ r₀ memo index pool out left r = n - r
+μ-loop deck counts rules parts memo₀ index₀ pool₀ capacity values p set n out₀ left₀ r₀ memo index pool out left r = n - r
 
 loop-holds : tie.Need-loop-holds Inv-loop μ-loop
 loop-holds c =

@@ -76,7 +76,7 @@ first : (o : tie.After-offer-default)
     let a = s .args in
     let l = o .offer-default .last .1 .1 .1 .1 in
     Offered (shape (a .rules .now) (a .parts .now) (a .counts)) (a .capacity) (sent (values-of s) (a .p) (a .p) (rule-of s .default))
-    (heldOf (a .gone) (a .index .now) (a .pool .now)) (a .queue) (l .0) (heldOf (a .gone) (l .1 .0) (l .1 .1 .0)) (o .offer-default .result)
+    (heldOf (a .index .now) (a .pool .now)) (a .queue) (l .0) (heldOf (l .1 .0) (l .1 .1 .0)) (o .offer-default .result)
 first o = default-offered (firing (start-of o)) (o .offer-default .ensures)
 
 offer-default-requires : tie.Need-offer-default-requires

@@ -15,13 +15,13 @@ use Rattle.reactions.proofs.fire_others.Statement.{statement}
 use Rattle.reactions.proofs.fire_others.Tie as tie
 
 abbrev Inv-loop : tie.InvT-loop
-Inv-loop deck counts rules parts memo₀ index₀ pool₀ gone capacity values p r n out₀ q₀ memo index pool out q =
+Inv-loop deck counts rules parts memo₀ index₀ pool₀ capacity values p r n out₀ q₀ memo index pool out q =
     (q ≤ n)
     × Offered (shape rules parts counts) capacity (turns (other p) (firedThere values p (ruleAt (deckOf deck) r)) q)
-    (heldOf gone index₀ pool₀) out₀ memo (heldOf gone index pool) out
+    (heldOf index₀ pool₀) out₀ memo (heldOf index pool) out
 
 abbrev μ-loop : tie.MeasureT-loop
-μ-loop deck counts rules parts memo₀ index₀ pool₀ gone capacity values p r n out₀ q₀ memo index pool out q = n - q
+μ-loop deck counts rules parts memo₀ index₀ pool₀ capacity values p r n out₀ q₀ memo index pool out q = n - q
 
 loop-holds : tie.Need-loop-holds Inv-loop μ-loop
 loop-holds c =
@@ -47,10 +47,10 @@ loop-again c =
       omega arith,
       ⊎-elim
           (λ w.
-          offered-came (w .10) (ap₂ (heldOf (a .gone)) (w .11) (w .12)) (w .13)
+          offered-came (w .10) (ap₂ heldOf (w .11) (w .12)) (w .13)
           (turned-pass (other (a .p)) g q (l .loop .inv .1) (other-so (a .p) q (w .0 .taken)) (w .4 .ensures)))
           (λ w.
-          offered-came (w .1) (ap₂ (heldOf (a .gone)) (w .2) (w .3)) (w .4) (turned-fail (other (a .p)) g q (l .loop .inv .1) (other-not (a .p) q (w .0 .left))))
+          offered-came (w .1) (ap₂ heldOf (w .2) (w .3)) (w .4) (turned-fail (other (a .p)) g q (l .loop .inv .1) (other-not (a .p) q (w .0 .left))))
           (c .if1 .came),
     )
 

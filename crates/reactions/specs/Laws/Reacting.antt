@@ -10,11 +10,12 @@ use Rattle.lists.specs.Lists.{member, eqZ}
 use Rattle.lists.specs.Laws.Below.{filter-below}
 use Rattle.deck.specs.Deck.{Deck, R}
 use Rattle.deck.specs.declared.Deck as Counted
-use Rattle.pool.specs.Updates.{Update, charge, valueAt}
+use Rattle.pool.specs.Updates.{charge, valueAt}
 use Rattle.passing.specs.Tabled.{deckOf}
 use Rattle.passing.specs.Judged.{shape}
 use Rattle.firing.specs.Firing.{changed}
 use Rattle.firing.specs.Laws.Enqueue.{enqueue-none}
+use Rattle.holes.specs.Slots.{Slot, standing, whole}
 use Rattle.offers.specs.Queue.{Held, Kept, Grown, Offering}
 use Rattle.reactions.specs.Reactions.{Fires}
 use Rattle.reactions.specs.Reactions.{Reacting, Reacts}
@@ -22,30 +23,32 @@ use Rattle.offers.specs.declared.Queue.{Queue}
 
 -- nothing has been offered yet
 abbrev pub first : ℕ → ℕ → Queue
-first pending total = record { pending = pending; charge = total; full = false }
+first used total = record { used = used; charge = total; full = false }
 
-grown-first : (d : Deck) (C : ℕ) (us : List Update) (held : Held) (pending total : ℕ) → Kept held us → pending ≡ length us → total ≡ charge d us → total ≤ C
-    → Grown d C us [] held (first pending total)
-grown-first d C us held pending total l n t b =
-    let e = append-nil us in
+grown-first : (d : Deck) (C : ℕ) (slots : List Slot) (held : Held) (used total : ℕ) → Kept slots held → used ≡ length slots
+    → total ≡ charge d (standing slots) → total ≤ C → Grown d C slots [] held (first used total)
+unfolding whole
+grown-first d C slots held used total k n t b =
+    let e = append-nil (standing slots) in
+    let same = append-nil slots in
     record {
       extra = [];
-      kept = subst (Kept held) (sym e) l;
-      pending = n ∙ ap length (sym e);
-      room = λ _. (e ∙ sym (enqueue-none us), t ∙ ap (charge d) (sym e), b);
+      kept = subst (λ l. Kept l held) (sym same) k;
+      used = n ∙ ap length (sym same);
+      room = λ _. (e ∙ sym (enqueue-none (standing slots)), t ∙ ap (charge d) (sym e), b);
       over = λ f. absurd (false≢true f);
     }
 
-module _ {s : List ℕ} {k : Counted.Deck} {rules parts memo : List ℕ} {held : Held} {C pending total : ℕ} where
-  pub offering-first : Reacting s k rules parts memo held C pending total → Offering rules parts k C memo held (first pending total)
+module _ {s : List ℕ} {k : Counted.Deck} {rules parts memo : List ℕ} {held : Held} {C used total : ℕ} where
+  pub offering-first : Reacting s k rules parts memo held C used total → Offering rules parts k C memo held (first used total)
   offering-first w =
       record {
         ready = w .ready;
         few = omega (arith, w .tabled .counts .channels, w .tabled .counts .formed .channels);
+        slots = w .slots;
         room = w .room;
-        us = w .us;
         new = [];
-        grown = grown-first (shape rules parts k) C (w .us) held pending total (w .kept) (w .count) (w .charged) (w .within);
+        grown = grown-first (shape rules parts k) C (w .slots) held used total (w .kept) (w .count) (w .charged) (w .within);
       }
 
 -- the changed channels are channels
@@ -54,14 +57,14 @@ unfolding changed
 changed-low d p before after few c m =
     omega (arith, few, filter-below (λ c. not (eqZ (valueAt before p c) (valueAt after p c))) (R d) c .0 m .0)
 
-pub reacted : (s : List ℕ) (k : Counted.Deck) (rules parts : List ℕ) {memo : List ℕ} {held₀ : Held} {C pending total : ℕ}
-    → Reacting s k rules parts memo held₀ C pending total → (values : List ℤ) (p mask : ℕ) {m : List ℕ} {held : Held} {q : Queue}
-    → Fires (deckOf s) values p mask (shape rules parts k) C held₀ (first pending total) m held q
-    → Reacts (deckOf s) (shape rules parts k) C pending total values p mask held₀ m held q
-reacted s k rules parts {held₀ = held₀} {C} {pending} {total} w values p mask f cs low e =
+pub reacted : (s : List ℕ) (k : Counted.Deck) (rules parts : List ℕ) {memo : List ℕ} {held₀ : Held} {C used total : ℕ}
+    → Reacting s k rules parts memo held₀ C used total → (values : List ℤ) (p mask : ℕ) {m : List ℕ} {held : Held} {q : Queue}
+    → Fires (deckOf s) values p mask (shape rules parts k) C held₀ (first used total) m held q
+    → Reacts (deckOf s) (shape rules parts k) C used total values p mask held₀ m held q
+reacted s k rules parts {held₀ = held₀} {C} {used} {total} w values p mask f cs low e =
     let x = f cs low e in
     record {
-      grown = λ us l n t. x .grows us [] (grown-first (shape rules parts k) C us held₀ pending total l n t (w .within));
+      grown = λ slots l n t. x .grows slots [] (grown-first (shape rules parts k) C slots held₀ used total l n t (w .within));
       memo = x .memo;
       size = x .size;
     }

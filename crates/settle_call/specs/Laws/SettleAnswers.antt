@@ -1,8 +1,7 @@
 -- Settle answers the refusal of the tests, a budget that is too large, or what the turns come to. Assumes nothing.
-use Prim.Native.Nat.{ℕ, _/_, _≤_, _<_}
+use Prim.Native.Nat.{ℕ, _≤_, _<_}
 use mathlib.Core.Path.{_≡_, sym, ap₂, _∙_}
 use mathlib.Core.List.{List}
-use native.Mathlib.Omega.{arith}
 use lib.ListN.{length}
 use lib.IntN.{ℤ}
 use borrow.Author.Tests.{le-leb, lt-leb}
@@ -13,8 +12,6 @@ use Rattle.deck.specs.declared.Deck as Counted
 use Rattle.pool.specs.Places.{capacity}
 use Rattle.pool.specs.States.{Memory, load, store}
 use Rattle.passing.specs.Tabled.{deckOf}
-use Rattle.offers.specs.Queue.{heldOf}
-use Rattle.offers.specs.Stored.{Committing}
 use Rattle.calls.specs.Calls.{Answer, reply, tested, settling, settle}
 use Rattle.calls.specs.Answers.{replyOf, replyAt}
 use Rattle.call_tests.specs.Tested.{Passed}
@@ -38,20 +35,10 @@ module _ (s : List ℕ) (m : Memory) (budget : ℕ) where
 -- ---- behind the tests
 
 module _ {s rules parts memo index : List ℕ} {m : Memory} {k : Counted.Deck} {total : ℕ} (w : Passed s rules parts memo index m k total) where
-  -- the number of places, as the code has it
-  pub settle-places : length (m .pool) / 10 ≤ 65535
-  unfolding capacity
-  settle-places = omega (arith, w .entering .room .bounded)
-
-  pub settle-requires : Committing s k rules parts memo (heldOf 0 index (m .pool)) (length (m .pool) / 10) (m .state .values) (m .state .pending) total
-  unfolding capacity
-  settle-requires = w .entering
-
   pub settle-reply : {budget : ℕ} {answer : Outcome Answer} {vs : List ℤ} {pending : ℕ} {pool : List ℤ} → budget ≤ 65535
       → length pool ≡ length (m .pool)
-      → Settles s (length (m .pool) / 10) (m .state .values) (m .state .pending) total index (m .pool) budget answer vs pending pool
+      → Settles s (capacity (length (m .pool))) (m .state .values) (m .state .pending) total index (m .pool) budget answer vs pending pool
       → replyAt answer vs pending pool ≡ settle s m budget
-  unfolding capacity
   settle-reply {budget} {answer} {vs} {pending} {pool} h l e =
       let r = e (load m) (w .loaded) in
       ap₂ (λ a x. record { answer = a; memory = x }) (r .0) (left-memory _ _ _ _ _ (r .1) l)

@@ -127,7 +127,6 @@ returns-4 c =
       memo = w .weigh .ensures .memo;
       indexes = record {
         indexed = λ _. w .weigh .ensures .indexes .indexed (_, e .weighed .given .1);
-        whole = λ _. w .weigh .ensures .indexes .whole (_, e .weighed .given .1);
         long = w .weigh .ensures .indexes .long;
       };
     }

@@ -1,7 +1,7 @@
 -- `states::weigh` meets its contract. The loop's invariant: the first k places fit and are different, the total is the charge of
 -- their updates, the memo is right, and the index has them. Assumes nothing.
 use Prim.Native.Nat.{ℕ, _+_, _-_, _<_, _≤_}
-use mathlib.Core.Path.{_≡_, sym, ap, _∙_}
+use mathlib.Core.Path.{_≡_, sym, _∙_}
 use mathlib.Core.Bool.{true, _&&_}
 use mathlib.Core.List.{List}
 use native.Mathlib.Nat.{le-add-right}
@@ -25,7 +25,8 @@ use Rattle.index.specs.Laws.Entering.{roomy-heads, entering-inside, entering-do
 use Rattle.states.specs.Answer.{IfFit, Holds, PlaceGives}
 use Rattle.states.specs.Laws.Places.{Place, place-of}
 use Rattle.states.specs.Laws.Charges.{holds-part, holds-charge}
-use Rattle.states.proofs.Adding.{Adding, lent, lent-length, adding-none, adding-unfit, adding-place, adding-heads, adding-number, adding-entering}
+use Rattle.states.specs.Laws.Held.{holds-lives}
+use Rattle.states.proofs.Adding.{Adding, lent, lent-length, adding-none, adding-unfit, adding-place, adding-heads, adding-entering}
 use Rattle.states.proofs.Adding.{adding-twice, adding-more, adding-all}
 use Rattle.states.proofs.weigh.Statement.{statement}
 use Rattle.states.proofs.weigh.Tie as tie
@@ -149,24 +150,23 @@ capped-sum-requires c κs =
     let u = c .before .before in
     (omega (arith, loop-of (fit-of u .before) .loop .inv .same), omega (arith, u .update-charge .ensures .value))
 
-find-first-requires : tie.Need-find-first-requires Inv-loop μ-loop
-find-first-requires c κs =
+find-requires : tie.Need-find-first-requires Inv-loop μ-loop
+find-requires c κs =
     let f = fit-of (charge-of (c .before .before)) in
     let t = loop-of (f .before) in
     let s = start-of t in
     let i = t .loop .inv in
     let h = adding-heads _ (s .args .pending) (s .args .pool .now) i in
-    let r = roomy-heads (s .pre .4) in (
-      record {
-        long = holds f .long;
-        room = placed (turn-in f) .before;
-        some = omega (arith, h, r .0);
-        most = omega (arith, h, r .1);
-        indexed = i .indexed;
-        few = adding-number _ (s .args .pending) (s .args .pool .now) i (inside (f .before)) (s .pre .3);
-      },
-      i .whole,
-    )
+    let r = roomy-heads (s .pre .4) in
+    record {
+      long = holds f .long;
+      live = holds-lives (holds f);
+      room = placed (turn-in f) .before;
+      some = omega (arith, h, r .0);
+      most = omega (arith, h, r .1);
+      indexed = i .indexed;
+      few = omega (arith, inside (f .before), s .pre .3);
+    }
 
 returns-2 : tie.Need-returns-2 Inv-loop μ-loop
 returns-2 c =
@@ -185,10 +185,13 @@ entering c =
     let f = fit-of (charge-of (sum-of (c .before))) .before in
     let t = loop-of f in
     let s = start-of t in
-    adding-entering _ (s .args .pending) (s .args .pool .now) (t .loop .inv) (inside f) (s .pre .3) (s .pre .4) (c .before .find-first .ensures .ends (c .if2 .left))
+    adding-entering _ (s .args .pending) (s .args .pool .now) (t .loop .inv) (inside f) (s .pre .4) (c .before .find-first .ensures .ends (c .if2 .left))
 
 note-requires : tie.Need-note-requires Inv-loop μ-loop
-note-requires c κs = let w = entering (c .before) in (w .few, entering-inside w)
+note-requires c κs =
+    let f = fit-of (charge-of (sum-of (c .before .before))) .before in
+    let s = start-of (loop-of f) in
+    (omega (arith, inside f, s .pre .3), entering-inside (entering (c .before)))
 
 -- behind the entering
 abbrev new-of : tie.After-slice-known4 Inv-loop μ-loop → tie.Else2 Inv-loop μ-loop
@@ -257,7 +260,7 @@ weigh-spec =
     (λ c. le-add-right _ _)
     (λ c. le-add-right _ _)
     (λ c. placed (turn-in (fit-of (charge-of (c .before)))) .inside)
-    find-first-requires
+    find-requires
     same-length-3
     (λ c. turn-of (sum-of (c .before)) .loop .inv .long)
     returns-2

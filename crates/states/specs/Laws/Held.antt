@@ -15,19 +15,26 @@ use Rattle.deck.specs.Deck.{Deck, R, N}
 use Rattle.pool.specs.Updates.{Update, channels}
 use Rattle.pool.specs.Places.{zeros, pairsOf, updateOf, wellWritten}
 use Rattle.pool.specs.States.{known}
+use Rattle.pool.specs.Laws.Good.{written-same}
+use Rattle.index.specs.Index.{lives}
+use Rattle.index.specs.Laws.Indexed.{place-lives}
+use Rattle.states.specs.Answer.{Holds}
 use Rattle.states.specs.Fits.{within, channelsOf, inRange}
 use Rattle.states.specs.Laws.Fits.{within-pos, numbers}
 use Rattle.states.specs.Laws.Places.{written}
 
 module _ (d : Deck) (u : Update) (h : known d u ≡ true) where
-  known-tests : (u .part < N d) × (all (λ c. ltb c (R d)) (channels u) ≡ true)
+  known-tests : (u .part < N d) × (all (λ c. ltb c (R d)) (channels u) ≡ true) × (not (isEmpty (u .pairs)) ≡ true)
   unfolding known
   known-tests =
       let t = four (ltb (u .part) (N d)) (not (isEmpty (u .pairs))) (all (λ c. ltb c (R d)) (channels u)) (distinct (channels u)) h in
-      (ltb-true (u .part) (N d) (t .0), t .2)
+      (ltb-true (u .part) (N d) (t .0), t .2, t .1)
 
   pub known-part : u .part < N d
   known-part = known-tests .0
+
+  pub known-some : not (isEmpty (u .pairs)) ≡ true
+  known-some = known-tests .2
 
   -- of a deck with at most 32 channels
   pub known-low : R d ≤ 32 → all (λ c. ltb c 32) (channels u) ≡ true
@@ -77,3 +84,8 @@ held-part n [] h w low = absurd (omega arith)
 held-part n (a ∷ []) h w low = absurd (omega arith)
 held-part n (a ∷ b ∷ t) h w low =
     let x = written a b t (omega arith) w in ap (within n) (sym (x .part)) ∙ within-pos n (natAbs a) low
+
+-- a place that holds a known update lives
+pub holds-lives : {d : Deck} {l : List ℤ} → Holds d l → lives l ≡ true
+holds-lives {d} {l} h =
+    ap lives (sym (written-same l (h .written))) ∙ place-lives (updateOf l) (known-some d (updateOf l) (h .known))

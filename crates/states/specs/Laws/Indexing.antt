@@ -32,7 +32,7 @@ fresh-roomy f pending h =
 -- where the answer is `Bad`, of the index its length
 pub index-none : {pending : ℕ} {pool : List ℤ} {index₀ index : List ℕ} → length index ≡ length index₀
     → IndexedIf pending pool index₀ index ((total : ℕ) × (Bad ≡ Good total))
-index-none e = record { indexed = λ g. not-good (g .1); whole = λ g. not-good (g .1); long = e }
+index-none e = record { indexed = λ g. not-good (g .1); long = e }
   where
     not-good : {total : ℕ} {A : Type 0} → Bad ≡ Good total → A
     not-good e = let q : _≡_ {A = ℕ} 0 1 = cc in absurd (omega arith)

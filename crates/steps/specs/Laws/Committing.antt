@@ -1,10 +1,10 @@
 -- The commit of one place: what the code is lent, and what it leaves. Assumes nothing.
-use Prim.Native.Nat.{ℕ, suc, _+_, _*_, _-_, _<_, _≤_}
+use Prim.Native.Nat.{ℕ, _+_, _*_, _-_, _<_, _≤_}
 use mathlib.Core.Path.{_≡_, refl, sym, ap, ap₂, _∙_, subst}
 use mathlib.Core.Bool.{Bool, true, false, not}
-use mathlib.Core.List.{List, _++_}
+use mathlib.Core.List.{List, [], _++_, append-nil}
 use native.Mathlib.Omega.{arith}
-use lib.ListN.{length, take, drop, set, length-append, length-take, length-drop, length-set}
+use lib.ListN.{length, take, set, length-set}
 use lib.IntN.{ℤ}
 use Rattle.lists.specs.Lists.{all, filter, below, eqZ}
 use Rattle.lists.specs.Bits.{maskOf}
@@ -14,26 +14,31 @@ use Rattle.deck.specs.declared.Deck as Counted
 use Rattle.deck.specs.Laws.Shape.{shape-R, shape-N}
 use Rattle.charge.specs.Laws.Equations.{update-at-least-one}
 use Rattle.pool.specs.Updates.{Update, channels, valueAt, assign, charge}
-use Rattle.pool.specs.Places.{pairsOf}
+use Rattle.pool.specs.Places.{zeros, pairsOf}
 use Rattle.pool.specs.States.{Machine, known}
-use Rattle.pool.specs.Moves.{removed}
+use Rattle.pool.specs.Moves.{written}
 use Rattle.pool.specs.Laws.Values.{assign-length}
 use Rattle.pool.specs.Laws.Good.{Fine, count-bounded}
+use Rattle.holes.specs.Slots.{Slot, hole, standing, holes, whole, before}
+use Rattle.holes.specs.Laws.Standing.{standing-pick, standing-inside, standing-emptied, holes-emptied}
+use Rattle.holes.specs.Laws.Spread.{emptied-length}
 use Rattle.states.specs.Laws.Shape.{same-known, shape-charge}
 use Rattle.passing.specs.Check.{within}
 use Rattle.passing.specs.Tabled.{deckOf, Tabled}
 use Rattle.passing.specs.Judged.{shape}
 use Rattle.firing.specs.Firing.{fired, changed, enqueue, setAndFire, pick, without, committed}
 use Rattle.firing.specs.Laws.Commits.{Known, pick-known, commit-falls, commit-fine, without-charge}
-use Rattle.index.specs.Index.{headsOf, holeOf, Roomy}
-use Rattle.index.specs.Laws.Entering.{lost-few}
-use Rattle.offers.specs.Queue.{Held, heldOf, Kept, Room, SameSize, Grown}
+use Rattle.charge.specs.Charge.{updateCharge}
+use Rattle.charge.specs.Memo.{capped}
+use Rattle.index.specs.Index.{Roomy}
+use Rattle.offers.specs.Queue.{Held, heldOf, Room, SameSize, Grown}
+use Rattle.offers.specs.Laws.Kept.{standing-behind, kept-emptied}
 use Rattle.reactions.specs.Reactions.{Reacting, Reacted, Reacts}
 use Rattle.offers.specs.Stored.{Stored, Committing}
-use Rattle.steps.specs.Commits.{Looking, Looks, Without, Finishing, Finishes, Commits, CommitsFront}
+use Rattle.steps.specs.Commits.{At, Looking, Looks, Without, Finishing, CommittedTo, Finishes, CommittingAt, Commits}
 use Rattle.offers.specs.Laws.Queue.{same-size, size-then, room-same}
 use Rattle.reactions.specs.Laws.Reacting.{changed-low}
-use Rattle.steps.specs.Laws.Looking.{taken-charge, without-kept, without-long, front-kept}
+use Rattle.steps.specs.Laws.Looking.{taken-charge}
 use Rattle.offers.specs.declared.Queue.{Queue}
 
 -- ---- what the definition makes of place j
@@ -60,11 +65,6 @@ module _ (d : Deck) (j : ℕ) (x : Machine) where
       → committed d j x ≡ record { applied = false; machine = record { values = x .values; pending = rest } }
   unfolding committed
   discarded-machine e = rw e
-
-pub rest-length : (j : ℕ) (us : List Update) → j < length us → length (without j us) ≡ length us - 1
-unfolding without
-rest-length j us h =
-    omega (arith, length-append (take j us) (drop (suc j) us), length-take j us, length-drop (suc j) us)
 
 -- ---- the deck and the shape of its tables
 
@@ -115,15 +115,19 @@ fine-narrower f E h =
 
 -- ---- the rest of a commit, when the update is out
 
-module _ {s : List ℕ} {k : Counted.Deck} {rules parts memo : List ℕ} {held : Held} {C : ℕ} {back now : List ℤ} {part mask pending total : ℕ}
-    (w : Finishing s k rules parts memo held C back now part mask pending total) where
+nothing-behind : (left : List Slot) → left ≡ left ++ whole []
+unfolding whole
+nothing-behind left = sym (append-nil left)
+
+module _ {s : List ℕ} {k : Counted.Deck} {rules parts memo : List ℕ} {held : Held} {C : ℕ} {back now : List ℤ} {part mask used total : ℕ}
+    (w : Finishing s k rules parts memo held C back now part mask used total) where
   abbrev d : Deck
   d = deckOf s
 
   abbrev e : Deck
   e = shape rules parts k
 
-  module _ (j : ℕ) (x : Machine) (t : Without d C j x back now part mask pending total held) where
+  module _ (j : ℕ) (x : Machine) (left : List Slot) (t : Without d C j x left back now part mask used total held) where
     known-update : Known d (pick j (x .pending))
     known-update = pick-known d (C + 1) x j (t .fine) (t .inside)
 
@@ -136,10 +140,15 @@ module _ {s : List ℕ} {k : Counted.Deck} {rules parts memo : List ℕ} {held :
         fine-narrower (commit-fine d (w .tabled .counts .formed) (w .acyclic) (C + 1) j x (t .fine) (t .inside)) C
         (omega (arith, falls, t .fine .bounded))
 
+    -- the charge of what is left, as the tables have it
+    left-charge : total ≡ charge e (standing left)
+    left-charge =
+        t .charged ∙ sym (charge-same s rules parts k (w .tabled) (without j (x .pending))) ∙ ap (charge e) (sym (t .stands))
+
   pub part-known : part < k .parts
   part-known =
       let t = w .taken in
-      omega (arith, t .part-is, known-update (w .place) (w .machine) t .part, w .tabled .counts .parts)
+      omega (arith, t .part-is, known-update (w .number) (w .machine) (w .left) t .part, w .tabled .counts .parts)
 
   pub part-low : part < 16
   part-low = omega (arith, part-known, w .tabled .counts .parts, w .tabled .counts .formed .parts)
@@ -153,65 +162,77 @@ module _ {s : List ℕ} {k : Counted.Deck} {rules parts memo : List ℕ} {held :
   left-low =
       let x = w .machine in
       let t = w .taken in
-      let whole = without-charge d (w .place) (x .pending) (t .inside) in
-      let some = update-at-least-one d (pick (w .place) (x .pending) .part) (channels (pick (w .place) (x .pending))) in
+      let whole = without-charge d (w .number) (x .pending) (t .inside) in
+      let some = update-at-least-one d (pick (w .number) (x .pending) .part) (channels (pick (w .number) (x .pending))) in
       omega (arith, t .charged, whole, some, t .fine .bounded)
 
-  pub pending-low : pending ≤ 65535
-  pending-low =
-      let t = w .taken in
-      omega (arith, t .count, count-bounded d (without (w .place) (w .machine .pending)), t .charged, left-low, w .room .bounded)
-
-  pub finish-reacting : Reacting s k rules parts memo held C pending total
+  pub finish-reacting : Reacting s k rules parts memo held C used total
   finish-reacting =
       let t = w .taken in
       record {
         tabled = w .tabled;
         ready = w .ready;
+        slots = w .left;
         room = w .room;
-        us = without (w .place) (w .machine .pending);
         kept = t .kept;
         count = t .count;
-        charged = t .charged ∙ sym (charge-same s rules parts k (w .tabled) (without (w .place) (w .machine .pending)));
+        charged = left-charge (w .number) (w .machine) (w .left) t;
         within = left-low;
       }
 
   -- the update is discarded
   pub finish-discarded : {values : List ℤ} → within d part now ≡ false → values ≡ assign part (pairsOf back) now
-      → Finishes d e C back now part mask pending total held memo held values pending total false
+      → Finishes d e C back now part mask used total held memo held values used total false
   finish-discarded {values} f b = record { result = discarded; memo = w .ready .memo; size = same-size }
     where
-      discarded : (j : ℕ) (x : Machine) → Without d C j x back now part mask pending total held
-          → Stored d C (committed d j x .machine) values pending total held × (false ≡ committed d j x .applied)
-      discarded j x t =
+      discarded : (j : ℕ) (x : Machine) (left : List Slot) → Without d C j x left back now part mask used total held
+          → CommittedTo d C j x left values used total held false
+      discarded j x left t =
           let c = discarded-machine d j x (sym (ap₂ (within d) (t .part-is) (t .after-is)) ∙ f) in (
-            subst (λ y. Fine d C (y .machine) → Stored d C (y .machine) values pending total held) (sym c)
-                (λ f. record { fine = f; values = b ∙ t .undone; count = t .count; kept = t .kept; charged = t .charged })
-                (fine-after j x t),
-            ap (λ y. y .applied) (sym c),
+            [],
+            (
+              subst (λ l. Stored d C l (committed d j x .machine) values used total held) (nothing-behind left)
+                  (subst (λ y. Fine d C (y .machine) → Stored d C left (y .machine) values used total held) (sym c)
+                  (λ f.
+                  record {
+                    fine = f;
+                    values = b ∙ t .undone;
+                    stands = t .stands;
+                    count = t .count;
+                    kept = t .kept;
+                    charged = t .charged;
+                  })
+                  (fine-after j x left t)),
+              ap (λ y. y .applied) (sym c),
+            ),
           )
 
   -- it is applied, and the firing follows
   module _ {m : List ℕ} {held₂ : Held} {q : Queue} (yes : within d part now ≡ true)
-      (r : Reacts d e C pending total now part mask held m held₂ q) where
-    module _ (j : ℕ) (x : Machine) (t : Without d C j x back now part mask pending total held) where
-      followed : Reacted d e C pending total now part (changed d part (x .values) now) held m held₂ q
+      (r : Reacts d e C used total now part mask held m held₂ q) where
+    module _ (j : ℕ) (x : Machine) (left : List Slot) (t : Without d C j x left back now part mask used total held) where
+      followed : Reacted d e C used total now part (changed d part (x .values) now) held m held₂ q
       followed =
           r (changed d part (x .values) now) (changed-low d part (x .values) now (w .tabled .counts .formed .channels)) (t .changes)
 
-      grown-out : Grown e C (rest d j x) (new d j x) held₂ q
+      grown-out : Grown e C left (new d j x) held₂ q
       grown-out =
-          let g = followed .grown (rest d j x) (t .kept) (t .count) (t .charged ∙ sym (charge-same s rules parts k (w .tabled) (rest d j x))) in
+          let g = followed .grown left (t .kept) (t .count) (left-charge j x left t) in
           let fresh : fired d now part (changed d part (x .values) now) ≡ new d j x
           = ap₂ (λ p a. fired d a p (changed d p (x .values) a)) (t .part-is) (t .after-is) in
-          subst (λ l. Grown e C (rest d j x) l held₂ q) fresh g
+          subst (λ l. Grown e C left l held₂ q) fresh g
 
       applied-is : committed d j x ≡ record { applied = true; machine = record { values = after d j x; pending = enqueue (rest d j x) (new d j x) } }
       applied-is = applied-machine d j x (sym (ap₂ (within d) (t .part-is) (t .after-is)) ∙ yes)
 
-      same-charge : charge e (enqueue (rest d j x) (new d j x)) ≡ charge d (committed d j x .machine .pending)
+      -- all that the definition has pending
+      all-pending : enqueue (standing left) (new d j x) ≡ enqueue (rest d j x) (new d j x)
+      all-pending = ap (λ l. enqueue l (new d j x)) (t .stands)
+
+      same-charge : charge e (enqueue (standing left) (new d j x)) ≡ charge d (committed d j x .machine .pending)
       same-charge =
-          charge-same s rules parts k (w .tabled) (enqueue (rest d j x) (new d j x))
+          ap (charge e) all-pending
+          ∙ charge-same s rules parts k (w .tabled) (enqueue (rest d j x) (new d j x))
           ∙ ap (λ y. charge d (y .machine .pending)) (sym applied-is)
 
       not-full : q .full ≡ false
@@ -219,230 +240,155 @@ module _ {s : List ℕ} {k : Counted.Deck} {rules parts memo : List ℕ} {held :
         where
           go : (b : Bool) → q .full ≡ b → q .full ≡ false
           go false f = f
-          go true f = absurd (omega (arith, grown-out .over f, same-charge, fine-after j x t .bounded))
+          go true f = absurd (omega (arith, grown-out .over f, same-charge, fine-after j x left t .bounded))
 
-    pub queue-low : q .pending ≤ 65535
-    queue-low =
-        let j = w .place in
-        let x = w .machine in
-        let g = grown-out j x (w .taken) in
-        let room = g .room (not-full j x (w .taken)) in
-        omega (arith, g .pending, count-bounded e (rest d j x ++ g .extra), room .1, room .2, w .room .bounded)
-
-    pub finish-applied : Finishes d e C back now part mask pending total held m held₂ now (q .pending) (q .charge) true
+    pub finish-applied : Finishes d e C back now part mask used total held m held₂ now (q .used) (q .charge) true
     finish-applied =
-        let f = followed (w .place) (w .machine) (w .taken) in
+        let f = followed (w .number) (w .machine) (w .left) (w .taken) in
         record { result = done; memo = f .memo; size = f .size }
       where
-        done : (j : ℕ) (x : Machine) → Without d C j x back now part mask pending total held
-            → Stored d C (committed d j x .machine) now (q .pending) (q .charge) held₂ × (true ≡ committed d j x .applied)
-        done j x t =
-            let c = applied-is j x t in
-            let g = grown-out j x t in
-            let room = g .room (not-full j x t) in (
-              subst (λ y. Fine d C (y .machine) → Stored d C (y .machine) now (q .pending) (q .charge) held₂) (sym c)
-                  (λ f.
-                  record {
-                    fine = f;
-                    values = t .after-is;
-                    count = g .pending ∙ ap length (room .0);
-                    kept = subst (Kept held₂) (room .0) (g .kept);
-                    charged = room .1 ∙ ap (charge e) (room .0) ∙ charge-same s rules parts k (w .tabled) (enqueue (rest d j x) (new d j x));
-                  })
-                  (fine-after j x t),
-              ap (λ y. y .applied) (sym c),
+        done : (j : ℕ) (x : Machine) (left : List Slot) → Without d C j x left back now part mask used total held
+            → CommittedTo d C j x left now (q .used) (q .charge) held₂ true
+        done j x left t =
+            let c = applied-is j x left t in
+            let g = grown-out j x left t in
+            let room = g .room (not-full j x left t) in (
+              g .extra,
+              (
+                subst (λ y. Fine d C (y .machine) → Stored d C (left ++ whole (g .extra)) (y .machine) now (q .used) (q .charge) held₂) (sym c)
+                    (λ f.
+                    record {
+                      fine = f;
+                      values = t .after-is;
+                      stands = standing-behind left (g .extra) ∙ room .0 ∙ all-pending j x left t;
+                      count = g .used;
+                      kept = g .kept;
+                      charged = room .1 ∙ ap (charge e) (room .0 ∙ all-pending j x left t)
+                          ∙ charge-same s rules parts k (w .tabled) (enqueue (rest d j x) (new d j x));
+                    })
+                    (fine-after j x left t),
+                ap (λ y. y .applied) (sym c),
+              ),
             )
 
 -- ---- what is lent, for each of the functions that a commit calls
 
-module _ {s : List ℕ} {k : Counted.Deck} {rules parts memo : List ℕ} {held : Held} {C : ℕ} {vs : List ℤ} {pending total : ℕ}
-    (w : Committing s k rules parts memo held C vs pending total) where
+module _ {s : List ℕ} {k : Counted.Deck} {rules parts memo index : List ℕ} {pool : List ℤ} {C : ℕ} {vs : List ℤ} {used total p : ℕ}
+    (a : CommittingAt s k rules parts memo (heldOf index pool) C vs used total p) where
+  abbrev w : Committing s k rules parts memo (heldOf index pool) C vs used total
+  w = a .committing
+
   pub commit-long : length vs ≡ 512
   commit-long = ap length (w .stored .values) ∙ w .stored .fine .long
 
   -- there is a place where something is pending
-  pub commit-some : 0 < pending → 1 ≤ C
-  commit-some h =
+  pub commit-some : 1 ≤ C
+  commit-some =
       let st = w .stored in
-      omega (arith, h, st .count, count-bounded (deckOf s) (w .machine .pending), st .fine .bounded)
+      let inside = standing-inside (w .slots) p (a .update) (a .place .inside) (a .place .holds) in
+      omega (arith, inside, ap length (st .stands), count-bounded (deckOf s) (w .machine .pending), st .fine .bounded)
 
-  -- the pending places lie in the pool, their number is small, and there is an index
-  pub commit-room : (10 * pending ≤ length (held .pool)) × (pending ≤ 65535) × (0 < length (held .index))
-  commit-room =
-      let st = w .stored in
-      let few : pending ≤ C = omega (arith, st .count, count-bounded (deckOf s) (w .machine .pending), st .fine .bounded) in
-      let r = w .room in
-      (omega (arith, few, r .places), omega (arith, few, r .bounded), omega (arith, r .index .some))
+  pub commit-inside : 10 * p + 10 ≤ length pool
+  commit-inside = omega (arith, a .place .inside, w .stored .kept .spread .room)
 
-module _ {s : List ℕ} {k : Counted.Deck} {rules parts memo : List ℕ} {held : Held} {C : ℕ} {vs : List ℤ} {pending total : ℕ}
-    (w : Committing s k rules parts memo held C vs pending total) (j : ℕ) (h : j < pending) where
-  pub commit-looking : Looking k rules parts memo (held .pool) pending j
+  pub commit-looking : Looking k rules parts memo pool p
   commit-looking =
       let st = w .stored in
       record {
         ready = w .ready;
         few = omega (arith, w .tabled .counts .channels, w .tabled .counts .formed .channels);
-        us = w .machine .pending;
-        laid = st .kept .laid;
-        count = st .count;
-        known = known-same s rules parts k (w .tabled) (w .machine .pending) (st .fine .known);
-        place = h;
+        slots = w .slots;
+        spread = st .kept .spread;
+        known = ap (all (known (shape rules parts k))) (st .stands) ∙ known-same s rules parts k (w .tabled) (w .machine .pending) (st .fine .known);
+        update = a .update;
+        place = a .place;
       }
 
-  module _ {m : List ℕ} {now back : List ℤ} {part n c mask : ℕ} (l : Looks (shape rules parts k) j vs (held .pool) m now back part n c mask) where
-    module _ (x : Machine) (st : Stored (deckOf s) C x vs pending total held) where
+  -- the place becomes a hole
+  abbrev out : Held
+  out = heldOf index (written pool (10 * p) (zeros 10))
+
+  out-size : SameSize (heldOf index pool) out
+  out-size = record { index = refl; pool = emptied-length (w .stored .kept .spread) p (a .place .inside) }
+
+  -- room for one less beside one hole more
+  out-room : Room (C - 1) (holes (set (w .slots) p hole)) out
+  out-room =
+      let more = holes-emptied (w .slots) p (a .update) (a .place .inside) (a .place .holds) in
+      let same : holes (w .slots) + C ≡ holes (set (w .slots) p hole) + (C - 1) = omega (arith, more, commit-some) in
+      let r = room-same out-size (w .room) in
+      record {
+        bounded = omega (arith, r .bounded, same);
+        places = omega (arith, r .places, same);
+        index = subst (λ n. Roomy n index) same (r .index);
+      }
+
+  module _ {m : List ℕ} {now back : List ℤ} {part n c mask : ℕ} (l : Looks (shape rules parts k) p vs pool m now back part n c mask) where
+    module _ (slots : List Slot) (u : Update) (x : Machine) (st : Stored (deckOf s) C slots x vs used total (heldOf index pool)) (i : At slots p u) where
+      abbrev j : ℕ
+      j = before p slots
+
       inside : j < length (x .pending)
-      inside = omega (arith, h, st .count)
+      inside = omega (arith, standing-inside slots p u (i .inside) (i .holds), ap length (st .stands))
+
+      picked : pick j (x .pending) ≡ u
+      unfolding pick
+      picked = ap (λ us. pick j us) (sym (st .stands)) ∙ standing-pick slots p u (i .inside) (i .holds) _
+
+      rest-stands : standing (set slots p hole) ≡ without j (x .pending)
+      unfolding without
+      rest-stands = standing-emptied slots p u (i .inside) (i .holds) ∙ ap (without j) (st .stands)
 
       left : (c ≤ total) × (total - c ≡ charge (deckOf s) (without j (x .pending)))
       left =
           let e = shape rules parts k in
-          let out = taken-charge e (held .pool) (x .pending) (st .kept .laid) j inside c total
-          (l .result (x .pending) (st .kept .laid) inside .2)
+          let found = l .result slots u (st .kept .spread) i .2 ∙ ap (λ u. capped (updateCharge e (u .part) (channels u))) (sym picked) in
+          let out = taken-charge e (x .pending) j inside c total found
           (st .charged ∙ sym (charge-same s rules parts k (w .tabled) (x .pending)))
           (omega (arith, st .charged, st .fine .bounded, w .room .bounded)) in
           (out .0, out .1 ∙ charge-same s rules parts k (w .tabled) (without j (x .pending)))
 
-      -- what is left without it, wherever that is held
-      without-of : {held₁ : Held} (E : ℕ) → C ≤ E + 1 → Kept held₁ (without j (x .pending))
-          → Without (deckOf s) E j x (take (2 * n) back) now part mask (pending - 1) (total - c) held₁
-      without-of E wide kept =
-          let o = l .result (x .pending) (st .kept .laid) inside in
+      -- what is left without it
+      without-of : Without (deckOf s) (C - 1) j x (set slots p hole) (take (2 * n) back) now part mask used (total - c) out
+      without-of =
+          let o = l .result slots u (st .kept .spread) i in
           record {
-            fine = fine-wider (st .fine) (E + 1) wide;
+            fine = fine-wider (st .fine) (C - 1 + 1) (omega (arith, commit-some));
             inside = inside;
-            part-is = o .0;
-            after-is = o .1 ∙ ap (assign (pick j (x .pending) .part) (pick j (x .pending) .pairs)) (st .values);
+            part-is = o .0 ∙ ap (λ u. u .part) (sym picked);
+            after-is = o .1 ∙ ap₂ (λ (u : Update) v. assign (u .part) (u .pairs) v) (sym picked) (st .values);
             undone = l .undone ∙ st .values;
-            changes = l .changes ∙ ap maskOf (ap (λ v. changed (shape rules parts k) part v now) (st .values) ∙ changed-same s rules parts k (w .tabled) part (x .values) now);
-            count = omega (arith, rest-length j (x .pending) inside, st .count);
-            kept = kept;
+            changes = l .changes ∙ ap maskOf (ap (λ v. changed (shape rules parts k) part v now) (st .values)
+                ∙ changed-same s rules parts k (w .tabled) part (x .values) now);
+            stands = rest-stands;
+            count = st .count ∙ sym (length-set slots p hole);
+            kept = kept-emptied (st .kept) p (i .inside);
             charged = left .1;
           }
 
     pub commit-left : c ≤ total
-    commit-left = left (w .machine) (w .stored) .0
+    commit-left = left (w .slots) (a .update) (w .machine) (w .stored) (a .place) .0
 
-    pub finishing-of : {held₁ : Held} (E : ℕ) → C ≤ E + 1 → Room E held₁
-        → ((us : List Update) → pending ≡ length us → Kept held us → Kept held₁ (without j us))
-        → Finishing s k rules parts m held₁ E (take (2 * n) back) now part mask (pending - 1) (total - c)
-    finishing-of E wide room keeps =
+    pub commit-finishing : Finishing s k rules parts m out (C - 1) (take (2 * n) back) now part mask used (total - c)
+    commit-finishing =
         record {
           tabled = w .tabled;
           ready = record { tables = w .ready .tables; memo = l .memo };
           acyclic = w .acyclic;
-          room = room;
           assignable = l .assignable;
-          place = j;
+          number = before p (w .slots);
           machine = w .machine;
-          taken = without-of (w .machine) (w .stored) E wide (keeps (w .machine .pending) (w .stored .count) (w .stored .kept));
+          left = set (w .slots) p hole;
+          room = out-room;
+          taken = without-of (w .slots) (a .update) (w .machine) (w .stored) (a .place);
         }
 
--- ---- place k: later places move down
-
-module _ {s : List ℕ} {k : Counted.Deck} {rules parts memo index : List ℕ} {pool : List ℤ} {C : ℕ} {vs : List ℤ} {pending total : ℕ}
-    (w : Committing s k rules parts memo (heldOf 0 index pool) C vs pending total) (j : ℕ) (h : j < pending) where
-  abbrev out : Held
-  out = heldOf 0 (set index (length index - 1) (suc j)) (removed pool pending j)
-
-  some-place : 1 ≤ C
-  some-place = commit-some w (omega arith)
-
-  out-pool : length (removed pool pending j) ≡ length pool
-  out-pool =
-      let us = w .machine .pending in
-      let st = w .stored in
-      subst (λ n. length (removed pool n j) ≡ length pool) (sym (st .count))
-      (without-long index pool us (st .kept) (w .whole) j (omega (arith, h, st .count)) (commit-room w .2))
-
-  out-index : length (out .index) ≡ length index
-  out-index = length-set index (length index - 1) (suc j)
-
-  out-room : Room (C - 1) out
-  unfolding headsOf
-  out-room =
-      let r = w .room in
-      let roomy = r .index in
-      record {
-        bounded = omega (arith, r .bounded, some-place, lost-few (holeOf (out .index)));
-        places = omega (arith, r .places, out-pool);
-        index = record {
-          some = omega (arith, roomy .some, out-index);
-          few = omega (arith, roomy .few, out-index);
-          links = omega (arith, roomy .links, out-index, some-place);
-        };
-      }
-
-  out-kept : (us : List Update) → pending ≡ length us → Kept (heldOf 0 index pool) us → Kept out (without j us)
-  out-kept us n x =
-      subst (λ n. Kept (heldOf 0 (set index (length index - 1) (suc j)) (removed pool n j)) (without j us)) (sym n)
-      (without-kept index pool us x (w .whole) j (omega (arith, h, n)) (commit-room w .2))
-
-  module _ {m : List ℕ} {now back : List ℤ} {part n c mask : ℕ} (l : Looks (shape rules parts k) j vs pool m now back part n c mask) where
-    pub commit-finishing : Finishing s k rules parts m out (C - 1) (take (2 * n) back) now part mask (pending - 1) (total - c)
-    commit-finishing = finishing-of w j h l (C - 1) (omega (arith, some-place)) out-room out-kept
-
-    pub commit-done : {m₂ : List ℕ} {held₂ : Held} {values : List ℤ} {left t : ℕ} {b : Bool}
-        → Finishes (deckOf s) (shape rules parts k) (C - 1) (take (2 * n) back) now part mask (pending - 1) (total - c) out m₂ held₂ values left t b
-        → Commits (deckOf s) (shape rules parts k) C j (heldOf 0 index pool) vs pending total m₂ held₂ values left t b
+    pub commit-done : {m₂ : List ℕ} {held₂ : Held} {values : List ℤ} {used₂ t : ℕ} {b : Bool}
+        → Finishes (deckOf s) (shape rules parts k) (C - 1) (take (2 * n) back) now part mask used (total - c) out m₂ held₂ values used₂ t b
+        → Commits (deckOf s) (shape rules parts k) C p (heldOf index pool) vs used total m₂ held₂ values used₂ t b
     commit-done f =
         record {
-          result = λ x st.
-              let r = f .result j x (without-of w j h l x st (C - 1) (omega (arith, some-place)) (out-kept (x .pending) (st .count) (st .kept))) in
-              let y = r .0 in (
-                record {
-                  fine = fine-wider (y .fine) C (omega (arith, some-place));
-                  values = y .values;
-                  count = y .count;
-                  kept = y .kept;
-                  charged = y .charged;
-                },
-                r .1,
-              );
+          result = λ slots u x st i. f .result (before p slots) x (set slots p hole) (without-of slots u x st i);
           memo = f .memo;
-          index = f .size .index ∙ out-index;
-          pool = f .size .pool ∙ out-pool;
-        }
-
--- ---- place 0: the others stay
-
-module _ {s : List ℕ} {k : Counted.Deck} {rules parts memo : List ℕ} {gone : ℕ} {index : List ℕ} {pool : List ℤ} {C : ℕ} {vs : List ℤ} {pending total : ℕ}
-    (w : Committing s k rules parts memo (heldOf gone index pool) C vs pending total) (h : 0 < pending) where
-  some-room : 1 ≤ C
-  some-room = commit-some w h
-
-  pub front-some : (1 ≤ C) × (10 ≤ length pool) × (gone ≤ 65534)
-  front-some = (some-room, omega (arith, some-room, w .room .places), omega (arith, some-room, w .room .bounded))
-
-  front-room : Room (C - 1) (heldOf (gone + 1) index (drop 10 pool))
-  front-room =
-      let r = w .room in
-      let roomy = r .index in
-      let same : gone + 1 + (C - 1) ≡ gone + C = omega (arith, some-room) in
-      record {
-        bounded = omega (arith, r .bounded, some-room);
-        places = omega (arith, r .places, length-drop 10 pool);
-        index = subst (λ n. Roomy n index) (sym same) roomy;
-      }
-
-  front-of : (us : List Update) → pending ≡ length us → Kept (heldOf gone index pool) us
-      → Kept (heldOf (gone + 1) index (drop 10 pool)) (without 0 us)
-  front-of us n x = front-kept gone index pool us x (w .whole) (omega (arith, h, n))
-
-  module _ {m : List ℕ} {now back : List ℤ} {part n c mask : ℕ} (l : Looks (shape rules parts k) 0 vs pool m now back part n c mask) where
-    pub front-finishing : Finishing s k rules parts m (heldOf (gone + 1) index (drop 10 pool)) (C - 1) (take (2 * n) back) now part mask (pending - 1) (total - c)
-    front-finishing = finishing-of w 0 h l (C - 1) (omega (arith, some-room)) front-room front-of
-
-    pub front-done : {m₂ : List ℕ} {index₂ : List ℕ} {pool₂ values : List ℤ} {left t : ℕ} {b : Bool}
-        → Finishes (deckOf s) (shape rules parts k) (C - 1) (take (2 * n) back) now part mask (pending - 1) (total - c) (heldOf (gone + 1) index (drop 10 pool)) m₂
-        (heldOf (gone + 1) index₂ pool₂) values left t b
-        → CommitsFront (deckOf s) (shape rules parts k) C (heldOf gone index pool) vs pending total m₂ (heldOf (gone + 1) index₂ pool₂) values left t b
-    front-done f =
-        record {
-          result = λ x st. f .result 0 x (without-of w 0 h l x st (C - 1) (omega (arith, some-room)) (front-of (x .pending) (st .count) (st .kept)));
-          memo = f .memo;
-          gone = refl;
-          index = f .size .index;
-          hole = f .size .hole;
-          pool = omega (arith, f .size .pool, length-drop 10 pool, w .room .places, some-room);
+          size = size-then out-size (f .size);
         }

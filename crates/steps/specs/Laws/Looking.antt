@@ -1,12 +1,10 @@
--- An update of the pool: what stands at its place, and what is left without it. Assumes nothing.
-use Prim.Native.Nat.{ℕ, suc, _+_, _*_, _-_, _/_, _^_, _<_, _≤_}
-use mathlib.Core.Path.{_≡_, refl, sym, ap, ap₂, _∙_, subst}
+-- An update of the pool: what stands at its place, and the charge without it. Assumes nothing.
+use Prim.Native.Nat.{ℕ, _*_, _-_, _^_, _<_, _≤_}
+use mathlib.Core.Path.{_≡_, sym, ap, ap₂, _∙_, subst}
 use mathlib.Core.Bool.{true}
-use mathlib.Core.List.{List, [], _∷_, _++_, append-nil}
+use mathlib.Core.List.{List}
 use native.Mathlib.Omega.{arith}
-use native.Mathlib.Nat.{le-refl}
-use lib.ListN.{length, getD, take, drop, length-take, length-drop, drop-of-length-le, set}
-use lib.Seq.{take-all, drop-at}
+use lib.ListN.{length, getD, take, drop}
 use lib.IntN.{ℤ, pos}
 use mir.Syntax.{w64}
 use mir.Val.{Fits}
@@ -20,9 +18,11 @@ use Rattle.deck.specs.Laws.Shape.{shape-R, shape-N}
 use Rattle.pool.specs.Updates.{Update, channels, assign, charge}
 use Rattle.pool.specs.Places.{place, pairsOf, updateOf}
 use Rattle.pool.specs.States.{known}
-use Rattle.pool.specs.Moves.{removed, Laid}
 use Rattle.pool.specs.Laws.Places.{short, update-back, place-length, place-well}
-use Rattle.pool.specs.Laws.Laid.{laid-removed, removed-length, laid-pick, laid-front}
+use Rattle.holes.specs.Slots as Slots
+use Rattle.holes.specs.Slots.{Slot, hole, standing, before, fits, Spread}
+use Rattle.holes.specs.Laws.Standing.{standing-pick, standing-inside}
+use Rattle.holes.specs.Laws.Spread.{fits-short, spread-at}
 use Rattle.states.specs.Answer.{Holds, PlaceGives}
 use Rattle.states.specs.Fits.{within}
 use Rattle.states.specs.Laws.Places.{Place, place-of}
@@ -31,10 +31,7 @@ use Rattle.firing.specs.Firing.{pick, without}
 use Rattle.firing.specs.Evaluated.{Assignable, Compared}
 use Rattle.firing.specs.Laws.Commits.{without-charge}
 use Rattle.passing.specs.Judged.{shape}
-use Rattle.index.specs.Index.{holeOf, Indexed, rowsOf}
-use Rattle.index.specs.Laws.Indexed.{indexed-front, indexed-taken, rows-length, rows-without}
-use Rattle.offers.specs.Queue.{heldOf, Kept}
-use Rattle.steps.specs.Commits.{Looking, Looks}
+use Rattle.steps.specs.Commits.{At, Looking, Looks}
 use Rattle.steps.specs.Laws.Applying.{held-few, held-assignable, held-long, held-update, held-back, held-undone, held-changes}
 
 -- ---- what code computes to lend the numbers of n pairs
@@ -45,59 +42,61 @@ few-fits n few = record { fits = omega arith }
 few-inside : (n : ℕ) (back : List ℤ) → n ≤ 4 → length back ≡ 8 → 2 * n ≤ length back
 few-inside n back few long = omega arith
 
-pub looks-inside : {e : Deck} {vs pool after back : List ℤ} {m : List ℕ} {j part count c mask : ℕ}
-    → Looks e j vs pool m after back part count c mask → length back ≡ 8 → 2 * count ≤ length back
+pub looks-inside : {e : Deck} {vs pool after back : List ℤ} {m : List ℕ} {p part count c mask : ℕ}
+    → Looks e p vs pool m after back part count c mask → length back ≡ 8 → 2 * count ≤ length back
 looks-inside {back} {count} l long = few-inside count back (l .few) long
 
-module _ (e : Deck) (pool : List ℤ) (us : List Update) (l : Laid pool us) (j : ℕ) (h : j < length us) where
-  -- the numbers of place j
+module _ {pool : List ℤ} {slots : List Slot} (w : Spread pool slots) (p : ℕ) (u : Update) (h : At slots p u) where
+  -- the numbers of place p
   abbrev row : List ℤ
-  row = take 10 (drop (10 * j) pool)
+  row = take 10 (drop (10 * p) pool)
 
-  taken-place : row ≡ place (pick j us)
-  unfolding pick
-  taken-place = laid-pick l j h _
+  taken-place : row ≡ place u
+  unfolding Slots.row
+  taken-place = spread-at w p (h .inside) ∙ ap Slots.row (h .holds)
 
-  pub taken-update : updateOf row ≡ pick j us
-  taken-update = ap updateOf taken-place ∙ update-back (pick j us)
+  pub taken-update : updateOf row ≡ u
+  taken-update = ap updateOf taken-place ∙ update-back u
 
-  pub taken-holds : all (known e) us ≡ true → Holds e row
-  unfolding pick
-  taken-holds k =
+  taken-short : short u ≡ true
+  taken-short = fits-short u (ap fits (sym (h .holds)) ∙ all-at fits slots p hole (w .fits) (h .inside))
+
+  -- it is one of the pending ones
+  taken-known : (e : Deck) → all (known e) (standing slots) ≡ true → known e u ≡ true
+  taken-known e k =
+      ap (known e) (sym (standing-pick slots p u (h .inside) (h .holds) u))
+      ∙ all-at (known e) (standing slots) (before p slots) u k (standing-inside slots p u (h .inside) (h .holds))
+
+  pub taken-holds : (e : Deck) → all (known e) (standing slots) ≡ true → Holds e row
+  taken-holds e k =
       subst (Holds e) (sym taken-place)
       (record {
-        long = place-length (pick j us) (all-at short us j _ (l .short) h);
-        written = place-well (pick j us);
-        known = ap (known e) (update-back (pick j us)) ∙ all-at (known e) us j _ k h;
+        long = place-length u taken-short;
+        written = place-well u;
+        known = ap (known e) (update-back u) ∙ taken-known e k;
       })
 
-  pub taken-laid : Laid (removed pool (length us) j) (without j us)
-  unfolding without
-  taken-laid = laid-removed l j h
-
-  pub taken-charge : (c total : ℕ) → c ≡ capped (updateCharge e (pick j us .part) (channels (pick j us))) → total ≡ charge e us → total ≤ 65535
-      → (c ≤ total) × (total - c ≡ charge e (without j us))
-  taken-charge c total same t low =
-      let whole = without-charge e j us h in
-      (omega (arith, same, whole, t, low), omega (arith, same, whole, t, low))
+-- the charge without update j
+pub taken-charge : (e : Deck) (us : List Update) (j : ℕ) → j < length us → (c total : ℕ)
+    → c ≡ capped (updateCharge e (pick j us .part) (channels (pick j us))) → total ≡ charge e us → total ≤ 65535
+    → (c ≤ total) × (total - c ≡ charge e (without j us))
+taken-charge e us j h c total same t low =
+    let whole = without-charge e j us h in
+    (omega (arith, same, whole, t, low), omega (arith, same, whole, t, low))
 
 -- the same for what the code is lent
-module _ {k : Counted.Deck} {rules parts memo : List ℕ} {pool : List ℤ} {pending j : ℕ}
-    (w : Looking k rules parts memo pool pending j) where
+module _ {k : Counted.Deck} {rules parts memo : List ℕ} {pool : List ℤ} {p : ℕ} (w : Looking k rules parts memo pool p) where
   abbrev e : Deck
   e = shape rules parts k
 
   abbrev numbers : List ℤ
-  numbers = take 10 (drop (10 * j) pool)
+  numbers = take 10 (drop (10 * p) pool)
 
-  inside : j < length (w .us)
-  inside = omega (arith, w .place, w .count)
-
-  pub looking-place : length pool * 4 < 2 ^ 63 → Place pool j
-  looking-place small = place-of pool j (length (w .us)) inside (w .laid .room) small
+  pub looking-place : length pool * 4 < 2 ^ 63 → Place pool p
+  looking-place small = place-of pool p (length (w .slots)) (w .place .inside) (w .spread .room) small
 
   pub looking-holds : Holds e numbers
-  looking-holds = taken-holds e pool (w .us) (w .laid) j inside (w .known)
+  looking-holds = taken-holds (w .spread) p (w .update) (w .place) e (w .known)
 
   looking-few : (N e ≤ 16) × (R e ≤ 32)
   looking-few =
@@ -129,18 +128,18 @@ module _ {k : Counted.Deck} {rules parts memo : List ℕ} {pool : List ℤ} {pen
       → count ≡ within 5 (getD numbers 1 (pos 0))
       → Compared part (take (2 * count) (drop 2 numbers)) vs back mask
       → after ≡ assign part (pairsOf (take (2 * count) (drop 2 numbers))) vs
-      → Looks e j vs pool m after back part count c mask
-  looks vs {c} {mask} {part} {count} {m} {after} {back} long g p n f a =
+      → Looks e p vs pool m after back part count c mask
+  looks vs {c} {mask} {part} {count} {m} {after} {back} long g q n f a =
       let h = looking-holds in
-      let part-is : part ≡ updateOf numbers .part = p ∙ looking-part in
+      let part-is : part ≡ updateOf numbers .part = q ∙ looking-part in
       let few = looking-few in
       let found : Compared (updateOf numbers .part) pairs vs back mask = rw (n, part-is) at f in
       let after-is : after ≡ assign (updateOf numbers .part) (updateOf numbers .pairs) vs =
       a ∙ ap₂ (λ q k. assign q (pairsOf (take (2 * k) (drop 2 numbers))) vs) part-is n
       ∙ ap (λ l. assign (updateOf numbers .part) l vs) (held-update e numbers h) in
       record {
-        result = λ us l i.
-            let u = taken-update e pool us l j i in (
+        result = λ slots u l i.
+            let u = taken-update l p u i in (
               part-is ∙ ap (λ u. u .part) u,
               after-is ∙ ap (λ u. assign (u .part) (u .pairs) vs) u,
               g .value ∙ ap (λ u. capped (updateCharge e (u .part) (channels u))) u,
@@ -151,47 +150,3 @@ module _ {k : Counted.Deck} {rules parts memo : List ℕ} {pool : List ℤ} {pen
         changes = rw (part-is, after-is) (held-changes e numbers h (few .1) vs found (few .0) long);
         memo = g .memo;
       }
-
--- ---- the others
-
--- place j is taken out, and later places move down
-module _ (index : List ℕ) (pool : List ℤ) (us : List Update) (x : Kept (heldOf 0 index pool) us) (whole : holeOf index ≡ 0) (j : ℕ)
-    (h : j < length us) (some : 0 < length index) where
-  pub without-kept : Kept (heldOf 0 (set index (length index - 1) (suc j)) (removed pool (length us) j)) (without j us)
-  unfolding without
-  without-kept =
-      record {
-        laid = laid-removed (x .laid) j h;
-        indexed =
-            subst (λ ks. Indexed 0 ks (set index (length index - 1) (suc j))) (sym (rows-without j us))
-            (indexed-taken (x .indexed) whole j (omega (arith, rows-length us, h)) some);
-      }
-
-  pub without-long : length (removed pool (length us) j) ≡ length pool
-  without-long = removed-length (x .laid) j h
-
-front-row : (us : List Update) → 0 < length us → rowsOf us ≡ place (pick 0 us) ∷ rowsOf (drop 1 us)
-unfolding rowsOf pick
-front-row [] h = absurd (omega arith)
-front-row (u ∷ us) h = refl
-
--- the one at the front is gone, and the others stay
-pub front-kept : (gone : ℕ) (index : List ℕ) (pool : List ℤ) (us : List Update) → Kept (heldOf gone index pool) us → holeOf index ≡ 0
-    → 0 < length us → Kept (heldOf (gone + 1) index (drop 10 pool)) (without 0 us)
-unfolding without
-front-kept gone index pool us x whole h =
-    record {
-      laid = laid-front us (x .laid) h;
-      indexed = indexed-front whole (subst (λ ks. Indexed gone ks index) (front-row us h) (x .indexed));
-    }
-
--- ---- a tail of the pool, as it is lent and as it comes back
-
-pub tail-lent : (p : List ℤ) (at : ℕ) → take (length p - at) (drop at p) ≡ drop at p
-tail-lent p at = take-all (length p - at) (drop at p) (simp length-drop (le-refl _))
-
-pub tail-back : (p t : List ℤ) (at : ℕ) → at ≤ length p → drop at (take at p ++ (t ++ drop (length p - at) (drop at p))) ≡ t
-tail-back p t at h =
-    drop-at (take at p) (t ++ drop (length p - at) (drop at p)) at (simp length-take (omega arith))
-    ∙ ap (λ r. t ++ r) (drop-of-length-le (drop at p) {i = length p - at} (simp length-drop (le-refl _)))
-    ∙ append-nil t

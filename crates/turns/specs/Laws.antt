@@ -1,0 +1,3 @@
+-- Laws of commits of one place.
+pub mod Turning
+pub mod Beginnings

@@ -1,0 +1,3 @@
+-- Commits of one place, again and again, on what was tested.
+pub mod Turns
+pub mod Laws
