@@ -22,6 +22,10 @@
  *     14  the place is not pending                                            0
  *     15  the section number is above 2                                       0
  *     16  the budget is above 65,535                                          0
+ *     17  the input would leave its part outside its limit                    0
+ *
+ * Where several hold, one of 1 to 4 goes before all others, the first in reading order; the rest go by rising number, but 17
+ * comes after 12 and before 13.
  *
  * Memory. `deck` and its length are the deck's bytes. `pool` and its length are the lent places, ten numbers each: part,
  * assignment count, four pairs of channel and value. `values` (channel c of part p at 32 * p + c) and `*pending` are the state.
@@ -74,7 +78,8 @@ uint32_t reaction_start(const uint8_t *deck, size_t deck_length, int32_t *pool, 
                         int32_t values[REACTION_VALUES], uint32_t *pending, uint32_t answer[REACTION_ANSWER]);
 
 /* Sets channels of a part: `pairs` is channel, value, channel, value, and pairs_length 4 for these two pairs. answer[1]: the
- * charge added. */
+ * charge added. With all pairs set the part must be within its limit, or the call is refused by 17; what follows from the
+ * input, at this part or at others, plays no role in that. */
 uint32_t reaction_input(const uint8_t *deck, size_t deck_length, int32_t *pool, size_t pool_length,
                         int32_t values[REACTION_VALUES], uint32_t *pending, uint32_t part, const int32_t *pairs,
                         size_t pairs_length, uint32_t answer[REACTION_ANSWER]);

@@ -67,7 +67,8 @@ unsafe extern "C" {
         answer: *mut u32,
     ) -> u32;
 
-    /// Sets channels of a part: channel, value, channel, value. The answer: place; charge added; zeros.
+    /// Sets channels of a part: channel, value, channel, value; refused where that would leave the part outside its
+    /// limit. The answer: place; charge added; zeros.
     pub fn reaction_input(
         deck: *const u8,
         deck_length: usize,
@@ -216,7 +217,8 @@ impl Memory {
         Returned { number, answer }
     }
 
-    /// Sets channels of a part: channel, value, channel, value.
+    /// Sets channels of a part: channel, value, channel, value. Where the part would be outside its limit with all
+    /// of them set, nothing is.
     ///
     /// ```
     /// let deck = include_bytes!("../../crates/replay/data/d.deck");
@@ -224,6 +226,8 @@ impl Memory {
     /// memory.start(deck);
     /// assert_eq!(memory.input(deck, 0, &[0, 4]).answer, [0, 2, 0, 0, 0]);
     /// assert_eq!(memory.input(deck, 0, &[0]).number, 12);
+    /// // Part 1 keeps channel 2 below 10.
+    /// assert_eq!(memory.input(deck, 1, &[2, 10]).number, 17);
     /// ```
     pub fn input(&mut self, deck: &[u8], part: u32, pairs: &[i32]) -> Returned {
         let mut answer = [0; ANSWER];

@@ -3,7 +3,7 @@
 use std::error::Error;
 use std::fmt;
 
-/// Why a call declined: a number from 1 to 16, and where.
+/// Why a call declined: a number from 1 to 17, and where.
 ///
 /// ```
 /// use reaction::Deck;
@@ -21,8 +21,8 @@ pub struct Refusal {
     pub place: u32,
 }
 
-/// What the refusals 1 to 16 say.
-const NAMES: [&str; 16] = [
+/// What the refusals 1 to 17 say.
+const NAMES: [&str; 17] = [
     "the deck ends inside a field or expression",
     "a number of the deck is out of its range, or a list does not rise",
     "an expression breaks its rules",
@@ -39,6 +39,7 @@ const NAMES: [&str; 16] = [
     "the place is not pending",
     "the section number is above 2",
     "the budget is above 65,535",
+    "the input would leave its part outside its limit",
 ];
 
 impl Refusal {

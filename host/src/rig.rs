@@ -102,6 +102,9 @@ impl Rig {
 
     /// Sets channels of a part to values; rules fire for those that change. Returns the charge added.
     ///
+    /// Values that would leave the part outside its limit are refused by 17, all of them: a control that is dragged
+    /// stays where it was.
+    ///
     /// ```
     /// # use reaction::{Deck, Rig};
     /// let deck = Deck::check(include_bytes!("../../crates/replay/data/d.deck"))?;
@@ -109,6 +112,10 @@ impl Rig {
     /// assert_eq!(rig.input(0, &[(0, 4)]), Ok(2));
     /// assert_eq!(rig.input(2, &[(0, 4)]).unwrap_err().number, 11);
     /// assert_eq!(rig.input(0, &[(3, 4)]).unwrap_err().number, 12);
+    /// // Part 1 keeps channel 2 below 10.
+    /// assert_eq!(rig.input(1, &[(2, 9)]), Ok(0));
+    /// assert_eq!(rig.input(1, &[(2, 10)]).unwrap_err().number, 17);
+    /// assert_eq!(rig.value(1, 2), Some(9));
     /// # Ok::<(), reaction::Refusal>(())
     /// ```
     pub fn input(&mut self, part: u32, pairs: &[(u32, i32)]) -> Result<u32, Refusal> {

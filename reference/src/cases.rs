@@ -100,9 +100,25 @@ impl Case {
             Case::Memory { answer, .. } => refused(answer).into_iter().collect(),
         }
     }
+
+    fn is_accepted(&self) -> bool {
+        self.refusals().is_empty()
+    }
+
+    /// Whether this word is an answer in a list of calls.
+    pub fn run_answers(&self, word: &str) -> bool {
+        let said = |answer: &Answer| answer.to_string().split(' ').next() == Some(word);
+        matches!(self, Case::Run { answers, .. } if answers.iter().any(said))
+    }
 }
 
-/// So many cases. In each forty every refusal is aimed at once.
+/// Far more than are needed: an engine that never gives what is wanted must not be tried for ever.
+const MOST_TRIES: usize = 100_000;
+
+/// The answers of calls other than refusals; where one is applied, an input was accepted before.
+const ANSWERS: [&str; 4] = ["applied", "discarded", "settled", "spent"];
+
+/// So many cases. In each forty is every refusal and every other answer.
 pub fn generate(seed: u64, count: usize, size: &Size) -> Vec<Case> {
     let mut maker = Maker { random: Random::new(seed), size: *size };
     (0..count).map(|number| maker.case(number % 40)).collect()
@@ -116,14 +132,19 @@ struct Maker {
 impl Maker {
     fn case(&mut self, turn: usize) -> Case {
         match turn {
-            0..=15 => self.aimed(turn as u32 + 1),
-            16..=29 => {
+            0..=16 => self.aimed(turn as u32 + 1),
+            17..=20 => {
+                let word = ANSWERS[turn - 17];
+                self.until(|maker| maker.run(Kind::Rich), |case| case.run_answers(word))
+            }
+            21..=29 => {
                 let kind = self.random.pick(&[Kind::Rich, Kind::Rich, Kind::Valid]);
                 self.run(kind)
             }
             30..=35 => self.memory(Kind::Rich),
-            36 => self.section(Kind::Valid),
-            37 => self.start(Kind::Valid),
+            36 => self.until(|maker| maker.section(Kind::Valid), Case::is_accepted),
+            37 => self.until(|maker| maker.start(Kind::Valid), Case::is_accepted),
+            38 => self.check(Kind::Valid),
             _ => {
                 let kind = self.random.pick(&[Kind::Valid, Kind::Rich, Kind::Cyclic, Kind::Damaged]);
                 self.check(kind)
@@ -131,14 +152,16 @@ impl Maker {
         }
     }
 
-    /// A case with this refusal: tried until it occurs.
+    /// A case that has what is wanted: tried until it occurs.
+    fn until(&mut self, make: impl Fn(&mut Maker) -> Case, wanted: impl Fn(&Case) -> bool) -> Case {
+        let found = (0..MOST_TRIES).map(|_| make(self)).find(wanted);
+        found.expect("what is wanted occurs within the most tries")
+    }
+
+    /// A case with this refusal.
     fn aimed(&mut self, number: u32) -> Case {
-        loop {
-            let case = self.attempt(number);
-            if case.refusals().iter().any(|refusal| refusal.number == number) {
-                return case;
-            }
-        }
+        let refused = |case: &Case| case.refusals().iter().any(|refusal| refusal.number == number);
+        self.until(|maker| maker.attempt(number), refused)
     }
 
     fn attempt(&mut self, number: u32) -> Case {
@@ -150,6 +173,8 @@ impl Maker {
             refusal::SECTION => self.section(Kind::Rich),
             refusal::POOL_LENGTH => self.any_call(Kind::Rich),
             refusal::BAD_STATE => self.memory(Kind::Rich),
+            // By hand, a part can be outside its limit before the input.
+            refusal::INPUT_OUTSIDE_LIMIT if self.random.chance(50) => self.memory(Kind::Rich),
             _ => self.run(Kind::Rich),
         }
     }

@@ -198,14 +198,19 @@ impl Engine {
         Machine::new(values)
     }
 
-    /// Tests the input (11, 12), sets the values and fires.
+    /// Tests the input (11, 12, 17), sets the values and fires.
     fn input(&self, machine: &mut Machine, part: u32, pairs: &[i32]) -> Result<(), Refusal> {
         let part = part as usize;
         require(part < self.deck.parts.len(), Refusal::new(refusal::UNKNOWN_PART))?;
         let list = self.input_list(pairs).ok_or(Refusal::new(refusal::INPUT_LIST))?;
         let changed = assign(machine, part, list);
+        require(self.within_limit(machine, part), Refusal::new(refusal::INPUT_OUTSIDE_LIMIT))?;
         self.fire(machine, part, changed);
         Ok(())
+    }
+
+    fn within_limit(&self, machine: &Machine, part: usize) -> bool {
+        self.deck.parts[part].limit.holds(machine.part(part), &[])
     }
 
     /// 1 to 32 pairs of known, different channels.
@@ -230,7 +235,7 @@ impl Engine {
         let part = update.part();
         let before = machine.values;
         let changed = assign(machine, part, update.pairs().iter().copied());
-        let applied = self.deck.parts[part].limit.holds(machine.part(part), &[]);
+        let applied = self.within_limit(machine, part);
         if applied {
             self.fire(machine, part, changed);
         } else {

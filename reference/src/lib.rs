@@ -1,6 +1,6 @@
 //! An independent implementation of the reaction engine: decks, charges and commits.
 //!
-//! It is written from document 01 alone, for comparison with the proved one:
+//! It is written from documents 01 and 02 alone, for comparison with the proved one:
 //! plain data structures, one function for each sentence where that is possible.
 
 pub mod cases;

@@ -1,4 +1,4 @@
-//! Refusals: the numbers of "When a call declines", by name.
+//! Refusals: their numbers by name. Document 01 has 1 to 16, document 02 the others.
 
 /// A refusal is number and place.
 #[derive(Clone, Copy, Debug, PartialEq, Eq, Hash)]
@@ -23,6 +23,7 @@ pub const INPUT_CHARGE: u32 = 13;
 pub const PLACE: u32 = 14;
 pub const SECTION: u32 = 15;
 pub const BUDGET: u32 = 16;
+pub const INPUT_OUTSIDE_LIMIT: u32 = 17;
 
 impl Refusal {
     /// Places are deck offsets (a fault shows within 42,884 bytes), channels or

@@ -1,12 +1,13 @@
 //! The texts of calls that are stored beside the proved `replay` for its tests. Most have the
 //! answer of each line written down here; what is left in memory is computed.
 
+use crate::deck::{Deck, Rule};
+use crate::expression::{Number, Truth};
 use crate::generate::scripts::script;
 use crate::generate::{deck, Kind, Size};
 use crate::random::Random;
 use crate::script::replay;
 use crate::stored::{assign, copy, deck_d, deck_d_with, deck_of};
-use crate::{deck::Rule, expression::Number};
 
 /// A deck by its name.
 pub struct NamedDeck {
@@ -24,7 +25,7 @@ pub struct StoredText {
 }
 
 /// Lines of calls, each with ` => ` and its answer where it prints one.
-const BY_HAND: [(&str, &str, &str); 11] = [
+const BY_HAND: [(&str, &str, &str); 14] = [
     ("p8", "d", "start 20 => started\ninput 0 0 4 => added 2\ncommit 0 => applied 1\ncommit 0 => applied 0\n"),
     ("p8-one-place", "d", "start 10 => started\ninput 0 0 4 => refused 13 0\n"),
     ("p9", "d", "start 20 => started\ninput 0 0 9 => added 2\ncommit 0 => applied 1\ncommit 0 => discarded 0\n"),
@@ -42,6 +43,9 @@ const BY_HAND: [(&str, &str, &str); 11] = [
     ("refused-calls", "d", REFUSED_CALLS),
     ("refused-deck", "cut", REFUSED_DECK),
     ("damaged-memory", "d", DAMAGED_MEMORY),
+    ("limit", "d", LIMIT),
+    ("outside-by-hand", "d", OUTSIDE_BY_HAND),
+    ("whole-part", "limits", WHOLE_PART),
     ("full-pool", "chain", FULL_POOL),
     ("settle", "chain", SETTLE),
     ("sections", "d", "section 0 => section 0 4\nsection 1 => section 4 33\nsection 2 => section 33 75\n"),
@@ -66,6 +70,7 @@ input 0 3 1 => refused 12 0
 input 0 -1 1 => refused 12 0
 input 0 -2147483648 1 => refused 12 0
 input 0 0 1 1 1 2 1 0 1 1 1 2 1 0 1 1 1 2 1 0 1 1 1 2 1 0 1 1 1 2 1 0 1 1 1 2 1 0 1 1 1 2 1 0 1 1 1 2 1 0 1 1 1 2 1 0 1 1 1 2 1 0 1 1 1 2 1 => refused 12 0
+input 1 2 10 => refused 17 0
 commit 0 => refused 14 0
 input 0 0 1 => added 2
 commit 1 => refused 14 0
@@ -137,8 +142,77 @@ pending 2
 settle 65535 => settled 2
 value 34 11
 commit 0 => refused 14 0
+input 1 0 1 => refused 17 0
+value 34 9
 input 1 0 1 => added 2
 settle 9 => settled 2
+";
+
+/// Part 1 of deck D keeps c below 10, whatever the firing leads to.
+const LIMIT: &str = "\
+start 20 => started
+input 1 2 9 => added 0
+input 1 2 10 => refused 17 0
+input 1 2 2147483647 => refused 17 0
+input 1 2 -2147483648 => added 0
+input 2 2 10 => refused 11 0
+input 1 2 10 2 10 => refused 12 0
+input 1 2 10 3 0 => refused 12 0
+input 0 2 10 => added 0
+input 1 1 20 => added 1
+input 1 2 10 1 30 => refused 17 0
+input 1 1 30 2 9 => added 1
+input 1 1 40 2 10 => refused 17 0
+input 1 1 40 2 9 => refused 13 0
+commit 0 => discarded 1
+settle 9 => settled 1
+start 10 => started
+input 1 0 4 2 10 => refused 17 0
+input 1 0 4 2 9 => refused 13 0
+input 1 0 0 2 9 => added 0
+";
+
+/// A good state whose part 1 is outside its limit: an input or a commit there brings it within, or
+/// it changes nothing.
+const OUTSIDE_BY_HAND: &str = "\
+start 40 => started
+value 34 12
+settle 0 => settled 0
+input 1 0 1 => refused 17 0
+input 1 2 12 => refused 17 0
+input 1 0 1 2 10 => refused 17 0
+input 0 0 4 => added 2
+commit 0 => discarded 0
+input 1 2 3 => added 0
+input 1 0 1 => added 2
+settle 9 => settled 2
+value 34 12
+pool 0 1
+pool 1 1
+pool 2 2
+pool 3 9
+pending 1
+input 1 1 0 => refused 17 0
+commit 0 => applied 0
+input 1 1 5 => added 1
+commit 0 => applied 0
+";
+
+/// Limits on several channels, at the ends of the range too.
+const WHOLE_PART: &str = "\
+start 10 => started
+input 0 0 12 1 -5 => added 0
+input 0 1 -2 => refused 17 0
+input 0 1 -3 => added 0
+input 0 1 4 0 6 => refused 17 0
+input 0 1 4 0 5 => added 0
+input 0 2 1 1 5 => refused 17 0
+input 0 0 2147483647 1 1 => refused 17 0
+input 0 0 2147483647 1 -2147483648 => added 0
+input 1 2 -2147483648 => refused 17 0
+input 1 2 -2147483647 => added 0
+input 1 2 2147483647 => added 0
+input 1 0 100 1 100 => added 0
 ";
 
 const FULL_POOL: &str = "\
@@ -196,11 +270,23 @@ pub fn decks() -> Vec<NamedDeck> {
         named("cut", deck_d()[..74].to_vec()),
         named("cyclic", deck_d_with(&[(12, 0)])),
         named("chain", chain.encode().bytes),
+        named("limits", limits().encode().bytes),
     ];
     for (name, kind, seed) in GENERATED {
         decks.push(named(name, deck(kind, &mut Random::new(seed), Size::FULL)));
     }
     decks
+}
+
+/// Part 0 keeps a + b below 10, and part 1 c above c - 1, which clamps at the least number.
+fn limits() -> Deck {
+    let own = |channel| Number::Own(channel).into();
+    let mut deck = deck_of(3, Vec::new(), &[&[], &[]]);
+    let (sum, one_less) =
+        (Number::Sum(own(0), own(1)), Number::Difference(own(2), Number::Literal(1).into()));
+    deck.parts[0].limit = Truth::Less(sum.into(), Number::Literal(10).into());
+    deck.parts[1].limit = Truth::Less(one_less.into(), own(2));
+    deck
 }
 
 /// Generated decks; each has a generated text under the same name.

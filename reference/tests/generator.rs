@@ -1,14 +1,19 @@
 //! The generators reach what they are for, and no input makes a call panic.
 
+mod common;
+
+use common::{fresh, is_at_edge, parts_within, with_pairs};
 use reference::cases::{self, Case};
 use reference::deck::{Deck, Field};
-use reference::engine::{check_line, Answer};
+use reference::engine::{check, check_line, Answer, Call};
+use reference::generate::calls::{any, Known};
 use reference::generate::decks::rich;
 use reference::generate::faults::damage;
 use reference::generate::scripts::script;
 use reference::generate::{deck, Kind, Size};
 use reference::random::Random;
-use reference::script::replay;
+use reference::refusal::INPUT_OUTSIDE_LIMIT;
+use reference::script::{parse, replay, Host, Line};
 use reference::{commit, input, section, settle, start, State};
 use std::collections::{BTreeMap, BTreeSet, HashSet};
 
@@ -98,7 +103,88 @@ fn scripts_reach_every_answer() {
         }
     }
     let words = ["added", "applied", "discarded", "settled", "spent", "section", "started", "unreadable"];
-    assert_eq!(missing(&counts, &words, 1..=16), Vec::<String>::new(), "{counts:?}");
+    assert_eq!(missing(&counts, &words, 1..=17), Vec::<String>::new(), "{counts:?}");
+}
+
+/// How inputs of ordinary lists of calls end.
+#[derive(Debug, Default)]
+struct Inputs {
+    all: usize,
+    accepted: usize,
+    outside: usize,
+    /// One step of a channel from being refused by 17.
+    accepted_at_edge: usize,
+    /// One step of a channel from being within the limit.
+    outside_at_edge: usize,
+}
+
+impl Inputs {
+    /// Counts an input that found these values at its part, and what it was answered.
+    fn count(&mut self, deck: &Deck, values: &[i32], part: u32, pairs: &[i32], answer: &Answer) {
+        self.all += 1;
+        let at_edge = || is_at_edge(&deck.parts[part as usize].limit, &with_pairs(values, pairs), pairs);
+        match answer {
+            Answer::Added(_) => {
+                self.accepted += 1;
+                self.accepted_at_edge += usize::from(at_edge());
+            }
+            Answer::Refused(refusal) if refusal.number == INPUT_OUTSIDE_LIMIT => {
+                self.outside += 1;
+                self.outside_at_edge += usize::from(at_edge());
+            }
+            _ => {}
+        }
+    }
+}
+
+#[test]
+fn most_inputs_are_accepted_and_many_stand_at_the_edge_of_a_limit() {
+    for (name, kind) in [("rich", Kind::Rich), ("valid", Kind::Valid)] {
+        let random = &mut Random::new(25);
+        let mut inputs = Inputs::default();
+        for _ in 0..600 {
+            let bytes = deck(kind, random, Size { channels: 8, rules: 9, parts: 4, expression: 20 });
+            let (deck, _) = Deck::read(&bytes).unwrap();
+            let known = Known::of(&bytes);
+            let charge = check(&bytes).unwrap().charge as usize;
+            let mut host = fresh(&bytes, random.between(10, (8 * charge).clamp(20, 2000)));
+            for _ in 0..30 {
+                let call = any(random, &known, &host);
+                let before = host.state.values;
+                let answer = host.call(&call);
+                if let Call::Input { part, pairs } = &call {
+                    let values = before.chunks(32).nth(*part as usize).unwrap_or(&[]);
+                    inputs.count(&deck, values, *part, pairs, &answer);
+                }
+            }
+        }
+        assert!(10 * inputs.accepted > 6 * inputs.all, "{name}: {inputs:?}");
+        assert!(12 * inputs.outside > inputs.all, "{name}: {inputs:?}");
+        assert!(15 * inputs.accepted_at_edge > inputs.all, "{name}: {inputs:?}");
+        assert!(25 * inputs.outside_at_edge > inputs.all, "{name}: {inputs:?}");
+    }
+}
+
+#[test]
+fn scripts_have_parts_that_are_outside_their_limits_by_hand() {
+    let random = &mut Random::new(26);
+    let mut counts = BTreeMap::new();
+    for _ in 0..800 {
+        let bytes = deck(Kind::Rich, random, Size { channels: 8, rules: 9, parts: 4, expression: 20 });
+        let (deck, _) = Deck::read(&bytes).unwrap();
+        let mut host = Host::new(&bytes);
+        for line in script(random, &bytes, 40).lines() {
+            let outside = !parts_within(&deck, &host.state.values);
+            let Some(line) = parse(line.as_bytes()) else { continue };
+            let printed = host.perform(&line);
+            if outside && matches!(line, Line::Call(_)) {
+                count(&mut counts, &printed.0.unwrap_or_default());
+            }
+        }
+    }
+    for answer in ["added", "applied", "discarded", "settled", "spent", "refused 17"] {
+        assert!(counts.get(answer).is_some_and(|&count| count > 10), "{answer}: {counts:?}");
+    }
 }
 
 #[test]
@@ -115,21 +201,29 @@ fn the_same_seed_gives_the_same() {
 }
 
 #[test]
-fn cases_reach_every_refusal() {
-    for seed in [0, 1, 2] {
-        let cases = cases::generate(seed, 300, &cases::Size::SMALL);
-        let numbers: BTreeSet<u32> =
-            cases.iter().flat_map(Case::refusals).map(|refusal| refusal.number).collect();
-        assert_eq!(numbers, (1..=16).collect());
-        let mut applied = 0;
-        for case in &cases {
-            assert_case(case);
-            if let Case::Run { answers, .. } = case {
-                applied += answers.iter().filter(|answer| matches!(answer, Answer::Committed(_))).count();
+fn each_forty_cases_have_every_answer() {
+    let mut committed = 0;
+    for seed in 0..10 {
+        for cases in cases::generate(seed, 120, &cases::Size::SMALL).chunks(40) {
+            let refusals = cases.iter().flat_map(Case::refusals).map(|refusal| refusal.number);
+            assert_eq!(refusals.collect::<BTreeSet<u32>>(), (1..=17).collect(), "seed {seed}");
+            for word in ["added", "applied", "discarded", "settled", "spent"] {
+                assert!(cases.iter().any(|case| case.run_answers(word)), "seed {seed}: {word}");
+            }
+            let accepted = |wanted: fn(&Case) -> bool| cases.iter().any(wanted);
+            assert!(accepted(|case| matches!(case, Case::Check { line, .. } if line.starts_with("passed"))));
+            assert!(accepted(|case| matches!(case, Case::Section { answer: Ok(_), .. })));
+            assert!(accepted(|case| matches!(case, Case::Start { answer: Ok(()), .. })));
+            for case in cases {
+                assert_case(case);
+                if let Case::Run { answers, .. } = case {
+                    committed +=
+                        answers.iter().filter(|answer| matches!(answer, Answer::Committed(_))).count();
+                }
             }
         }
-        assert!(applied > 50, "{applied}");
     }
+    assert!(committed > 300, "{committed}");
 }
 
 /// A case keeps its size, and a refusal changes nothing.

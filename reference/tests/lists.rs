@@ -3,13 +3,14 @@
 mod common;
 
 use common::model::{holds, rule_charge, Model};
-use common::{copy, deck_of, fresh};
+use common::{copy, deck_of, fresh, is_at_edge, parts_within};
 use reference::deck::{Deck, Kind as RuleKind, Rule};
 use reference::engine::{check, Answer, Call, Committed, Settled};
 use reference::expression::{Number, Truth};
 use reference::generate::calls::{any, Known};
 use reference::generate::{deck, Kind, Size};
 use reference::random::Random;
+use reference::refusal::INPUT_OUTSIDE_LIMIT;
 use reference::script::Host;
 
 const SMALL: Size = Size { channels: 8, rules: 9, parts: 4, expression: 20 };
@@ -135,6 +136,40 @@ fn sentences_about_lists() {
     }
 }
 
+#[test]
+fn after_every_call_every_part_is_within_its_limit() {
+    let random = &mut Random::new(5);
+    let (mut refused, mut accepted_at_edge, mut discarded) = (0, 0, 0);
+    for round in 0..1000 {
+        let kind = random.pick(&[Kind::Rich, Kind::Rich, Kind::Valid]);
+        let bytes = deck(kind, random, SMALL);
+        let (deck, _) = Deck::read(&bytes).unwrap();
+        let known = Known::of(&bytes);
+        let places = places(random, check(&bytes).unwrap().charge).min(400);
+        let mut host = fresh(&bytes, places);
+        for _ in 0..30 {
+            let call = any(random, &known, &host);
+            let answer = host.call(&call);
+            assert!(parts_within(&deck, &host.state.values), "round {round}, {call:?}");
+            match (call, answer) {
+                (Call::Input { part, pairs }, Answer::Added(_)) => {
+                    let values = &host.state.values[32 * part as usize..][..32];
+                    let at_edge = is_at_edge(&deck.parts[part as usize].limit, values, &pairs);
+                    accepted_at_edge += u32::from(at_edge);
+                }
+                (_, Answer::Refused(refusal)) => refused += u32::from(refusal.number == INPUT_OUTSIDE_LIMIT),
+                (_, Answer::Committed(Committed { applied, .. })) => discarded += u32::from(!applied),
+                _ => {}
+            }
+        }
+    }
+    // Else nothing came near a limit, and the sentence says nothing.
+    assert!(
+        refused > 1000 && accepted_at_edge > 1000 && discarded > 100,
+        "{refused} {accepted_at_edge} {discarded}"
+    );
+}
+
 /// Commits place 0 one by one; each applied one must leave its part within its limit.
 fn commit_one_by_one(host: &mut Host, deck: &Deck, budget: u32) -> u32 {
     let mut commits = 0;
@@ -233,14 +268,14 @@ fn a_part_outside_its_limit_is_repaired_by_a_commit() {
     abstract_deck.parts[0].limit = Truth::Less(Number::Own(1).into(), Number::Literal(5).into());
     let deck = abstract_deck.encode().bytes;
     let mut host = fresh(&deck, 5);
-    // The input is accepted though it leaves the part outside its limit.
-    assert_eq!(host.call(&Call::Input { part: 0, pairs: vec![1, 50] }), Answer::Added(0));
-    for (value, applied) in [(9, false), (3, true)] {
+    for value in [9, 3] {
         assert_eq!(host.call(&Call::Input { part: 0, pairs: vec![0, value] }), Answer::Added(1));
-        assert_eq!(
-            host.call(&Call::Commit { place: 0 }),
-            Answer::Committed(Committed { applied, charge: 0 })
-        );
+    }
+    // No call leads outside the limit; the good state is written by hand.
+    host.state.values[1] = 50;
+    for (applied, charge) in [(false, 1), (true, 0)] {
+        let committed = host.call(&Call::Commit { place: 0 });
+        assert_eq!(committed, Answer::Committed(Committed { applied, charge }));
     }
     assert_eq!(host.state.values[..2], [3, 3]);
 }

@@ -1,4 +1,4 @@
-//! Every refusal, 1 to 16, with its number and place, and the order among them.
+//! Every refusal, 1 to 17, with its number and place, and the order among them.
 
 mod common;
 
@@ -391,6 +391,110 @@ fn number_13_counts_no_equal_update() {
     assert_eq!(host.call(&input(0, &[0, 3, 1, 3])), Answer::Added(1));
     assert_eq!(host.call(&input(0, &[1, 4])), Answer::Added(0));
     assert_refused(&mut host, &input(0, &[0, 4]), 13);
+}
+
+fn assert_added(host: &mut Host, call: &Call, charge: u32) {
+    assert_eq!(host.call(call), Answer::Added(charge), "{call:?}");
+}
+
+#[test]
+fn number_17_only_just_and_in_order() {
+    // Part 1 keeps c below 10, and an update of b at part 0 has charge 2.
+    let deck = deck_d();
+    let assert_fresh = |places, part, pairs: &[i32], number| {
+        assert_refused(&mut fresh(&deck, places), &input(part, pairs), number);
+    };
+    let mut host = fresh(&deck, 2);
+    assert_added(&mut host, &input(1, &[2, 9]), 0);
+    assert_eq!(host.state.values[34], 9);
+    assert_fresh(2, 1, &[2, 10], 17);
+    // Before 13.
+    assert_fresh(1, 1, &[0, 4, 2, 10], 17);
+    assert_fresh(1, 1, &[0, 4, 2, 9], 13);
+    // After 11 and 12.
+    assert_fresh(2, 2, &[2, 10], 11);
+    assert_fresh(2, 1, &[2, 10, 2, 10], 12);
+    assert_fresh(2, 1, &[2, 10, 3, 0], 12);
+}
+
+#[test]
+fn number_17_changes_nothing_that_is_pending() {
+    let deck = deck_d();
+    let mut host = fresh(&deck, 4);
+    assert_added(&mut host, &input(0, &[0, 4]), 2);
+    assert_added(&mut host, &input(1, &[0, -3, 2, 9]), 2);
+    for value in [10, 11, i32::MAX] {
+        assert_refused(&mut host, &input(1, &[0, 7, 1, 7, 2, value]), 17);
+    }
+    assert_eq!(host.call(&Call::Settle { budget: 9 }).to_string(), "settled 4");
+}
+
+#[test]
+fn number_17_judges_the_whole_part_and_no_other() {
+    let mut two = deck_of(3, Vec::new(), &[&[], &[]]);
+    let sum = Number::Sum(Number::Own(0).into(), Number::Own(1).into());
+    two.parts[0].limit = Truth::Less(sum.into(), Number::Literal(10).into());
+    let deck = two.encode().bytes;
+    let mut host = fresh(&deck, 1);
+    // Each pair alone would be outside or within; all of them count, in any order.
+    assert_added(&mut host, &input(0, &[0, 12, 1, -5]), 0);
+    assert_refused(&mut host, &input(0, &[1, -2]), 17);
+    assert_refused(&mut host, &input(0, &[1, 4, 0, 6]), 17);
+    assert_added(&mut host, &input(0, &[1, -3]), 0);
+    assert_added(&mut host, &input(0, &[1, 4, 0, 5]), 0);
+    assert_refused(&mut host, &input(0, &[2, 1, 1, 5]), 17);
+    assert_added(&mut host, &input(1, &[0, 100, 1, 100]), 0);
+}
+
+#[test]
+fn number_17_does_not_look_at_the_firing() {
+    // Both inputs lead to an update of c that part 1 discards later.
+    let deck = deck_d();
+    let mut host = fresh(&deck, 3);
+    assert_added(&mut host, &input(0, &[0, 50]), 2);
+    assert_added(&mut host, &input(1, &[1, 20]), 1);
+    assert_eq!(host.call(&Call::Commit { place: 1 }).to_string(), "discarded 2");
+    assert_eq!(host.call(&Call::Settle { budget: 9 }).to_string(), "settled 2");
+    assert_eq!(host.state.values[33..35], [50, 0]);
+}
+
+#[test]
+fn number_17_where_an_operation_clamps() {
+    // One less is less, but for the least number.
+    let mut one = deck_of(1, Vec::new(), &[&[]]);
+    let one_less = Number::Difference(Number::Own(0).into(), Number::Literal(1).into());
+    one.parts[0].limit = Truth::Less(one_less.into(), Number::Own(0).into());
+    let deck = one.encode().bytes;
+    let mut host = fresh(&deck, 1);
+    assert_refused(&mut host, &input(0, &[0, i32::MIN]), 17);
+    assert_added(&mut host, &input(0, &[0, i32::MIN + 1]), 0);
+    assert_added(&mut host, &input(0, &[0, i32::MAX]), 0);
+}
+
+#[test]
+fn number_17_at_a_part_that_is_outside_by_hand() {
+    let deck = deck_d();
+    let outside = || {
+        let mut host = fresh(&deck, 4);
+        host.state.values[34] = 12;
+        host
+    };
+    let mut host = outside();
+    for pairs in [[0, 1], [1, 0], [2, 12], [2, 10]] {
+        assert_refused(&mut host, &input(1, &pairs), 17);
+    }
+    // Other parts are taken as ever, and so is what brings the part within.
+    assert_added(&mut host, &input(0, &[0, 4]), 2);
+    assert_added(&mut host, &input(1, &[2, 3]), 0);
+    assert_added(&mut host, &input(1, &[0, 1]), 2);
+    // Commits there are discarded until one brings it within.
+    let mut host = outside();
+    assert_added(&mut host, &input(0, &[0, 4]), 2);
+    assert_eq!(host.call(&Call::Commit { place: 0 }).to_string(), "discarded 0");
+    host.pool[..4].copy_from_slice(&[1, 1, 2, 9]);
+    host.state.pending = 1;
+    assert_eq!(host.call(&Call::Commit { place: 0 }).to_string(), "applied 0");
+    assert_added(&mut host, &input(1, &[0, 1]), 2);
 }
 
 #[test]

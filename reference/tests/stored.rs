@@ -60,7 +60,7 @@ fn every_answer_of_replay_is_there() {
     let all: String = stored_replays::texts().iter().map(printed).collect();
     let seen: BTreeSet<&str> =
         all.lines().map(|line| line.rsplit_once(' ').map_or(line, |(words, _)| words)).collect();
-    for number in 9..=16 {
+    for number in 9..=17 {
         assert!(seen.contains(&*format!("refused {number}")), "{number}");
     }
     for word in ["started", "added", "applied", "discarded", "settled", "spent", "unreadable"] {

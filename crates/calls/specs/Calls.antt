@@ -9,15 +9,16 @@ use lib.IntN.{ℤ, pos, natAbs}
 use lib.Signed.{leZ, ltZ}
 use Rattle.lists.specs.Lists.{all, distinct, isEmpty}
 use Rattle.refusals.specs.Outcome.{Outcome, refused, accepted, _>>=_, _>>_, require}
-use Rattle.refusals.specs.Numbers.{badPool, badState, unknownPart, badInput, overCapacity, placeNotPending, unknownSection, budgetTooLarge}
+use Rattle.refusals.specs.Numbers.{badPool, badState, unknownPart, badInput, inputOutside, overCapacity, placeNotPending}
+use Rattle.refusals.specs.Numbers.{unknownSection, budgetTooLarge}
 use Rattle.deck.specs.Limits.{limits}
 use Rattle.deck.specs.Deck.{Deck, R, M, N}
 use Rattle.deck.specs.Layout.{Layout}
 use Rattle.charge.specs.Charge.{largestCharge}
-use Rattle.pool.specs.Updates.{charge}
+use Rattle.pool.specs.Updates.{assign, charge}
 use Rattle.pool.specs.Places.{zeros, capacity, pairsOf}
 use Rattle.pool.specs.States.{Machine, Memory, load, store, goodLength, good}
-use Rattle.passing.specs.Check.{passing, openingValues}
+use Rattle.passing.specs.Check.{within, passing, openingValues}
 use Rattle.firing.specs.Firing.{setAndFire, committed, mayTake, nextPlace}
 
 -- what an accepted call answers
@@ -83,13 +84,15 @@ goodInput d l =
     && all (λ c. leZ (pos 0) c && ltZ c (pos (R d))) (channelsOf l)
     && distinct (map natAbs (channelsOf l))
 
--- Input: the values are set and the firing follows; the limit is not tested. The answer is "charge after less charge before"
+-- Input: the values are set and the firing follows. The answer is "charge after less charge before". Document 02, Req 01: an input
+-- that would leave its part outside its limit is not performed
 unfoldable pub input : List ℕ → Memory → ℕ → List ℤ → Reply
 input bytes m p l = reply m do
   d ← tested bytes m
   require (ltb p (N d)) unknownPart 0
   require (goodInput d l) badInput 0
   let before = load m
+  require (within d p (assign p (pairsOf l) (before .values))) inputOutside 0
   let after = setAndFire d p (pairsOf l) before
   require (leb (charge d (after .pending)) (capacity (length (m .pool)))) overCapacity 0
   accepted (record { answer = added (charge d (after .pending) - charge d (before .pending)); machine = after })

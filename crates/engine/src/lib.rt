@@ -104,7 +104,7 @@ fn settle_answer(told: Response) -> SettleAnswer
     }
 }
 
-// The values of channels of a part are set; the limit is not tested. The answer is the charge added.
+// The values of channels of a part are set, unless that would leave the part outside its limit. The answer is the charge added.
 pub fn input(deck: &[u8], pool: &mut [i32], state: State, part: u32, pairs: &[i32]) -> Entered
     ensures { λ r. ⌜ replyOf (inputOutcome (r .answer)) (r .state) (now (pool .exit))
         ≡ Calls.input (now (deck .entry)) (memoryOf state (now (pool .entry))) part (now (pairs .entry)) ⌝ }

@@ -7,11 +7,12 @@ use lib.Dec.{leb, ltb}
 use lib.ListN.{length}
 use lib.IntN.{ℤ}
 use Rattle.refusals.specs.Outcome.{Outcome, refused, accepted, _>>_, require}
-use Rattle.refusals.specs.Numbers.{unknownPart, badInput, overCapacity}
+use Rattle.refusals.specs.Numbers.{unknownPart, badInput, inputOutside, overCapacity}
 use Rattle.deck.specs.Deck.{Deck, R, N}
-use Rattle.pool.specs.Updates.{charge}
+use Rattle.pool.specs.Updates.{assign, charge}
 use Rattle.pool.specs.Places.{capacity, pairsOf}
 use Rattle.pool.specs.States.{Machine}
+use Rattle.passing.specs.Check.{within}
 use Rattle.passing.specs.Tabled.{deckOf}
 use Rattle.firing.specs.Firing.{setAndFire}
 use Rattle.holes.specs.Slots.{whole}
@@ -29,11 +30,12 @@ unfoldable pub entered : Deck → ℕ → Machine → ℕ → List ℤ → Outco
 entered d C x p l =
     require (ltb p (N d)) unknownPart 0
     >> (require (goodInput d l) badInput 0
+    >> (require (within d p (assign p (pairsOf l) (x .values))) inputOutside 0
     >> (require (leb (charge d (setAndFire d p (pairsOf l) x .pending)) C) overCapacity 0
     >> accepted (record {
       answer = added (charge d (setAndFire d p (pairsOf l) x .pending) - charge d (x .pending));
       machine = setAndFire d p (pairsOf l) x;
-    })))
+    }))))
 
 -- the numbers that are left are those of the outcome: of a refusal, what they were
 abbrev pub Leaves : Outcome Done → List ℤ → ℕ → List ℤ → Outcome Answer → List ℤ → ℕ → List ℤ → Type 0

@@ -64,7 +64,8 @@ fn take_back(pool: &mut [i32], pending: usize)
     pool::clear(&mut pool[from..]);
 }
 
-// The values of channels of a part are set: the firing follows on a copy, and they are stored unless that is too much (11 to 13).
+// The values of channels of a part are set on a copy, the limit is tested there and the firing follows, and they are stored unless
+// that is too much (11, 12, 17, 13).
 pub fn input_tested(
     deck: &[u8],
     counts: Deck,
@@ -89,11 +90,14 @@ pub fn input_tested(
     if !good_input(pairs, counts.channels) {
         return refused(refusals::BAD_INPUT);
     }
+    let mut after = *values;
+    updates::assign_pairs(&mut after, p, pairs);
+    if !judging::within(deck, counts, parts, &after, p) {
+        return refused(refusals::INPUT_OUTSIDE);
+    }
     let n = *pending as usize;
     let mut back = [0i32; 2 * Deck::CHANNELS];
     let changed = updates::compare(values, p, pairs, &mut back);
-    let mut after = *values;
-    updates::assign_pairs(&mut after, p, pairs);
     let capacity = (pool.len() / Deck::PLACE) as u32;
     let queue = reactions::react(deck, counts, rules, parts, memo, index, pool, capacity, n, charge, &after, p, changed);
     if queue.full {

@@ -1,4 +1,5 @@
--- Document 01, "Deck D and its cases": P1 to P11 as one list with one theorem over it, proved by computing. Assumes nothing.
+-- Document 01, "Deck D and its cases": P1 to P11 as one list with one theorem over it, proved by computing; then document 02's Req 01
+-- on the same deck. Assumes nothing.
 use Prim.Native.Nat.{ℕ, _+_, _*_, _-_}
 use Prim.Native.String.{String}
 use mathlib.Core.Bool.{cond}
@@ -11,20 +12,20 @@ use Rattle.lists.specs.Lists.{flatMap, lists}
 use Rattle.refusals.specs.Outcome.{Outcome, refused, accepted, outcomes}
 use Rattle.expression.specs.Values.{evaluation}
 use Rattle.expression.specs.Reading.{readingExpressions}
-use Rattle.deck.specs.Deck.{decks}
+use Rattle.deck.specs.Deck.{Deck, decks}
 use Rattle.deck.specs.Reader.{readers}
 use Rattle.deck.specs.Layout.{Layout, layouts}
 use Rattle.graph.specs.Graph.{graphs}
 use Rattle.charge.specs.Charge.{charges}
 use Rattle.pool.specs.Updates.{valueAt, updates}
 use Rattle.pool.specs.Places.{zeros, pools}
-use Rattle.pool.specs.States.{Memory, store, states}
+use Rattle.pool.specs.States.{Memory, load, store, states}
 use Rattle.passing.specs.Check.{passing, checks}
 use Rattle.firing.specs.Firing.{firing}
 use Rattle.calls.specs.Calls.{Answer, passed, added, applied, discarded, check, calls}
 use Rattle.calls.specs.Line.{ascii, line, lines}
-use Rattle.orders.specs.Calling.{Call, input, commit, run, running}
-use Rattle.orders.specs.Listed.{listed, listing}
+use Rattle.orders.specs.Calling.{Call, input, commit, runFrom, run, running}
+use Rattle.orders.specs.Listed.{Listed, listFrom, listed, listing}
 
 -- bytes in hexadecimal, each followed by a space or a bar
 unfoldable pub nibble : ℕ → ℕ
@@ -80,11 +81,11 @@ seen answers m =
     let t = m .state .values in
     record { answers = answers; printed = []; values = valueAt t 0 0 ∷ valueAt t 1 1 ∷ valueAt t 1 2 ∷ take 10 (m .pool) }
 
--- the definition of a list, for bytes that pass and a pool of n numbers
-unfoldable pub listedFor : Outcome Layout → ℕ → List Call → Seen
-listedFor (refused number place) n cs = record { answers = refused number place ∷ []; printed = []; values = [] }
-listedFor (accepted l) n cs =
-    let r = listed (l .deck) n cs in
+-- what a definition of a list comes to, for bytes that pass and a pool of n numbers
+unfoldable pub listedFor : Outcome Layout → ℕ → (Deck → Listed) → Seen
+listedFor (refused number place) n list = record { answers = refused number place ∷ []; printed = []; values = [] }
+listedFor (accepted l) n list =
+    let r = list (l .deck) in
     seen (r .answers) (store n (r .machine))
 
 -- calls on D from a fresh start with C places: the answers, then the values
@@ -93,7 +94,7 @@ calling C cs answers values =
     let r = run D (replicate (10 * C) (pos 7)) cs in
     record {
       called = seen (r .answers) (r .memory);
-      listed = listedFor (passing D) (10 * C) cs;
+      listed = listedFor (passing D) (10 * C) (λ d. listed d (10 * C) cs);
       wanted = record { answers = answers; printed = []; values = values };
     }
 
@@ -132,6 +133,62 @@ cases =
     (settledAt 2147483647 2147483647 0)
     ∷ []
 
+-- to open all that the calls are made of, on an `unfolding` line: what reads a deck, and what works on one
+unfoldable pub deckReading : Unit {0}
+unfolding lists outcomes evaluation readingExpressions decks readers layouts
+deckReading = tt
+
+unfoldable pub engine : Unit {0}
+unfolding graphs charges updates pools states checks firing calls lines running listing
+engine = tt
+
 pub cases-hold : flatMap (λ c. c .called ∷ c .listed ∷ []) cases ≡ flatMap (λ c. c .wanted ∷ c .wanted ∷ []) cases
-unfolding nibble unhex D D5 D6 D7 checked checking seen listedFor calling setA settledAt cases lists outcomes evaluation readingExpressions decks readers layouts graphs charges updates pools states checks firing calls lines running listing
+unfolding nibble unhex D D5 D6 D7 checked checking seen listedFor calling setA settledAt cases deckReading engine
 cases-hold = refl
+
+-- ---- document 02, Req 01: hand input respects the stops. Part 1 of D is within its limit while c is below 10
+
+-- c of part 1 is set
+unfoldable pub setC : ℕ → Call
+setC v = input 1 (pos 2 ∷ pos v ∷ [])
+
+-- a and c of part 1 are set
+unfoldable pub setAC : ℕ → ℕ → Call
+setAC a c = input 1 (pos 0 ∷ pos a ∷ pos 2 ∷ pos c ∷ [])
+
+-- a good state with two places that no list of calls leaves: c of part 1 is written by hand, past the limit
+unfoldable pub byHand : Memory
+byHand = record { state = record { values = set (zeros 512) 34 (pos 12); pending = 0 }; pool = zeros 20 }
+
+-- calls on D from there
+unfoldable pub callingByHand : List Call → List (Outcome Answer) → List ℤ → Case
+callingByHand cs answers values =
+    let r = runFrom D byHand cs in
+    record {
+      called = seen (r .answers) (r .memory);
+      listed = listedFor (passing D) 20 (λ d. listFrom d 2 (load byHand) cs);
+      wanted = record { answers = answers; printed = []; values = values };
+    }
+
+unfoldable pub limitCases : List Case
+limitCases =
+    calling 2 (setC 9 ∷ []) (accepted (added 0) ∷ []) (settledAt 0 0 9)  -- just inside
+    ∷ calling 2 (setC 10 ∷ []) (refused 17 0 ∷ []) (settledAt 0 0 0)  -- just outside: c stays
+    ∷ calling 1 (setAC 4 10 ∷ []) (refused 17 0 ∷ []) (settledAt 0 0 0)  -- 17 before 13
+    ∷ calling 1 (setAC 4 9 ∷ []) (refused 13 0 ∷ []) (settledAt 0 0 0)
+    ∷ calling 2 (input 2 (pos 2 ∷ pos 10 ∷ []) ∷ []) (refused 11 0 ∷ []) (settledAt 0 0 0)  -- 11 before 17
+    ∷ calling 2 (input 1 (pos 2 ∷ pos 10 ∷ pos 2 ∷ pos 10 ∷ []) ∷ []) (refused 12 0 ∷ []) (settledAt 0 0 0)  -- 12 before 17
+    ∷ calling 2 (setC 9 ∷ setC 10 ∷ setC 10 ∷ setC 8 ∷ [])  -- a refusal is no stop for what follows
+    (accepted (added 0) ∷ refused 17 0 ∷ refused 17 0 ∷ accepted (added 0) ∷ [])
+    (settledAt 0 0 8)
+    ∷ callingByHand (input 1 (pos 0 ∷ pos 1 ∷ []) ∷ []) (refused 17 0 ∷ []) (settledAt 0 0 12)  -- the whole part is tested
+    ∷ callingByHand (setC 12 ∷ []) (refused 17 0 ∷ []) (settledAt 0 0 12)  -- also where no value changes
+    ∷ callingByHand (setC 3 ∷ []) (accepted (added 0) ∷ []) (settledAt 0 0 3)  -- an input that brings the part within
+    ∷ callingByHand (setA 4 ∷ commit 0 ∷ [])  -- an input at another part is taken, and a commit at this one is discarded
+    (accepted (added 2) ∷ accepted (discarded 0) ∷ [])
+    (settledAt 4 0 12)
+    ∷ []
+
+pub limit-cases-hold : flatMap (λ c. c .called ∷ c .listed ∷ []) limitCases ≡ flatMap (λ c. c .wanted ∷ c .wanted ∷ []) limitCases
+unfolding nibble unhex D seen listedFor calling setA setC setAC byHand callingByHand settledAt limitCases deckReading engine
+limit-cases-hold = refl

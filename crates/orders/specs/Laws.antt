@@ -1,6 +1,8 @@
 -- Laws of lists of calls and of the published calculus.
 pub mod Agreement
 pub mod Taking
+pub mod Invariants
+pub mod Limits
 pub mod Listing
 pub mod Kept
 pub mod Order

@@ -7,12 +7,12 @@ use lib.Dec.{leb, ltb}
 use lib.ListN.{length}
 use Rattle.lists.specs.Lists.{sum, isEmpty}
 use Rattle.refusals.specs.Outcome.{Outcome, refused, accepted, _>>=_, _>>_, require}
-use Rattle.refusals.specs.Numbers.{unknownPart, badInput, overCapacity, placeNotPending, budgetTooLarge}
+use Rattle.refusals.specs.Numbers.{unknownPart, badInput, inputOutside, overCapacity, placeNotPending, budgetTooLarge}
 use Rattle.deck.specs.Deck.{Deck, N}
-use Rattle.pool.specs.Updates.{charge}
+use Rattle.pool.specs.Updates.{assign, charge}
 use Rattle.pool.specs.Places.{capacity, pairsOf}
 use Rattle.pool.specs.States.{Machine}
-use Rattle.passing.specs.Check.{openingValues}
+use Rattle.passing.specs.Check.{within, openingValues}
 use Rattle.firing.specs.Firing.{setAndFire, pick, committed, mayTake, nextPlace}
 use Rattle.calls.specs.Calls.{Answer, passed, started, added, applied, discarded, settled, spent, goodInput}
 use Rattle.orders.specs.Calling.{Call, input, commit, settle}
@@ -52,6 +52,7 @@ unfoldable pub taken : Deck → ℕ → Machine → Call → Outcome Taken
 taken d C x (input p l) = do
   require (ltb p (N d)) unknownPart 0
   require (goodInput d l) badInput 0
+  require (within d p (assign p (pairsOf l) (x .values))) inputOutside 0
   let after = setAndFire d p (pairsOf l) x
   require (leb (charge d (after .pending)) C) overCapacity 0
   accepted (record { answer = added (charge d (after .pending) - charge d (x .pending)); turns = []; machine = after })

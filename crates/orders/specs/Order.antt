@@ -1,4 +1,5 @@
--- Demand 3 as one statement about a whole list of calls: a field for each sentence. Assumes nothing.
+-- Demand 3, with the sentence of document 02's Req 01, as one statement about a whole list of calls: a field for each sentence.
+-- Assumes nothing.
 use Prim.Native.Nat.{ℕ, _+_, _≤_, _<_}
 use mathlib.Core.Path.{_≡_}
 use mathlib.Core.Bool.{Bool, true, false, not, _||_}
@@ -9,7 +10,7 @@ use lib.IntN.{ℤ}
 use Rattle.lists.specs.Lists.{all}
 use Rattle.refusals.specs.Outcome.{Outcome, refused, accepted}
 use Rattle.refusals.specs.Numbers.{placeNotPending}
-use Rattle.deck.specs.Deck.{Deck}
+use Rattle.deck.specs.Deck.{Deck, N}
 use Rattle.charge.specs.Charge.{updateCharge}
 use Rattle.pool.specs.Updates.{Update, channels, charge}
 use Rattle.pool.specs.Places.{capacity}
@@ -48,6 +49,14 @@ Settles d C x (settle b) =
 unfoldable pub leavesWithin : Deck → Turn → Bool
 leavesWithin d t = not (t .applied) || within d (t .part) (t .after .values)
 
+-- every part is within its limit
+unfoldable pub EveryWithin : Deck → Machine → Type 0
+EveryWithin d x = (p : ℕ) → p < N d → within d p (x .values) ≡ true
+
+-- "after every call in the list, every part is within its limit", whether the call was accepted or refused
+unfoldable pub EndsWithin : Deck → ℕ → Machine → Call → Type 0
+EndsWithin d C x c = EveryWithin d (machineAfter x (taken d C x c))
+
 -- a pending update has a charge of at least 1
 unfoldable pub hasCharge : Deck → Update → Bool
 hasCharge d u = leb 1 (updateCharge d (u .part) (channels u))
@@ -67,8 +76,11 @@ pub record Order (bytes : List ℕ) (d : Deck) (pool : List ℤ) (cs : List Call
   pub stays-within : all (leavesWithin d) (listed d (length pool) cs .turns) ≡ true
   -- an accepted settle with a budget of at least the charge pending before it ends settled
   pub settles : Along (Settles d (capacity (length pool))) d (capacity (length pool)) (record { values = openingValues d; pending = [] }) cs
+  -- after every call, every part is within its limit
+  pub parts-within : Along (EndsWithin d (capacity (length pool))) d (capacity (length pool))
+      (record { values = openingValues d; pending = [] }) cs
 
 -- to open all definitions of this file, on an `unfolding` line
 unfoldable pub ordering : Unit {0}
-unfolding Along RefusedAsPlaced Settles leavesWithin hasCharge
+unfolding Along RefusedAsPlaced Settles leavesWithin EveryWithin EndsWithin hasCharge
 ordering = tt

@@ -1,4 +1,5 @@
--- Document 01, "When a call declines": the numbers, by name. No other file writes one down. Assumes nothing.
+-- Documents 01 and 02, "When a call declines" and what each request refuses: the numbers, by name. No other file writes one down.
+-- Assumes nothing.
 use Prim.Native.Nat.{ℕ}
 
 -- 1. The deck ends inside a field or expression
@@ -64,3 +65,11 @@ unknownSection = 15
 -- 16. The settle budget is above 65,535
 abbrev pub budgetTooLarge : ℕ
 budgetTooLarge = 16
+
+-- 17. The input would leave its part outside its limit
+abbrev pub inputOutside : ℕ
+inputOutside = 17
+
+-- the last of them
+abbrev pub lastNumber : ℕ
+lastNumber = inputOutside

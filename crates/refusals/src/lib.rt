@@ -1,4 +1,4 @@
-// The numbers of document 01, "When a call declines", for the code; specs/Numbers.antt has them for the definitions.
+// The numbers of the refusals, for the code; specs/Numbers.antt has them for the definitions.
 pub const DECK_ENDS: u32 = 1;
 
 pub const OUT_OF_RANGE: u32 = 2;
@@ -30,3 +30,5 @@ pub const PLACE_NOT_PENDING: u32 = 14;
 pub const UNKNOWN_SECTION: u32 = 15;
 
 pub const BUDGET_TOO_LARGE: u32 = 16;
+
+pub const INPUT_OUTSIDE: u32 = 17;

@@ -1,11 +1,12 @@
 //! What is measured.
 
-use crate::decks::{cascade, figure, ENTERED, LAST};
+use crate::decks::{bounded, cascade, figure, BOUND, ENTERED, LAST, MOST_BOUNDS};
 use crate::engines::{Engine, Reference};
 use reaction::raw::{Memory, Returned, PLACE};
 use reference::deck::Deck;
 use reference::generate::decks::longest;
 use reference::random::Random;
+use reference::refusal::INPUT_OUTSIDE_LIMIT;
 use reference::stored::deck_d;
 
 /// A call with what it names.
@@ -40,6 +41,8 @@ pub struct Case {
     pub deck: Vec<u8>,
     pub memory: Memory,
     pub call: Call,
+    /// The refusal that it comes to, 0 where it is accepted.
+    pub refused: u32,
 }
 
 /// Cases that differ in size.
@@ -60,6 +63,7 @@ pub fn groups() -> Vec<Group> {
         Group { name: "input, by rules, nothing pending", unit: "rule", cases: inputs_by_rules(0) },
         Group { name: "input, by rules, 1,000 pending", unit: "rule", cases: inputs_by_rules(1000) },
         Group { name: "input, by pending updates", unit: "pending", cases: inputs_by_pending() },
+        Group { name: "input, by bounds in the part's limit", unit: "bound", cases: inputs_by_bounds() },
         Group { name: "commit of place 0, by pending updates", unit: "pending", cases: commits(|_| 0) },
         Group {
             name: "commit of a place in the middle",
@@ -93,6 +97,7 @@ fn checks() -> Vec<Case> {
         deck,
         memory: Memory::new(0),
         call: Call::Check,
+        refused: 0,
     };
     decks.into_iter().map(case).collect()
 }
@@ -117,6 +122,7 @@ fn starts() -> Vec<Case> {
         memory: started(&deck, places),
         deck: deck.clone(),
         call: Call::Start,
+        refused: 0,
     };
     [10, 1000, 65_535].map(case).into()
 }
@@ -130,7 +136,7 @@ fn enter() -> Call {
 /// An input with so many updates pending, and room for those that follow.
 fn entered(name: String, size: usize, deck: &Deck, count: usize) -> Case {
     let memory = pending(deck, count, count + 1000);
-    Case { name, size, deck: deck.encode().bytes, memory, call: enter() }
+    Case { name, size, deck: deck.encode().bytes, memory, call: enter(), refused: 0 }
 }
 
 fn inputs_by_parts(pending: usize) -> Vec<Case> {
@@ -147,6 +153,16 @@ fn inputs_by_pending() -> Vec<Case> {
     let deck = figure(4, 16, 1);
     let case = |pending: usize| entered(format!("{pending} pending"), pending.max(1), &deck, pending);
     [0, 1, 10, 100, 1000, 10_000, 60_000].map(case).into()
+}
+
+/// The last one goes past the last bound, so that the whole limit is read.
+fn inputs_by_bounds() -> Vec<Case> {
+    let case = |bounds: u8| entered(counted(bounds.into(), "bound"), bounds.into(), &bounded(bounds), 0);
+    let mut past = case(MOST_BOUNDS);
+    past.name.push_str(", refused at its limit");
+    past.call = Call::Input { part: 0, pairs: vec![i32::from(ENTERED + MOST_BOUNDS - 1), BOUND] };
+    past.refused = INPUT_OUTSIDE_LIMIT;
+    [1, 4, MOST_BOUNDS].into_iter().map(case).chain([past]).collect()
 }
 
 /// Memory with so many different pending updates that nothing follows, so that each has a charge of 1.
@@ -167,7 +183,8 @@ fn committed(name: String, size: usize, count: usize, places: usize, place: usiz
     if places > count {
         memory.pool[PLACE * place + 2] = i32::from(ENTERED);
     }
-    Case { name, size, deck: deck.encode().bytes, memory, call: Call::Commit { place: place as u32 } }
+    let call = Call::Commit { place: place as u32 };
+    Case { name, size, deck: deck.encode().bytes, memory, call, refused: 0 }
 }
 
 fn commits(place: impl Fn(usize) -> usize) -> Vec<Case> {
@@ -191,6 +208,7 @@ fn settles() -> Vec<Case> {
         deck: deck.encode().bytes,
         memory: pending(&deck, count, count),
         call: Call::Settle { budget: 65_535 },
+        refused: 0,
     };
     [1, 10, 100, 1000, 10_000, 65_535].map(case).into()
 }
@@ -209,6 +227,7 @@ fn cascades() -> Vec<Case> {
             deck,
             memory,
             call: Call::Settle { budget: 65_535 },
+            refused: 0,
         }
     };
     [1, 2, 3, 4, 5].map(case).into()

@@ -35,6 +35,19 @@ pub fn figure(parts: usize, rules: usize, terms: usize) -> Deck {
     }
 }
 
+/// Entered channels stay below this in a figure with bounds, and a limit has room for so many of those.
+pub const BOUND: i32 = 1_000;
+pub const MOST_BOUNDS: u8 = 7;
+
+/// A figure of 4 parts with 16 rules whose limits bound so many of the entered channels, at least 1.
+pub fn bounded(bounds: u8) -> Deck {
+    let bound = |lane: u8| Truth::Less(own(ENTERED + lane), literal(BOUND));
+    let limit = (1..bounds).fold(bound(0), |limit, lane| Truth::And(Box::new(limit), Box::new(bound(lane))));
+    let mut deck = figure(4, 16, 1);
+    deck.parts.iter_mut().for_each(|part| part.limit = limit.clone());
+    deck
+}
+
 /// The first eight rules lead from the entered channels to the following ones, the next eight from these to
 /// the last ones, all others from the entered to the last. Every fourth rule goes to all other parts.
 fn figure_rule(number: u8, terms: usize) -> Rule {

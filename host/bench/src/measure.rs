@@ -61,12 +61,12 @@ fn median(samples: &mut [f64]) -> f64 {
 }
 
 /// Seconds for a call by each engine, the median of rounds in which they take turns. An error where they
-/// do not answer alike, or decline.
+/// do not answer alike, or not as the case says.
 pub fn measure(case: &Case, engines: &mut [Measured]) -> Result<Vec<f64>, String> {
     let tried: Vec<_> = engines.iter_mut().map(|measured| measured.try_once(case)).collect();
-    if tried.iter().any(|outcome| *outcome != tried[0] || outcome.0.number != 0) {
+    if tried.iter().any(|outcome| *outcome != tried[0] || outcome.0.number != case.refused) {
         let answers: Vec<_> = tried.iter().map(|(returned, _)| returned).collect();
-        return Err(format!("{}: the engines differ or decline: {answers:?}", case.name));
+        return Err(format!("{}: the engines differ, or miss what the case says: {answers:?}", case.name));
     }
     let batch = batch(case);
     let mut samples: Vec<Vec<f64>> =

@@ -1,7 +1,9 @@
-//! The plain engine judges decks as the reference does. Lists of calls are compared by the package `fuzz`.
+//! The plain engine judges decks, and inputs at a limit, as the reference does. Lists of calls are compared by the package
+//! `fuzz`.
 
 use bench::engines::{Engine, Reference};
 use bench::plain;
+use reaction::raw::{Memory, CHANNELS, PLACE};
 use reference::generate::{deck, Kind, Size};
 use reference::random::Random;
 use reference::stored;
@@ -27,5 +29,45 @@ fn agrees_on_stored_decks() {
     let mut plain = plain::Engine::new();
     for stored in stored::all() {
         compare(&mut plain, &stored.deck);
+    }
+}
+
+/// Channels of deck D, whose part 1 keeps `C` below 10.
+const A: i32 = 0;
+const C: i32 = 2;
+
+/// Deck D started, with `C` of part 1 written by hand.
+fn deck_d_with(places: usize, c: i32) -> Memory {
+    let mut memory = Memory::new(PLACE * places);
+    Reference.start(&stored::deck_d(), &mut memory);
+    memory.values[CHANNELS + C as usize] = c;
+    memory
+}
+
+/// The number that an input of both engines comes to; a refused one must change nothing.
+fn input(before: &Memory, part: u32, pairs: &[i32]) -> u32 {
+    let (mut one, mut two) = (before.clone(), before.clone());
+    let returned = Engine::input(&mut plain::Engine::new(), &stored::deck_d(), &mut one, part, pairs);
+    let expected = Reference.input(&stored::deck_d(), &mut two, part, pairs);
+    assert_eq!((returned, &one), (expected, &two), "{pairs:?} at part {part}");
+    assert!(returned.number == 0 || one == *before, "{pairs:?} at part {part}");
+    returned.number
+}
+
+#[test]
+fn agrees_on_inputs_at_a_limit() {
+    let mut numbers = Vec::new();
+    for (places, c) in [1, 2].into_iter().flat_map(|places| [0, 9, 10, 12].map(|c| (places, c))) {
+        let memory = deck_d_with(places, c);
+        for part in 0..3 {
+            numbers.push(input(&memory, part, &[A, 4]));
+            for value in 8..13 {
+                let lists = [vec![C, value], vec![A, 4, C, value], vec![C, 9, C, value]];
+                numbers.extend(lists.map(|pairs| input(&memory, part, &pairs)));
+            }
+        }
+    }
+    for number in [0, 11, 12, 13, 17] {
+        assert!(numbers.contains(&number), "{number} never came");
     }
 }

@@ -2,8 +2,10 @@
 
 use crate::compare::{Comparison, Difference};
 use crate::step::Step;
-use reaction::raw::PLACE;
+use reaction::raw::{CHANNELS, PLACE};
+use reference::engine::Call;
 use reference::generate::calls::{any, bad_length, damage, hand_written, restored, Known};
+use reference::generate::limits::Edge;
 use reference::generate::{deck, Kind, Size};
 use reference::random::Random;
 use reference::script::Line;
@@ -98,6 +100,7 @@ impl Case<'_> {
             17 => self.step(Step::Check),
             18..=20 => self.other_deck(),
             21..=22 => self.other_length(),
+            23..=26 => self.outside_limit(),
             _ => self.call(),
         }
     }
@@ -152,6 +155,48 @@ impl Case<'_> {
         Ok(())
     }
 
+    /// Puts a part just outside its limit by hand, which leaves the state a good one, and calls there. Mostly the part
+    /// comes within again in the end.
+    fn outside_limit(&mut self) -> Result<(), Difference> {
+        let part = self.random.below(self.known.parts);
+        let Some((channel, edge)) = self.edge(part) else { return Ok(()) };
+        let index = (CHANNELS * part) as u32 + u32::from(channel);
+        self.line(Line::Value { index, value: edge.outside })?;
+        for _ in 0..self.random.between(2, 6) {
+            self.call_at(part)?;
+        }
+        let pairs = vec![channel.into(), edge.within];
+        match self.random.below(4) {
+            0 => Ok(()),
+            1 => self.line(Line::Value { index, value: edge.within }),
+            _ => self.line(Line::Call(Call::Input { part: part as u32, pairs })),
+        }
+    }
+
+    /// A channel of a part with two neighbouring values, one within its limit and one outside.
+    fn edge(&mut self, part: usize) -> Option<(u8, Edge)> {
+        let limit = self.known.limits.get(part).filter(|limit| !limit.channels.is_empty())?;
+        let channel = self.random.pick(&limit.channels);
+        let values = &self.comparison.host.state.values[CHANNELS * part..][..CHANNELS];
+        let edge = limit.edge(&mut self.random, values, channel)?;
+        Some((channel, edge))
+    }
+
+    /// An input at a part, the commit of an update for it, or a settle.
+    fn call_at(&mut self, part: usize) -> Result<(), Difference> {
+        let mut call = any(&mut self.random, &self.known, &self.comparison.host);
+        match &mut call {
+            Call::Input { part: given, .. } => *given = part as u32,
+            Call::Commit { place } => {
+                let places = self.comparison.host.pool.chunks_exact(PLACE);
+                let there = places.take(*place as usize + 1).rposition(|update| update[0] == part as i32);
+                *place = there.map_or(*place, |there| there as u32);
+            }
+            Call::Settle { .. } => {}
+        }
+        self.line(Line::Call(call))
+    }
+
     /// The same memory with a deck that was damaged, cut, or is another one; then the old deck again.
     fn other_deck(&mut self) -> Result<(), Difference> {
         let mut other = self.deck.clone();
@@ -180,7 +225,8 @@ impl Case<'_> {
     }
 }
 
-/// Deck D with so many updates pending: commits anywhere, inputs, settles, and damage deep in the pool.
+/// Deck D with so many updates pending: commits anywhere, inputs, one at part 1's limit, settles, and damage deep in
+/// the pool.
 pub fn many(
     comparison: &mut Comparison,
     random: &mut Random,
@@ -194,6 +240,7 @@ pub fn many(
     let lines = [
         format!("commit {}", random.below(pending)),
         "input 0 0 4".to_string(),
+        format!("input 1 0 5 2 {}", random.pick(&[9, 10])),
         format!("settle {}", random.below(50)),
         format!("pool {anywhere} {}", random.pick(&[-1, 0, 1, 2, 3, 7])),
         "settle 1".to_string(),

@@ -1,6 +1,7 @@
 //! Calls and damage for what a host holds.
 
 use super::expressions::value;
+use super::limits::Limit;
 use crate::deck::Deck;
 use crate::engine::Call;
 use crate::random::Random;
@@ -12,17 +13,33 @@ use crate::state::{base, PLACE, VALUES};
 pub struct Known {
     pub channels: usize,
     pub parts: usize,
+    /// The parts' limits; none of a deck that can't be read.
+    pub limits: Vec<Limit>,
 }
 
 impl Known {
     /// Counts that can't be read are taken to be small.
     pub fn of(deck: &[u8]) -> Known {
         match Deck::read(deck) {
-            Ok((deck, _)) => Known { channels: deck.labels.len(), parts: deck.parts.len() },
-            Err(_) => Known { channels: 3, parts: 2 },
+            Ok((deck, _)) => Known {
+                channels: deck.labels.len(),
+                parts: deck.parts.len(),
+                limits: deck.parts.iter().map(|part| Limit::of(&part.limit)).collect(),
+            },
+            Err(_) => Known { channels: 3, parts: 2, limits: Vec::new() },
         }
     }
+
+    /// The limit of a part, if some value of a channel might break it.
+    fn limit(&self, part: usize) -> Option<&Limit> {
+        self.limits.get(part).filter(|limit| !limit.channels.is_empty())
+    }
 }
+
+/// Of a hundred inputs at a part with a limit, so many are aimed at an edge of it.
+const AIMED: usize = 35;
+/// Of a hundred of those, so many are within it: other inputs often break a limit anyway.
+const WITHIN: usize = 65;
 
 /// Any call, mostly one that is accepted.
 pub fn any(random: &mut Random, known: &Known, host: &Host) -> Call {
@@ -37,16 +54,39 @@ pub fn any(random: &mut Random, known: &Known, host: &Host) -> Call {
 
 /// An input, mostly a good one.
 pub fn input(random: &mut Random, known: &Known, host: &Host) -> Call {
-    let part = match random.below(20) {
+    let part = match random.below(30) {
         0 => known.parts as u32,
         1 if random.chance(50) => random.bits() as u32,
         _ => random.below(known.parts) as u32,
     };
     let mut pairs = good_pairs(random, known, host, part as usize);
-    if random.chance(12) {
+    if random.chance(AIMED) {
+        aim(random, known, host, part as usize, &mut pairs);
+    }
+    if random.chance(9) {
         spoil(random, known, &mut pairs);
     }
     Call::Input { part, pairs }
+}
+
+/// Brings the part to an edge of its limit, on either side, if it has one: all pairs are kept but
+/// for one channel, which may be added.
+fn aim(random: &mut Random, known: &Known, host: &Host, part: usize, pairs: &mut Vec<i32>) {
+    let Some(limit) = known.limit(part) else { return };
+    let channel = random.pick(&limit.channels);
+    let mut values = values_of(host, part).to_vec();
+    pairs.chunks_exact(2).for_each(|pair| values[pair[0] as usize] = pair[1]);
+    let Some(edge) = limit.edge(random, &values, channel) else { return };
+    let value = if random.chance(WITHIN) { edge.within } else { edge.outside };
+    match pairs.chunks_exact_mut(2).find(|pair| pair[0] == channel.into()) {
+        Some(pair) => pair[1] = value,
+        None => pairs.extend([channel.into(), value]),
+    }
+}
+
+/// The values of a part, one of sixteen.
+fn values_of<'a>(host: &'a Host, part: usize) -> &'a [i32] {
+    &host.state.values[base(part)..base(part + 1)]
 }
 
 /// Different known channels; some of the values are those already there.
@@ -106,6 +146,11 @@ fn budget(random: &mut Random, pending: u32) -> u32 {
 pub fn damage(random: &mut Random, known: &Known, host: &Host) -> Line {
     let places = host.pool.len() / PLACE;
     let pending = host.state.pending as usize;
+    if random.chance(15) {
+        if let Some(line) = outside(random, known, host) {
+            return line;
+        }
+    }
     match random.below(6) {
         0 => Line::Value { index: random.below(VALUES) as u32, value: value(random) },
         1 => {
@@ -130,6 +175,16 @@ pub fn damage(random: &mut Random, known: &Known, host: &Host) -> Line {
     }
 }
 
+/// A value that brings a part only just outside its limit, as no call does; the state stays as good
+/// as it was.
+fn outside(random: &mut Random, known: &Known, host: &Host) -> Option<Line> {
+    let part = random.below(known.parts);
+    let limit = known.limit(part)?;
+    let channel = random.pick(&limit.channels);
+    let edge = limit.edge(random, values_of(host, part), channel)?;
+    Some(Line::Value { index: (base(part) + usize::from(channel)) as u32, value: edge.outside })
+}
+
 /// A number in one of the places up to this one.
 fn pool_number(random: &mut Random, last: usize, value: i32) -> Line {
     let place = if random.chance(50) { last } else { random.below(last + 1) };
@@ -148,7 +203,8 @@ pub fn restored(line: &Line, host: &Host) -> Option<Line> {
     })
 }
 
-/// An update written behind the pending ones by hand: new, or one that is pending already.
+/// An update written behind the pending ones by hand: new, or one that is pending already. Now and
+/// then a part is outside its limit as well.
 pub fn hand_written(random: &mut Random, known: &Known, host: &Host) -> Vec<Line> {
     let first = PLACE * host.state.pending as usize;
     if first + PLACE > host.pool.len() {
@@ -160,6 +216,9 @@ pub fn hand_written(random: &mut Random, known: &Known, host: &Host) -> Vec<Line
     let mut lines: Vec<Line> =
         numbers.into_iter().enumerate().filter(|&(_, value)| value != 0).map(write).collect();
     lines.push(Line::Pending { number: host.state.pending + 1 });
+    if random.chance(15) {
+        lines.extend(outside(random, known, host));
+    }
     lines
 }
 

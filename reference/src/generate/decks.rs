@@ -130,12 +130,12 @@ fn carried(random: &mut Random, rules: usize, style: Style) -> Vec<u8> {
 /// A limit that the part's opening values meet.
 fn limit(random: &mut Random, part: &Part, size: Size, style: Style) -> Truth {
     let scope = Scope { channels: part.opening.len(), far: false };
-    let channel = random.below(scope.channels) as u8;
+    // Room for the opposite, which is a byte longer.
     let shorter = Size { expression: size.expression - 1, ..size };
     let limit = match style {
-        Style::Lively if random.chance(40) => Truth::True,
-        Style::Lively => near_limit(random, channel, part.opening[usize::from(channel)]),
-        Style::Any => any_truth(random, scope, shorter),
+        Style::Lively if random.chance(30) => Truth::True,
+        Style::Any if random.chance(70) => any_truth(random, scope, shorter),
+        _ => near_limit(random, &part.opening, shorter.expression),
     };
     met(limit, part)
 }

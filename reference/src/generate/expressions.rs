@@ -1,6 +1,6 @@
 //! Expressions of an exact length, and short ones that are often true or change something.
 
-use crate::expression::{Number, Scope, Truth};
+use crate::expression::{Expression, Number, Scope, Truth};
 use crate::random::Random;
 
 /// A value: mostly small, sometimes at an end of the range, sometimes any.
@@ -91,13 +91,37 @@ pub fn likely_truth(random: &mut Random, scope: Scope, event: u8) -> Truth {
     }
 }
 
-/// A limit on a channel, not far from the value that it opens with.
-pub fn near_limit(random: &mut Random, channel: u8, opening: i32) -> Truth {
-    let own = Box::new(Number::Own(channel));
-    let distance = random.within(1..=12);
-    if random.chance(50) {
-        Truth::Less(own, Number::Literal(opening.saturating_add(distance)).into())
+/// Bounds not far from where the part opens: above, below, both, all but a gap, or all but one
+/// value. Where that takes more bytes than there may be, only a bound above.
+pub fn near_limit(random: &mut Random, opening: &[i32], most_bytes: usize) -> Truth {
+    let bounded = bounded(random, opening.len());
+    let at = bounded.evaluate(opening, &[]);
+    let mut distance = || random.within(1..=12);
+    let (high, low) = (at.saturating_add(distance()), at.saturating_sub(distance()));
+    let beyond = high.saturating_add(distance());
+    let less_than = |bound| Truth::Less(bounded.clone().into(), Number::Literal(bound).into());
+    let more_than = |bound| Truth::Less(Number::Literal(bound).into(), bounded.clone().into());
+    let limit = match random.below(8) {
+        0 | 1 => more_than(low),
+        2 | 3 => Truth::And(less_than(high).into(), more_than(low).into()),
+        4 => Truth::Or(less_than(high).into(), more_than(beyond).into()),
+        5 => Truth::Not(Truth::Equal(bounded.clone().into(), Number::Literal(high).into()).into()),
+        _ => less_than(high),
+    };
+    if limit.encode().len() <= most_bytes {
+        limit
     } else {
-        Truth::Less(Number::Literal(opening.saturating_sub(distance)).into(), own)
+        less_than(high)
+    }
+}
+
+/// What a limit bounds: a channel, or how two of them stand to each other.
+fn bounded(random: &mut Random, channels: usize) -> Number {
+    let mut own = || Number::Own(random.below(channels) as u8);
+    let (a, b) = (own(), own());
+    match random.below(6) {
+        0 => Number::Sum(a.into(), b.into()),
+        1 => Number::Difference(a.into(), b.into()),
+        _ => a,
     }
 }

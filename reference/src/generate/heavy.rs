@@ -1,7 +1,7 @@
 //! Decks whose charges are near 65,535 or far beyond it.
 
-use super::decks::bare;
-use super::expressions::{channel, likely_truth};
+use super::decks::{bare, met};
+use super::expressions::{channel, likely_truth, near_limit};
 use super::Size;
 use crate::deck::{Action, Assignment, Deck, Kind, Rule};
 use crate::expression::Scope;
@@ -9,6 +9,17 @@ use crate::random::Random;
 
 /// Charges near 65,535 (both sides of it), or steep ones, up to far beyond 2^64.
 pub fn heavy(random: &mut Random, size: Size) -> Deck {
+    let mut deck = any_heavy(random, size);
+    // Inputs that find no room and would break a limit as well.
+    for part in &mut deck.parts {
+        if random.chance(40) {
+            part.limit = met(near_limit(random, &part.opening, size.expression - 1), part);
+        }
+    }
+    deck
+}
+
+fn any_heavy(random: &mut Random, size: Size) -> Deck {
     if random.chance(40) {
         let charge = match random.below(3) {
             0 => 65_535,

@@ -5,6 +5,7 @@ pub mod decks;
 pub mod expressions;
 pub mod faults;
 pub mod heavy;
+pub mod limits;
 pub mod scripts;
 
 use crate::deck::Deck;

@@ -138,7 +138,8 @@ impl Writer<'_> {
 }
 
 /// A deck with a text that fills all 65,535 places by hand, and then calls: inputs that find no
-/// room, commits anywhere, settles, and damage deep in the pool. Channels 2 of deck D start no rule.
+/// room, one of them outside its limit too, commits anywhere, settles, and damage deep in the pool.
+/// Channels 2 of deck D start no rule.
 pub fn full(random: &mut Random) -> (Vec<u8>, String) {
     let places = 65_535;
     let mut text = format!("start {}\n", 10 * places);
@@ -155,6 +156,7 @@ pub fn full(random: &mut Random) -> (Vec<u8>, String) {
         "input 0 0 4".to_string(),
         format!("commit {place}"),
         format!("commit {}", places - 2),
+        "input 1 0 5 2 10".to_string(),
         "input 1 0 5".to_string(),
         format!("settle {}", random.below(20)),
         format!("pool {number} {}", random.pick(&[-1, 0, 1, 2, 3, 7])),

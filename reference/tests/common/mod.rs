@@ -3,6 +3,9 @@
 
 pub mod model;
 
+use model::holds;
+use reference::deck::Deck;
+use reference::expression::Truth;
 use reference::script::Host;
 #[allow(unused_imports)]
 pub use reference::stored::{assign, copy, deck_d, deck_d_with, deck_of};
@@ -12,4 +15,23 @@ pub fn fresh(deck: &[u8], places: usize) -> Host<'_> {
     let mut host = Host::new(deck);
     assert_eq!(host.start(10 * places), Ok(()));
     host
+}
+
+/// Whether every part is within its limit in this table of values.
+pub fn parts_within(deck: &Deck, values: &[i32]) -> bool {
+    deck.parts.iter().zip(values.chunks(32)).all(|(part, values)| holds(&part.limit, values, &[]))
+}
+
+/// A part's values with the pairs of an input set.
+pub fn with_pairs(values: &[i32], pairs: &[i32]) -> Vec<i32> {
+    let mut values = values.to_vec();
+    pairs.chunks(2).for_each(|pair| values[pair[0] as usize] = pair[1]);
+    values
+}
+
+/// Whether one step of some channel of these pairs leads over an edge of the limit.
+pub fn is_at_edge(limit: &Truth, values: &[i32], pairs: &[i32]) -> bool {
+    let here = holds(limit, values, &[]);
+    let beside = |pair: &[i32], step: i32| with_pairs(values, &[pair[0], pair[1].saturating_add(step)]);
+    pairs.chunks(2).any(|pair| [-1, 1].into_iter().any(|step| holds(limit, &beside(pair, step), &[]) != here))
 }

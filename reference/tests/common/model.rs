@@ -104,14 +104,26 @@ impl<'a> Model<'a> {
         if pairs.len() % 2 == 1 || channels.is_empty() || channels.len() > 32 || !known || !different {
             return Err(12);
         }
-        let (values, pending, before) = (self.values.clone(), self.pending.clone(), self.charge());
         let list: Pairs = pairs.chunks(2).map(|pair| (pair[0] as usize, pair[1])).collect();
+        if !self.limit_holds_with(part, &list) {
+            return Err(17);
+        }
+        let (values, pending, before) = (self.values.clone(), self.pending.clone(), self.charge());
         self.apply(part, &list);
         if self.charge() > self.places {
             (self.values, self.pending) = (values, pending);
             return Err(13);
         }
         Ok((self.charge() - before) as u32)
+    }
+
+    /// Whether a part would be within its limit with these values set.
+    fn limit_holds_with(&self, part: usize, list: &Pairs) -> bool {
+        let mut values = self.values[part].clone();
+        for &(channel, value) in list {
+            values[channel] = value;
+        }
+        holds(&self.deck.parts[part].limit, &values, &[])
     }
 
     /// Sets values and fires for the channels that differ.
@@ -152,16 +164,11 @@ impl<'a> Model<'a> {
     /// Whether the update was applied.
     fn commit(&mut self, place: usize) -> bool {
         let (part, list) = self.pending.remove(place);
-        let mut values = self.values[part].clone();
-        for &(channel, value) in &list {
-            values[channel] = value;
-        }
-        let limit = &self.deck.parts[part].limit;
-        if !holds(limit, &values, &[]) {
+        if !self.limit_holds_with(part, &list) {
             return false;
         }
         self.apply(part, &list);
-        if holds(limit, &self.values[part], &[]) {
+        if holds(&self.deck.parts[part].limit, &self.values[part], &[]) {
             self.within += 1;
         } else {
             self.outside += 1;

@@ -1,4 +1,4 @@
--- A refusal's number is 1 to 16 in every call, and so never the 0 of an accepted one. Assumes nothing.
+-- A refusal's number is one of the list, from 1 on, in every call, and so never the 0 of an accepted one. Assumes nothing.
 use Prim.Native.Nat.{ℕ, _≤_}
 use mathlib.Core.Path.{_≡_, refl, sym, ap, _∙_}
 use mathlib.Core.Bool.{Bool, true, false, _&&_}
@@ -9,8 +9,8 @@ use lib.IntN.{ℤ}
 use borrow.Author.Tests.{leb-true}
 use Rattle.lists.specs.Laws.Booleans.{and-left, and-right}
 use Rattle.refusals.specs.Outcome.{Outcome, refused, accepted, _>>=_, _>>_, require, requireNone, outcomes}
-use Rattle.refusals.specs.Numbers.{opensOutside, cyclicGraph, overcharged, badPool, badState, unknownPart, badInput, overCapacity}
-use Rattle.refusals.specs.Numbers.{placeNotPending, unknownSection, budgetTooLarge}
+use Rattle.refusals.specs.Numbers.{opensOutside, cyclicGraph, overcharged, badPool, badState, unknownPart, badInput}
+use Rattle.refusals.specs.Numbers.{inputOutside, overCapacity, placeNotPending, unknownSection, budgetTooLarge, lastNumber}
 use Rattle.refusals.specs.Laws.Outcomes.{refused≢accepted}
 use Rattle.deck.specs.Layout.{Layout, read}
 use Rattle.deck.specs.Laws.Faults.{read-fault}
@@ -18,16 +18,17 @@ use Rattle.pool.specs.States.{Memory}
 use Rattle.passing.specs.Check.{passing}
 use Rattle.calls.specs.Calls.{Done, reply, tested, check, start, input, commit, settle, Ends, sectionEnds, sectionReply, section}
 
--- from the first number of document 01's list to the last
+-- from the first number of the list to the last
 abbrev pub Listed : ℕ → Type 0
-Listed n = (1 ≤ n) × (n ≤ 16)
+Listed n = (1 ≤ n) × (n ≤ lastNumber)
 
 pub data Numbered {A : Type 0} : Outcome A → Type 0 where
   answers : (a : A) → Numbered (accepted a)
   refuses : {n p : ℕ} → Listed n → Numbered (refused n p)
 
-listed : (n : ℕ) → (leb 1 n && leb n 16) ≡ true → Listed n
-listed n h = (leb-true 1 n (and-left (leb 1 n) (leb n 16) h), leb-true n 16 (and-right (leb 1 n) (leb n 16) h))
+listed : (n : ℕ) → (leb 1 n && leb n lastNumber) ≡ true → Listed n
+listed n h =
+    (leb-true 1 n (and-left (leb 1 n) (leb n lastNumber) h), leb-true n lastNumber (and-right (leb 1 n) (leb n lastNumber) h))
 
 -- one after the other
 module _ {A B : Type 0} where
@@ -96,7 +97,8 @@ module _ (bytes : List ℕ) (m : Memory) where
       reply-numbered m _ (then-numbered (tested bytes m) _ (tested-numbered bytes m) (λ d.
       after-numbered _ _ (require-numbered _ unknownPart 0 (listed _ refl))
       (after-numbered _ _ (require-numbered _ badInput 0 (listed _ refl))
-      (after-numbered _ _ (require-numbered _ overCapacity 0 (listed _ refl)) (answers _)))))
+      (after-numbered _ _ (require-numbered _ inputOutside 0 (listed _ refl))
+      (after-numbered _ _ (require-numbered _ overCapacity 0 (listed _ refl)) (answers _))))))
 
   pub commit-numbered : (k : ℕ) → Numbered (commit bytes m k .answer)
   unfolding commit
@@ -112,7 +114,7 @@ module _ (bytes : List ℕ) (m : Memory) where
 
 -- section's number is 0 exactly where it is accepted
 pub record SectionNumbered (bytes : List ℕ) (k : ℕ) : Type 0 where
-  pub most : section bytes k .number ≤ 16
+  pub most : section bytes k .number ≤ lastNumber
   pub zero-accepted : section bytes k .number ≡ 0 → (e : Ends) × (sectionEnds bytes k ≡ accepted e)
   pub accepted-zero : (e : Ends) → sectionEnds bytes k ≡ accepted e → section bytes k .number ≡ 0
 

@@ -82,6 +82,32 @@ pub pick-known : (d : Deck) (C : ℕ) (x : Machine) (k : ℕ) → Fine d C x →
 unfolding pick
 pick-known d C x k f h = known-has d (pick k (x .pending)) (all-at (known d) (x .pending) k (record { part = 0; pairs = [] }) (f .known) h)
 
+-- ---- a commit, applied or discarded
+
+-- what is left when an update is taken out
+abbrev pub takenOut : ℕ → Machine → Machine
+takenOut k x = record { values = x .values; pending = without k (x .pending) }
+
+module _ (d : Deck) (k : ℕ) (x : Machine) where
+  abbrev u : Update
+  u = pick k (x .pending)
+
+  -- the update's part is within its limit with the update applied
+  abbrev pub Holds : Bool → Type 0
+  Holds b = within d (u .part) (assign (u .part) (u .pairs) (x .values)) ≡ b
+
+  -- whatever holds of an applied commit and of a discarded one holds of every commit
+  pub commit-either : (P : Bool → Machine → Type 0)
+      → (Holds true → P true (setAndFire d (u .part) (u .pairs) (takenOut k x)))
+      → (Holds false → P false (takenOut k x))
+      → P (committed d k x .applied) (committed d k x .machine)
+  unfolding committed
+  commit-either P applied discarded = go (within d (u .part) (assign (u .part) (u .pairs) (x .values))) refl
+    where
+      go : (b : Bool) → Holds b → P b (cond b (setAndFire d (u .part) (u .pairs) (takenOut k x)) (takenOut k x))
+      go true e = applied e
+      go false e = discarded e
+
 module _ (d : Deck) (formed : Formed d) where
   -- ---- setting channels
 
@@ -128,46 +154,30 @@ module _ (d : Deck) (formed : Formed d) where
 
     pub commit-falls : (k : ℕ) (x : Machine) → k < length (x .pending) → pick k (x .pending) .part < N d
         → charge d (committed d k x .machine .pending) < charge d (x .pending)
-    unfolding committed channels
-    commit-falls k x h lp = go (within d (u .part) (assign (u .part) (u .pairs) (x .values)))
-      where
-        u : Update
-        u = pick k (x .pending)
-
-        taken : Machine
-        taken = record { values = x .values; pending = without k (x .pending) }
-
-        go : (b : Bool) → charge d ((cond b (setAndFire d (u .part) (u .pairs) taken) taken) .pending) < charge d (x .pending)
-        go true = omega (arith, set-most (u .part) (u .pairs) taken lp, without-charge d k (x .pending) h)
-        go false = omega (arith, update-at-least-one d (u .part) (channels u), without-charge d k (x .pending) h)
+    unfolding channels
+    commit-falls k x h lp =
+        let upd = pick k (x .pending) in
+        let less = without-charge d k (x .pending) h in
+        commit-either d k x (λ _ y. charge d (y .pending) < charge d (x .pending))
+        (λ _. omega (arith, set-most (upd .part) (upd .pairs) (takenOut k x) lp, less))
+        (λ _. omega (arith, update-at-least-one d (upd .part) (channels upd), less))
 
     pub commit-fine : (C k : ℕ) (x : Machine) → Fine d C x → k < length (x .pending) → Fine d C (committed d k x .machine)
-    unfolding committed channels
+    unfolding channels
     commit-fine C k x f h =
-        go (within d (u .part) (assign (u .part) (u .pairs) (x .values)))
-      where
-        u : Update
-        u = pick k (x .pending)
-
-        has : Known d u
-        has = pick-known d C x k f h
-
-        taken : Machine
-        taken = record { values = x .values; pending = without k (x .pending) }
-
-        fine-taken : Fine d C taken
-        fine-taken =
-            record {
-              long = f .long;
-              unused = f .unused;
-              known = without-all (Rattle.pool.specs.States.known d) k (x .pending) (f .known);
-              short = without-all short k (x .pending) (f .short);
-              different = without-different k (x .pending) (f .different);
-              bounded = omega (arith, without-charge d k (x .pending) h, f .bounded);
-            }
-
-        go : (b : Bool) → Fine d C (cond b (setAndFire d (u .part) (u .pairs) taken) taken)
-        go true =
-            set-fine C C (u .part) (u .pairs) taken fine-taken (has .part) (has .inside)
-            (omega (arith, set-most (u .part) (u .pairs) taken (has .part), without-charge d k (x .pending) h, f .bounded))
-        go false = fine-taken
+        let upd = pick k (x .pending) in
+        let has = pick-known d C x k f h in
+        let less = without-charge d k (x .pending) h in
+        let left : Fine d C (takenOut k x) =
+        record {
+          long = f .long;
+          unused = f .unused;
+          known = without-all (Rattle.pool.specs.States.known d) k (x .pending) (f .known);
+          short = without-all short k (x .pending) (f .short);
+          different = without-different k (x .pending) (f .different);
+          bounded = omega (arith, less, f .bounded);
+        } in
+        commit-either d k x (λ _ y. Fine d C y)
+        (λ _. set-fine C C (upd .part) (upd .pairs) (takenOut k x) left (has .part) (has .inside)
+        (omega (arith, set-most (upd .part) (upd .pairs) (takenOut k x) (has .part), less, f .bounded)))
+        (λ _. left)

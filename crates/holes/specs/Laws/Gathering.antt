@@ -390,8 +390,14 @@ module _ {pool₀ : List ℤ} {first last used : ℕ} {pool : List ℤ} {from to
         done-is k n =
             let low = moved-low in
             let size : length (take (10 * used - 10 * left) (drop (10 * left) pool₁)) ≡ 10 * k - 10 * left
-            = omega (arith, length-take (10 * used - 10 * left) (drop (10 * left) pool₁), length-drop (10 * left) pool₁,
-            low .0, low .1, n) in
+            = omega (
+              arith,
+              length-take (10 * used - 10 * left) (drop (10 * left) pool₁),
+              length-drop (10 * left) pool₁,
+              low .0,
+              low .1,
+              n,
+            ) in
             let there : 10 * left + (10 * used - 10 * left) ≡ 10 * k = omega (arith, low .0, n) in
             ap₂ (λ a b. take (10 * left) pool₁ ++ (a ++ b)) (f ∙ ap zeros size)
             (drop-drop (10 * used - 10 * left) (10 * left) pool₁ ∙ ap (λ k. drop k pool₁) there)

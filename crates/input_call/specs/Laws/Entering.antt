@@ -9,7 +9,7 @@ use lib.IntN.{ℤ}
 use borrow.Author.Tests.{le-leb, lt-leb, lt-ltb, le-ltb, not-true, not-false}
 use Rattle.lists.specs.Bits.{maskOf}
 use Rattle.refusals.specs.Outcome.{Outcome, refused, accepted, outcomes}
-use Rattle.refusals.specs.Numbers.{unknownPart, badInput, overCapacity}
+use Rattle.refusals.specs.Numbers.{unknownPart, badInput, inputOutside, overCapacity}
 use Rattle.deck.specs.Deck.{Deck, N}
 use Rattle.deck.specs.declared.Deck as Counted
 use Rattle.pool.specs.Updates.{Update, assign, charge}
@@ -19,6 +19,7 @@ use Rattle.pool.specs.Moves.{Laid}
 use Rattle.pool.specs.Laws.Values.{assign-length}
 use Rattle.pool.specs.Laws.Good.{count-bounded}
 use Rattle.pool.specs.Laws.Laid.{laid-cleared, cleared-length}
+use Rattle.passing.specs.Check.{within}
 use Rattle.passing.specs.Tabled.{deckOf}
 use Rattle.passing.specs.Judged.{shape}
 use Rattle.firing.specs.Firing.{fired, changed, enqueue, setAndFire}
@@ -47,6 +48,10 @@ module _ (d : Deck) (C : ℕ) (x : Machine) (p : ℕ) (l : List ℤ) where
   abbrev later : Machine
   later = setAndFire d p (pairsOf l) x
 
+  -- the part is within its limit with the pairs set
+  abbrev inside : Bool
+  inside = within d p (assign p (pairsOf l) (x .values))
+
   entered-unknown : N d ≤ p → entered d C x p l ≡ refused unknownPart 0
   unfolding entered outcomes
   entered-unknown h = rw (le-ltb p (N d) h)
@@ -55,14 +60,18 @@ module _ (d : Deck) (C : ℕ) (x : Machine) (p : ℕ) (l : List ℤ) where
   unfolding entered outcomes
   entered-bad h g = rw (lt-ltb p (N d) h, g)
 
-  entered-over : p < N d → goodInput d l ≡ true → C < charge d (later .pending) → entered d C x p l ≡ refused overCapacity 0
+  entered-outside : p < N d → goodInput d l ≡ true → inside ≡ false → entered d C x p l ≡ refused inputOutside 0
   unfolding entered outcomes
-  entered-over h g o = rw (lt-ltb p (N d) h, g, lt-leb (charge d (later .pending)) C o)
+  entered-outside h g i = rw (lt-ltb p (N d) h, g, i)
 
-  entered-done : p < N d → goodInput d l ≡ true → charge d (later .pending) ≤ C
+  entered-over : p < N d → goodInput d l ≡ true → inside ≡ true → C < charge d (later .pending) → entered d C x p l ≡ refused overCapacity 0
+  unfolding entered outcomes
+  entered-over h g i o = rw (lt-ltb p (N d) h, g, i, lt-leb (charge d (later .pending)) C o)
+
+  entered-done : p < N d → goodInput d l ≡ true → inside ≡ true → charge d (later .pending) ≤ C
       → entered d C x p l ≡ accepted (record { answer = added (charge d (later .pending) - charge d (x .pending)); machine = later })
   unfolding entered outcomes
-  entered-done h g o = rw (lt-ltb p (N d) h, g, le-leb (charge d (later .pending)) C o)
+  entered-done h g i o = rw (lt-ltb p (N d) h, g, i, le-leb (charge d (later .pending)) C o)
 
 -- ---- what is lent, and what is left
 
@@ -164,11 +173,19 @@ module _ {s : List ℕ} {k : Counted.Deck} {rules parts memo index : List ℕ} {
       pub enter-pairs : goodInput d l ≡ true → (length l % 2 ≡ 0) × (length l ≤ 64)
       enter-pairs g = (input-even d l g, input-few d l g)
 
-      module _ (g : goodInput d l ≡ true) {back : List ℤ} {mask : ℕ} (cmp : Compared p l vs back mask)
-          {after : List ℤ} (is : after ≡ assign p (pairsOf l) vs) where
+      module _ (g : goodInput d l ≡ true) {after : List ℤ} (is : after ≡ assign p (pairsOf l) vs) where
         pub enter-after : length after ≡ 512
         enter-after = ap length is ∙ assign-length p (pairsOf l) vs ∙ enter-long
 
+        pub enter-outside : {answer : Outcome Answer} {vs₁ : List ℤ} {pending₁ : ℕ}
+            {b : Bool} → b ≡ within d p after → not b ≡ true → answer ≡ refused inputOutside 0 → vs₁ ≡ vs → pending₁ ≡ pending
+            → Enters s vs pending total index pool p l answer vs₁ pending₁ pool
+        enter-outside {b = b} i h a v c x st =
+            let set = ap (within d p) (is ∙ ap (assign p (pairsOf l)) (st .values)) in
+            refusal inputOutside a v c refl _ (entered-outside d (capacity (length pool)) x p l low g (sym set ∙ sym i ∙ not-true b h))
+
+      module _ (g : goodInput d l ≡ true) {after : List ℤ} (is : after ≡ assign p (pairsOf l) vs)
+          {b : Bool} (i : b ≡ within d p after) (h : not b ≡ false) {back : List ℤ} {mask : ℕ} (cmp : Compared p l vs back mask) where
         changes : mask ≡ maskOf (changed d p vs after)
         changes =
             cmp .mask
@@ -191,6 +208,9 @@ module _ {s : List ℕ} {k : Counted.Deck} {rules parts memo index : List ℕ} {
             now : after ≡ y .values
             unfolding setAndFire
             now = is ∙ ap (assign p (pairsOf l)) (st .values)
+
+            inside-here : within d p (assign p (pairsOf l) (x .values)) ≡ true
+            inside-here = sym (ap (within d p) (is ∙ ap (assign p (pairsOf l)) (st .values))) ∙ sym i ∙ not-false b h
 
             all-used : pending ≡ length (x .pending)
             all-used = st .count ∙ whole-length (x .pending)
@@ -234,7 +254,7 @@ module _ {s : List ℕ} {k : Counted.Deck} {rules parts memo index : List ℕ} {
                 → pool₂ ≡ take (10 * pending) pool₁ ++ zeros (length pool₁ - 10 * pending)
                 → Leaves (entered d (capacity (length pool)) x p l) vs pending pool answer vs₁ pending₁ pool₂
             full-leaves f a v c z =
-                refusal overCapacity a v c (z ∙ cleared) _ (entered-over d (capacity (length pool)) x p l low g (over f))
+                refusal overCapacity a v c (z ∙ cleared) _ (entered-over d (capacity (length pool)) x p l low g inside-here (over f))
 
             module _ (f : q .full ≡ false) where
               charged : q .charge ≡ charge d (y .pending)
@@ -265,7 +285,7 @@ module _ {s : List ℕ} {k : Counted.Deck} {rules parts memo index : List ℕ} {
               room-leaves =
                   subst
                   (λ o. Leaves o vs pending pool (accepted (added (q .charge - total))) after (q .used) pool₁)
-                  (sym (entered-done d (capacity (length pool)) x p l low g bounded))
+                  (sym (entered-done d (capacity (length pool)) x p l low g inside-here bounded))
                   (ap₂ (λ a b. accepted (added (a - b))) charged (st .charged), left)
 
           -- the pending updates of before stand in front

@@ -8,14 +8,14 @@ use lib.ListN.{length}
 use lib.IntN.{ℤ}
 use Rattle.lists.specs.Lists.{isEmpty}
 use Rattle.refusals.specs.Outcome.{Outcome, refused, accepted, _>>=_, _>>_, require, outcomes}
-use Rattle.refusals.specs.Numbers.{badPool, badState, unknownPart, badInput, overCapacity, placeNotPending, budgetTooLarge}
+use Rattle.refusals.specs.Numbers.{badPool, badState, unknownPart, badInput, inputOutside, overCapacity, placeNotPending, budgetTooLarge}
 use Rattle.deck.specs.Deck.{Deck, N}
 use Rattle.deck.specs.Layout.{Layout}
-use Rattle.pool.specs.Updates.{charge}
+use Rattle.pool.specs.Updates.{assign, charge}
 use Rattle.pool.specs.Places.{capacity, pairsOf}
 use Rattle.pool.specs.States.{Machine, Memory, load, store, goodLength, good}
 use Rattle.pool.specs.Laws.Good.{Fine, load-store, store-length, good-stored}
-use Rattle.passing.specs.Check.{passing}
+use Rattle.passing.specs.Check.{within, passing}
 use Rattle.firing.specs.Firing.{setAndFire, committed, mayTake}
 use Rattle.calls.specs.Calls as Calls
 use Rattle.calls.specs.Calls.{Answer, added, applied, discarded, settled, spent, Reply, Done, reply, tested, goodInput, settling, oneMore}
@@ -61,6 +61,7 @@ inputBody : Deck → ℕ → Machine → ℕ → List ℤ → Outcome Done
 inputBody d C x p l = do
   require (ltb p (N d)) unknownPart 0
   require (goodInput d l) badInput 0
+  require (within d p (assign p (pairsOf l) (x .values))) inputOutside 0
   let after = setAndFire d p (pairsOf l) x
   require (leb (charge d (after .pending)) C) overCapacity 0
   accepted (record { answer = added (charge d (after .pending) - charge d (x .pending)); machine = after })
@@ -122,7 +123,8 @@ module _ (bytes : List ℕ) (l : Layout) (passes : passing bytes ≡ accepted l)
       goes-on (λ k C y. inputBody k C y p pairs)
       ∙ guarded (ltb p (N d)) unknownPart _ _
       (guarded (goodInput d pairs) badInput _ _
-      (guarded (leb (charge d (setAndFire d p (pairsOf pairs) x .pending)) (capacity n)) overCapacity _ _ (accepted-handed _ _ _)))
+      (guarded (within d p (assign p (pairsOf pairs) (x .values))) inputOutside _ _
+      (guarded (leb (charge d (setAndFire d p (pairsOf pairs) x .pending)) (capacity n)) overCapacity _ _ (accepted-handed _ _ _))))
 
   commit-agrees : (k : ℕ) → Calls.commit bytes m k ≡ handed n x (taken d (capacity n) x (commit k))
   unfolding Calls.commit taken commitBody turn

@@ -1,20 +1,25 @@
 -- What a host sees that hands to each call what the last one handed back. Each step is the equation of a published call's
 -- contract, so that the order theorem holds of what the code hands back. Assumes nothing.
-use Prim.Native.Nat.{ℕ}
+use Prim.Native.Nat.{ℕ, _<_}
 use mathlib.Core.Path.{_≡_, refl, sym, _∙_, ap, ap₂}
+use mathlib.Core.Bool.{true}
 use mathlib.Core.List.{List, [], _∷_}
 use lib.ListN.{length}
 use lib.IntN.{ℤ}
 use Rattle.refusals.specs.Outcome.{Outcome, accepted}
 use Rattle.expression.specs.Laws.Bytes.{Bytes}
+use Rattle.deck.specs.Deck.{N}
 use Rattle.deck.specs.Layout.{Layout}
+use Rattle.pool.specs.Places.{capacity}
 use Rattle.pool.specs.States.{Memory, store}
-use Rattle.passing.specs.Check.{passing}
+use Rattle.passing.specs.Check.{within, passing}
 use Rattle.calls.specs.Calls as Calls
-use Rattle.calls.specs.Calls.{Answer, started, Reply}
+use Rattle.calls.specs.Calls.{Answer, started, Reply, opened}
 use Rattle.orders.specs.Calling.{Call, made, runFrom, run}
 use Rattle.orders.specs.Listed.{listed}
-use Rattle.orders.specs.Order.{Order}
+use Rattle.orders.specs.Order.{EveryWithin, EndsWithin, Order}
+use Rattle.orders.specs.Laws.Listing.{along-ends}
+use Rattle.orders.specs.Laws.Kept.{passed-opens}
 use Rattle.orders.specs.Laws.Order.{order}
 
 -- an answer, with what the host then holds
@@ -63,3 +68,17 @@ order-seen bytes pool b m s cs seen end t =
       memory = r .1 ∙ ap (λ k. runFrom bytes k cs .memory) first ∙ all .memory;
       ordered = all;
     }
+
+-- "after every call in the list, every part is within its limit", of the values that the host then holds: what a call leaves is the end
+-- of the trace up to it
+pub within-seen : (bytes : List ℕ) (pool : List ℤ) → Bytes bytes
+    → (m : Memory) → replied (accepted started) m ≡ Calls.start bytes pool
+    → (cs : List Call) (seen : List (Outcome Answer)) (end : Memory) → Trace bytes m cs seen end
+    → (l : Layout) × (passing bytes ≡ accepted l) × ((p : ℕ) → p < N (l .deck) → within (l .deck) p (end .state .values) ≡ true)
+unfolding listed EveryWithin EndsWithin opened store
+within-seen bytes pool b m s cs seen end t =
+    let o = order-seen bytes pool b m s cs seen end t in
+    let d = o .layout .deck in
+    let opens = passed-opens bytes b (o .layout) (o .passes) in
+    let ends = along-ends d (capacity (length pool)) (EveryWithin d) (opened d) opens cs (o .ordered .parts-within) in
+    (o .layout, o .passes, λ p low. ap (λ k. within d p (k .state .values)) (o .memory) ∙ ends p low)

@@ -12,6 +12,7 @@ use Rattle.expression.specs.Laws.Bytes.{Bytes}
 use Rattle.deck.specs.Deck.{Deck}
 use Rattle.deck.specs.Layout.{Layout}
 use Rattle.deck.specs.Laws.Formed.{Formed, formed}
+use Rattle.deck.specs.Laws.Scoped.{Scoped, scoped}
 use Rattle.graph.specs.Laws.Cycles.{Acyclic}
 use Rattle.pool.specs.Places.{capacity}
 use Rattle.pool.specs.States.{Memory, load, goodLength, good}
@@ -23,17 +24,25 @@ use Rattle.calls.specs.Laws.Opening.{fine-opened}
 use Rattle.passing.specs.Laws.Passes.{passes-exactly}
 use Rattle.orders.specs.Calling.{Call, input, commit, settle, made}
 use Rattle.orders.specs.Listed.{taken, machineAfter}
+use Rattle.orders.specs.Order.{EveryWithin}
 use Rattle.orders.specs.Laws.Agreement.{made-agrees}
 use Rattle.orders.specs.Laws.Taking.{taking}
 use Rattle.orders.specs.Laws.Listing.{start-fresh, handed-memory}
 
--- a deck that passes is well formed and has no cycle
+-- a deck that passes is well formed and has no cycle, its expressions name known channels, and its parts open within their limits
 module _ (bytes : List ℕ) (b : Bytes bytes) (l : Layout) (passes : passing bytes ≡ accepted l) where
   pub passed-formed : Formed (l .deck)
   passed-formed = formed (l .deck) (passes-exactly bytes b l .0 passes .layout .0)
 
   pub passed-acyclic : Acyclic (l .deck)
   passed-acyclic = passes-exactly bytes b l .0 passes .acyclic
+
+  pub passed-scoped : Scoped (l .deck)
+  passed-scoped = scoped (l .deck) (passes-exactly bytes b l .0 passes .layout .0)
+
+  pub passed-opens : EveryWithin (l .deck) (opened (l .deck))
+  unfolding EveryWithin opened
+  passed-opens = passes-exactly bytes b l .0 passes .opens
 
 -- what a call has tested when it goes on
 pub record Tested (bytes : List ℕ) (m : Memory) : Type 0 where

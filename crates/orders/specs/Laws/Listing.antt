@@ -17,6 +17,7 @@ use Rattle.refusals.specs.Laws.Outcomes.{refused≢accepted, accepted-inj}
 use Rattle.deck.specs.Deck.{Deck}
 use Rattle.deck.specs.Layout.{Layout}
 use Rattle.deck.specs.Laws.Formed.{Formed}
+use Rattle.deck.specs.Laws.Scoped.{Scoped}
 use Rattle.graph.specs.Laws.Cycles.{Acyclic}
 use Rattle.charge.specs.Charge.{updateCharge}
 use Rattle.charge.specs.Laws.Equations.{update-at-least-one}
@@ -30,9 +31,10 @@ use Rattle.calls.specs.Calls.{started, settled, spent, Reply, reply, opened}
 use Rattle.calls.specs.Laws.Opening.{fine-opened}
 use Rattle.orders.specs.Calling.{Call, input, commit, settle, runFrom, run}
 use Rattle.orders.specs.Listed.{turn, turns, Taken, taken, machineAfter, Listed, inFront, listFrom, listed, commitsOf, addedOf, commitsMade, chargeAdded, chargePending}
-use Rattle.orders.specs.Order.{Along, Accepted, yes-accepted, RefusedAsPlaced, Settles, leavesWithin, hasCharge, Order}
+use Rattle.orders.specs.Order.{Along, Accepted, yes-accepted, RefusedAsPlaced, Settles, leavesWithin, EveryWithin, hasCharge, Order}
 use Rattle.orders.specs.Laws.Agreement.{handed, made-agrees}
 use Rattle.orders.specs.Laws.Taking.{answered, turnsOf, guard, takenTurn, commit-taken, turning, taking}
+use Rattle.orders.specs.Laws.Limits.{along-within}
 
 -- one call in front of a list
 front-answers : (o : Outcome Taken) (l : Listed) → inFront o l .answers ≡ answered o ∷ l .answers
@@ -65,6 +67,15 @@ module _ (d : Deck) (C : ℕ) where
   unfolding Along
   along P h x [] = tt
   along P h x (c ∷ cs) = (h x c, along P h (machineAfter x (taken d C x c)) cs)
+
+  -- what holds at first and after every call holds at the end
+  pub along-ends : (P : Machine → Type 0) (x : Machine) → P x → (cs : List Call)
+      → Along (λ y c. P (machineAfter y (taken d C y c))) d C x cs → P (listFrom d C x cs .machine)
+  unfolding Along listFrom
+  along-ends P x h [] a = h
+  along-ends P x h (c ∷ cs) a =
+      let o = taken d C x c in
+      subst P (sym (front-machine o (listFrom d C (machineAfter x o) cs))) (along-ends P (machineAfter x o) (a .0) cs (a .1))
 
   module _ (formed : Formed d) (acyclic : Acyclic d) where
     settles-paid : (x : Machine) → Fine d C x → (c : Call) → Settles d C x c
@@ -182,7 +193,8 @@ nothing-charged : (d : Deck) → charge d (opened d .pending) ≡ 0
 unfolding opened charge lists
 nothing-charged d = refl
 
-module _ (bytes : List ℕ) (pool : List ℤ) (l : Layout) (fresh : Fresh bytes pool l) (formed : Formed (l .deck)) (acyclic : Acyclic (l .deck)) where
+module _ (bytes : List ℕ) (pool : List ℤ) (l : Layout) (fresh : Fresh bytes pool l)
+    (formed : Formed (l .deck)) (acyclic : Acyclic (l .deck)) (scope : Scoped (l .deck)) (opens : EveryWithin (l .deck) (opened (l .deck))) where
   pub ordered : (cs : List Call) → Order bytes (l .deck) pool cs
   unfolding run listed opened commitsMade chargeAdded chargePending
   ordered cs =
@@ -200,4 +212,5 @@ module _ (bytes : List ℕ) (pool : List ℤ) (l : Layout) (fresh : Fresh bytes 
         stays-within = list-stays d C formed acyclic x f cs;
         each-charged = all-charged d (listFrom d C x cs .machine .pending);
         settles = along-fine d C formed acyclic (Settles d C) (settles-paid d C formed acyclic) x f cs;
+        parts-within = along-within d formed acyclic scope C x f opens cs;
       }

@@ -1,4 +1,4 @@
--- Demand 3. Assumes nothing.
+-- Demand 3, with the sentence of document 02's Req 01. Assumes nothing.
 use Prim.Native.Nat.{ℕ}
 use mathlib.Core.Path.{_≡_}
 use mathlib.Core.List.{List}
@@ -11,14 +11,18 @@ use Rattle.calls.specs.Calls.{start, started}
 use Rattle.orders.specs.Calling.{Call}
 use Rattle.orders.specs.Order.{Order}
 use Rattle.orders.specs.Laws.Listing.{start-fresh, ordered}
-use Rattle.orders.specs.Laws.Kept.{passed-formed, passed-acyclic}
+use Rattle.orders.specs.Laws.Kept.{passed-formed, passed-acyclic, passed-scoped, passed-opens}
 
 -- For every deck, pool length, former content of the pool and list of input, commit and settle calls, any numbers in them,
--- after an accepted start: all sentences of demand 3
+-- after an accepted start: all sentences of demand 3 and that of Req 01
 pub order : (bytes : List ℕ) (pool : List ℤ) → Bytes bytes → start bytes pool .answer ≡ accepted started
     → (l : Layout) × (passing bytes ≡ accepted l) × ((cs : List Call) → Order bytes (l .deck) pool cs)
 order bytes pool b h =
     let fresh = start-fresh bytes pool h in
     let l = fresh .0 in
-    let passes = fresh .1 .passes in
-    (l, passes, ordered bytes pool l (fresh .1) (passed-formed bytes b l passes) (passed-acyclic bytes b l passes))
+    let passes = fresh .1 .passes in (
+      l,
+      passes,
+      ordered bytes pool l (fresh .1) (passed-formed bytes b l passes) (passed-acyclic bytes b l passes) (passed-scoped bytes b l passes)
+          (passed-opens bytes b l passes),
+    )

@@ -4,19 +4,19 @@ use Prim.Native.Nat.{ℕ, _<_}
 use mathlib.Core.Logic.{_↔_, _⊎_, inl, inr}
 use mathlib.Core.Path.{_≡_, refl, sym, _∙_, ap, subst}
 use mathlib.Core.Bool.{Bool, true, false, cond}
-use mathlib.Core.List.{List, [], _∷_}
+use mathlib.Core.List.{List, []}
 use lib.Dec.{leb, ltb}
 use lib.ListN.{length}
 use lib.IntN.{ℤ}
 use borrow.Author.Tests.{ltb-true}
-use Rattle.refusals.specs.Outcome.{Outcome, refused, accepted, _>>_, require, outcomes}
-use Rattle.refusals.specs.Numbers.{unknownPart, badInput, overCapacity, placeNotPending}
+use Rattle.refusals.specs.Outcome.{Outcome, refused, accepted}
+use Rattle.refusals.specs.Numbers.{unknownPart, badInput, inputOutside, overCapacity, placeNotPending}
 use Rattle.refusals.specs.Laws.Outcomes.{refused≢accepted, accepted-inj}
 use Rattle.expression.specs.Laws.Bytes.{Bytes}
 use Rattle.deck.specs.Deck.{Deck, R, N}
 use Rattle.deck.specs.Layout.{Layout}
 use Rattle.deck.specs.Laws.Formed.{Formed}
-use Rattle.deck.specs.Laws.Scoped.{Scoped, scoped}
+use Rattle.deck.specs.Laws.Scoped.{Scoped}
 use Rattle.pool.specs.Updates.{Pair, charge}
 use Rattle.pool.specs.Places.{capacity, pairsOf}
 use Rattle.pool.specs.States.{Machine, Memory, load}
@@ -26,7 +26,6 @@ use Rattle.firing.specs.Firing.{setAndFire, pick, committed}
 use Rattle.calls.specs.Calls as Calls
 use Rattle.calls.specs.Calls.{Answer, added, applied, discarded, goodInput}
 use Rattle.calls.specs.Laws.Inputs.{input-known}
-use Rattle.passing.specs.Laws.Passes.{passes-exactly}
 use Rattle.orders.specs.Calling.{Call, input, commit, made}
 use Rattle.orders.specs.Listed.{turn, Taken, taken, machineAfter}
 use Rattle.orders.specs.Order.{Accepted, yes-accepted}
@@ -34,17 +33,13 @@ use Rattle.orders.specs.Calculus.{Task, Agree, executes, enters, sentTas
 use Rattle.orders.specs.Laws.Agreement.{handed, made-agrees}
 use Rattle.orders.specs.Laws.Taking.{answered, guard, commit-taken, taking}
 use Rattle.orders.specs.Laws.Listing.{handed-answer, handed-memory}
-use Rattle.orders.specs.Laws.Kept.{Tested, accepted-tested, passed-formed, passed-acyclic}
+use Rattle.orders.specs.Laws.Kept.{Tested, accepted-tested, passed-formed, passed-acyclic, passed-scoped}
 use Rattle.orders.specs.Laws.Steps.{sending, input-step, commit-step}
 use Rattle.orders.specs.Laws.Reaches.{Alike, input-determined, commit-reaches}
 
--- the channels of a deck that passes are known wherever its expressions name one
 module _ (bytes : List ℕ) (b : Bytes bytes) (m : Memory) (t : Tested bytes m) where
   abbrev pub deckOf : Deck
   deckOf = t .layout .deck
-
-  pub passed-scoped : Scoped deckOf
-  passed-scoped = scoped deckOf (passes-exactly bytes b (t .layout) .0 (t .passes) .layout .0)
 
   fine : Fine deckOf (capacity (length (m .pool))) (load m)
   fine = fine-loaded deckOf m (t .good-before)
@@ -97,11 +92,13 @@ module _ (d : Deck) (formed : Formed d) (scope : Scoped d) (C : ℕ) (x : Machin
       (λ lp.
       guard goal (goodInput d l) badInput _ (λ e. absurd (refused≢accepted e))
       (λ g.
+      guard goal _ inputOutside _ (λ e. absurd (refused≢accepted e))
+      (λ _.
       guard goal (leb (charge d (setAndFire d p (pairsOf l) x .pending)) C) overCapacity _ (λ e. absurd (refused≢accepted e))
       (λ _ e. (
         sending d p (pairsOf l) x (setAndFire d p (pairsOf l) x),
         (input-step d formed scope p (ltb-true p (N d) lp) (pairsOf l) x (f .long) (input-known d l g), g),
-      ))))
+      )))))
 
 pub input-is-published : (bytes : List ℕ) (m : Memory) (p : ℕ) (l : List ℤ) → Bytes bytes → (a : Answer) → Calls.input bytes m p l .answer ≡ accepted a
     → InputStep bytes m (Calls.input bytes m p l .memory) p (pairsOf l)
@@ -110,7 +107,7 @@ input-is-published bytes m p l b a h =
     let t = accepted-tested bytes m (input p l) a h in
     let d = t .layout .deck in
     let x = load m in
-    let scope = passed-scoped bytes b m t in
+    let scope = passed-scoped bytes b (t .layout) (t .passes) in
     let r = input-stepped d (passed-formed bytes b (t .layout) (t .passes)) scope (capacity (length (m .pool))) x (fine bytes b m t) p l a
     (taken-answer bytes b m t (input p l) a h) in
     let y = load (Calls.input bytes m p l .memory) in
@@ -195,7 +192,9 @@ commit-is-published bytes m k b a h =
     let u = pick k (x .pending) in
     let how = took d C x k a (taken-answer bytes b m t (commit k) a h) in
     let same = sym (loaded-after bytes b m t (commit k) ∙ how .after) in
-    let c = commit-step d (passed-formed bytes b (t .layout) (t .passes)) (passed-scoped bytes b m t) C x (fine bytes b m t) k (how .place) in
+    let form = passed-formed bytes b (t .layout) (t .passes) in
+    let scope = passed-scoped bytes b (t .layout) (t .passes) in
+    let c = commit-step d form scope C x (fine bytes b m t) k (how .place) in
     let now = charge d (committed d k x .machine .pending) in
     record {
       layout = t .layout;
@@ -239,7 +238,9 @@ commit-reached bytes m b t p upd ts S step =
     let d = t .layout .deck in
     let n = length (m .pool) in
     let x = load m in
-    let r = commit-reaches d (passed-formed bytes b (t .layout) (t .passes)) (passed-scoped bytes b m t) (capacity n) x (fine bytes b m t) p upd ts S step in
+    let form = passed-formed bytes b (t .layout) (t .passes) in
+    let scope = passed-scoped bytes b (t .layout) (t .passes) in
+    let r = commit-reaches d form scope (capacity n) x (fine bytes b m t) p upd ts S step in
     let k = r .place in
     let o = taken d (capacity n) x (commit k) in
     let lands = commit-taken d (capacity n) x k (r .inside) in

@@ -39,8 +39,7 @@ use Rattle.orders.specs.Laws.Active.{overridden-at, numbers, active-rule
 use Rattle.orders.specs.Laws.Fired.{at}
 use Rattle.orders.specs.Laws.Known.{limit-same}
 use Rattle.orders.specs.Laws.Reaches.{Alike, executed, commit-reaches}
-use Rattle.orders.specs.Laws.Kept.{Tested, passed-formed, passed-acyclic}
-use Rattle.orders.specs.Laws.Published.{passed-scoped}
+use Rattle.orders.specs.Laws.Kept.{Tested, passed-formed, passed-acyclic, passed-scoped}
 
 -- ---- the node that acts
 
@@ -255,6 +254,6 @@ pub runs-bounded : (bytes : List ℕ) (m : Memory) → Bytes bytes → (t : Test
     → Runs (t .layout .deck) n (systemOf (load m)) → n ≤ charge (t .layout .deck) (load m .pending)
 runs-bounded bytes m b t n r =
     let l = t .layout in
-    runs-from (l .deck) (passed-formed bytes b l (t .passes)) (passed-acyclic bytes b l (t .passes)) (passed-scoped bytes b m t)
+    runs-from (l .deck) (passed-formed bytes b l (t .passes)) (passed-acyclic bytes b l (t .passes)) (passed-scoped bytes b l (t .passes))
     (capacity (length (m .pool))) n (load m) (fine-loaded (l .deck) m (t .good-before)) (systemOf (load m))
     (λ q lq. record { state = λ c lc. refl; pool = λ u. (λ h. h, λ h. h) }) r

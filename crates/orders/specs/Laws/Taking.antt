@@ -1,6 +1,6 @@
 -- One call of a list: it keeps a good state good, its commits are paid by the charge that it adds or that was pending, and its
 -- applied commits leave their parts within their limits. Assumes nothing.
-use Prim.Native.Nat.{ℕ, zero, suc, _+_, _-_, _≤_, _<_}
+use Prim.Native.Nat.{ℕ, zero, suc, _+_, _≤_, _<_}
 use mathlib.Core.Path.{_≡_, refl, ap}
 use mathlib.Core.Bool.{Bool, true, false, not, _||_, cond}
 use mathlib.Core.List.{List, [], _∷_}
@@ -13,19 +13,19 @@ use Rattle.lists.specs.Lists.{lists, all, isEmpty}
 use Rattle.lists.specs.Laws.Booleans.{contradiction}
 use Rattle.lists.specs.Laws.Alls.{all-cons}
 use Rattle.refusals.specs.Outcome.{Outcome, refused, accepted, _>>_, require, outcomes}
-use Rattle.refusals.specs.Numbers.{unknownPart, badInput, overCapacity, placeNotPending, budgetTooLarge}
+use Rattle.refusals.specs.Numbers.{unknownPart, badInput, inputOutside, overCapacity, placeNotPending, budgetTooLarge}
 use Rattle.deck.specs.Deck.{Deck, N}
 use Rattle.deck.specs.Laws.Formed.{Formed}
 use Rattle.graph.specs.Laws.Cycles.{Acyclic}
-use Rattle.pool.specs.Updates.{Update, assign, charge}
+use Rattle.pool.specs.Updates.{Update, charge}
 use Rattle.pool.specs.Places.{pairsOf}
 use Rattle.pool.specs.States.{Machine}
 use Rattle.pool.specs.Laws.Good.{Fine, count-bounded}
 use Rattle.passing.specs.Check.{within}
-use Rattle.firing.specs.Firing.{setAndFire, pick, without, committed}
+use Rattle.firing.specs.Firing.{setAndFire, pick, committed}
 use Rattle.calls.specs.Calls.{Answer, applied, discarded, settled, spent, goodInput}
 use Rattle.calls.specs.Laws.Inputs.{input-known}
-use Rattle.firing.specs.Laws.Commits.{pick-known, set-fine, commit-falls, commit-fine}
+use Rattle.firing.specs.Laws.Commits.{pick-known, set-fine, commit-either, commit-falls, commit-fine}
 use Rattle.orders.specs.Calling.{Call, input, commit, settle}
 use Rattle.orders.specs.Listed.{Turn, turn, turns, ending, Taken, taken, machineAfter, commitsOf, addedOf, listing}
 use Rattle.orders.specs.Order.{leavesWithin}
@@ -70,19 +70,9 @@ none-pending (u ∷ us) h = absurd (not-suc-le-zero h)
 
 module _ (d : Deck) (formed : Formed d) (acyclic : Acyclic d) where
   turn-within : (k : ℕ) (x : Machine) → leavesWithin d (turn d k x) ≡ true
-  unfolding leavesWithin turn committed setAndFire
-  turn-within k x = go (within d (u .part) (assign (u .part) (u .pairs) (x .values))) refl
-    where
-      u : Update
-      u = pick k (x .pending)
-
-      taken-out : Machine
-      taken-out = record { values = x .values; pending = without k (x .pending) }
-
-      go : (b : Bool) → within d (u .part) (assign (u .part) (u .pairs) (x .values)) ≡ b
-          → (not b || within d (u .part) ((cond b (setAndFire d (u .part) (u .pairs) taken-out) taken-out) .values)) ≡ true
-      go true e = e
-      go false e = refl
+  unfolding leavesWithin turn setAndFire
+  turn-within k x =
+      commit-either d k x (λ b y. (not b || within d (pick k (x .pending) .part) (y .values)) ≡ true) (λ e. e) (λ _. refl)
 
   -- what turns keep, and what they cost
   pub record Turning (C b : ℕ) (x : Machine) (ts : List Turn) : Type 0 where
@@ -148,13 +138,15 @@ module _ (d : Deck) (formed : Formed d) (acyclic : Acyclic d) where
       (λ lp.
       guard (Taking C x) (goodInput d l) badInput _ (refusal-taking C x badInput f)
       (λ g.
+      guard (Taking C x) _ inputOutside _ (refusal-taking C x inputOutside f)
+      (λ _.
       guard (Taking C x) (leb (charge d (after .pending)) C) overCapacity _ (refusal-taking C x overCapacity f)
       (λ b.
       record {
         fine = set-fine d formed C C p (pairsOf l) x f (ltb-true p (N d) lp) (input-known d l g) (leb-true (charge d (after .pending)) C b);
         paid = omega arith;
         stays = refl;
-      })))
+      }))))
   taking C x f (commit k) =
       guard (Taking C x) (ltb k (length (x .pending))) placeNotPending _ (refusal-taking C x placeNotPending f)
       (λ h.

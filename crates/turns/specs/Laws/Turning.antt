@@ -61,8 +61,7 @@ module _ (first : ℕ) where
   next-at : (made p : ℕ) (y : Machine) → p ≡ first + made → first < length (y .pending) → (u : Update) × At (slotsAt made y) p u
   next-at made p y e h =
       let s = some-behind y h in
-      let here : p ≡ length (ahead y) + made = omega (arith, e, ahead-length y (omega (arith, h))) in
-      (
+      let here : p ≡ length (ahead y) + made = omega (arith, e, ahead-length y (omega (arith, h))) in (
         s .0,
         record {
           inside = omega (arith, parted-length (ahead y) made (behind y), here, ap length (s .1 .1));
@@ -220,8 +219,7 @@ module _ {s : List ℕ} {k : Counted.Deck} {rules parts : List ℕ} {C first : �
     pub made-few : (made ≤ C) × (next ≤ 131070)
     made-few =
         let holes-made = ap holes (t .slots) ∙ parted-holes (take first (y₀ .pending)) made (drop first (y₀ .pending)) in
-        let low = count-bounded (deckOf s) (y₀ .pending) in
-        (
+        let low = count-bounded (deckOf s) (y₀ .pending) in (
           omega (arith, t .enough),
           omega (arith, t .enough, w .room .bounded, holes-made, t .reached, t .ahead-in, low, now .charged),
         )

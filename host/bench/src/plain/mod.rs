@@ -116,6 +116,10 @@ impl Engine {
         let values = memory.values.as_chunks_mut::<CHANNELS>().0;
         let before = values[part];
         let changed = assign(&mut values[part], pairs);
+        if !self.tables.within_limit(deck, part, &values[part]) {
+            values[part] = before;
+            return Err(refuse(17));
+        }
         let (passed, seen) = (Passed { deck, tables: &self.tables, charges: &self.charges }, &mut self.seen);
         let first = memory.pending as usize;
         let mut queue = queue(&mut memory.pool, 0, first, charge);
