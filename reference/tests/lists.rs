@@ -39,16 +39,33 @@ fn places(random: &mut Random, charge: u32) -> usize {
     random.between(least, (6 * charge).clamp(2, 65_535))
 }
 
+/// What a list of generated calls needs: a deck that passes, read and known, and a number of places.
+struct Setup {
+    bytes: Vec<u8>,
+    deck: Deck,
+    known: Known,
+    places: usize,
+}
+
+impl Setup {
+    fn new(random: &mut Random, kinds: &[Kind], size: Size, most_places: usize) -> Setup {
+        let kind = random.pick(kinds);
+        let bytes = deck(kind, random, size);
+        let (deck, _) = Deck::read(&bytes).unwrap();
+        let places = places(random, check(&bytes).unwrap().charge).min(most_places);
+        Setup { known: Known::of(&bytes), bytes, deck, places }
+    }
+}
+
+/// Mostly decks in which much happens.
+const KINDS: [Kind; 3] = [Kind::Rich, Kind::Rich, Kind::Valid];
+
 #[test]
 fn calls_agree_with_the_model() {
     let random = &mut Random::new(1);
     let (mut within, mut pending, mut refused) = (0, 0, 0);
     for round in 0..1200 {
-        let kind = random.pick(&[Kind::Rich, Kind::Rich, Kind::Valid]);
-        let bytes = deck(kind, random, SMALL);
-        let (deck, _) = Deck::read(&bytes).unwrap();
-        let known = Known::of(&bytes);
-        let places = places(random, check(&bytes).unwrap().charge).min(400);
+        let Setup { bytes, deck, known, places } = Setup::new(random, &KINDS, SMALL, 400);
         let mut host = fresh(&bytes, places);
         let mut model = Model::new(&deck, places);
         for _ in 0..25 {
@@ -119,10 +136,7 @@ fn check_sentences(host: &mut Host, call: &Call, sums: &mut Sums) {
 fn sentences_about_lists() {
     let random = &mut Random::new(3);
     for _ in 0..250 {
-        let kind = random.pick(&[Kind::Rich, Kind::Rich, Kind::Valid]);
-        let bytes = deck(kind, random, Size::FULL);
-        let known = Known::of(&bytes);
-        let places = places(random, check(&bytes).unwrap().charge);
+        let Setup { bytes, known, places, .. } = Setup::new(random, &KINDS, Size::FULL, usize::MAX);
         let mut host = fresh(&bytes, places);
         let mut sums = Sums::default();
         for _ in 0..20 {
@@ -141,11 +155,7 @@ fn after_every_call_every_part_is_within_its_limit() {
     let random = &mut Random::new(5);
     let (mut refused, mut accepted_at_edge, mut discarded) = (0, 0, 0);
     for round in 0..1000 {
-        let kind = random.pick(&[Kind::Rich, Kind::Rich, Kind::Valid]);
-        let bytes = deck(kind, random, SMALL);
-        let (deck, _) = Deck::read(&bytes).unwrap();
-        let known = Known::of(&bytes);
-        let places = places(random, check(&bytes).unwrap().charge).min(400);
+        let Setup { bytes, deck, known, places } = Setup::new(random, &KINDS, SMALL, 400);
         let mut host = fresh(&bytes, places);
         for _ in 0..30 {
             let call = any(random, &known, &host);
@@ -193,10 +203,7 @@ fn settle_is_commit_of_place_0_repeated() {
     let random = &mut Random::new(4);
     let mut total = 0;
     for _ in 0..200 {
-        let bytes = deck(Kind::Rich, random, SMALL);
-        let (deck, _) = Deck::read(&bytes).unwrap();
-        let known = Known::of(&bytes);
-        let places = places(random, check(&bytes).unwrap().charge).min(500);
+        let Setup { bytes, deck, known, places } = Setup::new(random, &[Kind::Rich], SMALL, 500);
         let mut host = fresh(&bytes, places);
         for _ in 0..8 {
             let call = any(random, &known, &host);

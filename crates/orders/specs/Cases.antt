@@ -134,16 +134,16 @@ cases =
     ∷ []
 
 -- to open all that the calls are made of, on an `unfolding` line: what reads a deck, and what works on one
-unfoldable pub deckReading : Unit {0}
+unfoldable pub readingDecks : Unit {0}
 unfolding lists outcomes evaluation readingExpressions decks readers layouts
-deckReading = tt
+readingDecks = tt
 
-unfoldable pub engine : Unit {0}
+unfoldable pub makingCalls : Unit {0}
 unfolding graphs charges updates pools states checks firing calls lines running listing
-engine = tt
+makingCalls = tt
 
 pub cases-hold : flatMap (λ c. c .called ∷ c .listed ∷ []) cases ≡ flatMap (λ c. c .wanted ∷ c .wanted ∷ []) cases
-unfolding nibble unhex D D5 D6 D7 checked checking seen listedFor calling setA settledAt cases deckReading engine
+unfolding nibble unhex D D5 D6 D7 checked checking seen listedFor calling setA settledAt cases readingDecks makingCalls
 cases-hold = refl
 
 -- ---- document 02, Req 01: hand input respects the stops. Part 1 of D is within its limit while c is below 10
@@ -190,5 +190,5 @@ limitCases =
     ∷ []
 
 pub limit-cases-hold : flatMap (λ c. c .called ∷ c .listed ∷ []) limitCases ≡ flatMap (λ c. c .wanted ∷ c .wanted ∷ []) limitCases
-unfolding nibble unhex D seen listedFor calling setA setC setAC byHand callingByHand settledAt limitCases deckReading engine
+unfolding nibble unhex D seen listedFor calling setA setC setAC byHand callingByHand settledAt limitCases readingDecks makingCalls
 limit-cases-hold = refl

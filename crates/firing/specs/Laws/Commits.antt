@@ -92,19 +92,19 @@ module _ (d : Deck) (k : ℕ) (x : Machine) where
   abbrev u : Update
   u = pick k (x .pending)
 
-  -- the update's part is within its limit with the update applied
-  abbrev pub Holds : Bool → Type 0
-  Holds b = within d (u .part) (assign (u .part) (u .pairs) (x .values)) ≡ b
+  -- whether the update's part is within its limit with the update applied
+  abbrev pub WithinIs : Bool → Type 0
+  WithinIs b = within d (u .part) (assign (u .part) (u .pairs) (x .values)) ≡ b
 
   -- whatever holds of an applied commit and of a discarded one holds of every commit
   pub commit-either : (P : Bool → Machine → Type 0)
-      → (Holds true → P true (setAndFire d (u .part) (u .pairs) (takenOut k x)))
-      → (Holds false → P false (takenOut k x))
+      → (WithinIs true → P true (setAndFire d (u .part) (u .pairs) (takenOut k x)))
+      → (WithinIs false → P false (takenOut k x))
       → P (committed d k x .applied) (committed d k x .machine)
   unfolding committed
   commit-either P applied discarded = go (within d (u .part) (assign (u .part) (u .pairs) (x .values))) refl
     where
-      go : (b : Bool) → Holds b → P b (cond b (setAndFire d (u .part) (u .pairs) (takenOut k x)) (takenOut k x))
+      go : (b : Bool) → WithinIs b → P b (cond b (setAndFire d (u .part) (u .pairs) (takenOut k x)) (takenOut k x))
       go true e = applied e
       go false e = discarded e
 

@@ -194,7 +194,8 @@ unfolding opened charge lists
 nothing-charged d = refl
 
 module _ (bytes : List ℕ) (pool : List ℤ) (l : Layout) (fresh : Fresh bytes pool l)
-    (formed : Formed (l .deck)) (acyclic : Acyclic (l .deck)) (scope : Scoped (l .deck)) (opens : EveryWithin (l .deck) (opened (l .deck))) where
+    (formed : Formed (l .deck)) (acyclic : Acyclic (l .deck)) (scope : Scoped (l .deck))
+    (opens : EveryWithin (l .deck) (opened (l .deck))) where
   pub ordered : (cs : List Call) → Order bytes (l .deck) pool cs
   unfolding run listed opened commitsMade chargeAdded chargePending
   ordered cs =
