@@ -8,7 +8,7 @@
  *      1  the deck ends inside a field or expression                          the deck's length
  *      2  a count, label, kind, length, or channel or rule number is out      offset of the byte
  *         of range, or a list does not rise
- *      3  an expression breaks its rules                                      offset of its first byte
+ *      3  an expression has an unknown operator or channel                    offset of its byte
  *      4  a target stands twice in an action                                  offset of the second
  *      5  bytes follow the last section                                       offset of the first
  *      6  a part opens outside its limit                                      the lowest such part
@@ -23,9 +23,15 @@
  *     15  the section number is above 2                                       0
  *     16  the budget is above 65,535                                          0
  *     17  the input would leave its part outside its limit                    0
+ *     18  a value of an expression is of the wrong type, or a far channel     offset of the operator that
+ *         is not allowed there                                                gives the value
+ *     19  an expression ends early or has bytes left over                     offset of the first byte behind
+ *                                                                             it, or of the first left over
  *
- * Where several hold, one of 1 to 4 goes before all others, the first in reading order; the rest go by rising number, but 17
- * comes after 12 and before 13.
+ * Where several hold, one of 1, 2, 3, 4, 18 and 19 goes before all others, the first in reading order; the rest go by rising
+ * number, but 17 comes after 12 and before 13. An expression is judged when all bytes that its length counts are there: a deck
+ * that ends before them is refused by 1. At one byte of an expression, 19 for a missing byte goes before 3, and 3 before 18. The
+ * place of 19 may be the deck's length, where an expression ends early and nothing follows: there is no byte to read there.
  *
  * Memory. `deck` and its length are the deck's bytes. `pool` and its length are the lent places, ten numbers each: part,
  * assignment count, four pairs of channel and value. `values` (channel c of part p at 32 * p + c) and `*pending` are the state.

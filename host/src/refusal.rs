@@ -3,7 +3,7 @@
 use std::error::Error;
 use std::fmt;
 
-/// Why a call declined: a number from 1 to 17, and where.
+/// Why a call declined: a number from 1 to 19, and where.
 ///
 /// ```
 /// use reaction::Deck;
@@ -11,21 +11,30 @@ use std::fmt;
 /// let refusal = Deck::check(&[]).unwrap_err();
 /// assert_eq!((refusal.number, refusal.place), (1, 0));
 /// assert_eq!(refusal.to_string(), "refused 1 0: the deck ends inside a field or expression");
+///
+/// // A fault in an expression is at its exact byte: here a limit names channel 3, and there are three channels.
+/// let mut bytes = include_bytes!("../../crates/replay/data/d.deck").to_vec();
+/// bytes[69] = 3;
+/// let refusal = Deck::check(bytes).unwrap_err();
+/// assert_eq!(refusal.to_string(), "refused 3 69: an expression has an unknown operator or channel");
 /// ```
 #[derive(Clone, Copy, Debug, PartialEq, Eq, Hash)]
 pub struct Refusal {
     /// Which refusal it is.
     pub number: u32,
-    /// For 1 the deck's length; for 2 to 5 an offset into the deck; for 6 the part; for 7 the channel; for 8
-    /// 64 times part + rule; otherwise 0.
+    /// For 1 the deck's length; for 2 to 5, 18 and 19 an offset into the deck; for 6 the part; for 7 the channel;
+    /// for 8 64 times part + rule; otherwise 0.
+    ///
+    /// For 19 of an expression that ends early it is the offset of the first byte behind the expression, and so may
+    /// be the deck's length: `bytes.get(place)` finds no byte there.
     pub place: u32,
 }
 
-/// What the refusals 1 to 17 say.
-const NAMES: [&str; 17] = [
+/// What the refusals 1 to 19 say.
+const NAMES: [&str; 19] = [
     "the deck ends inside a field or expression",
     "a number of the deck is out of its range, or a list does not rise",
-    "an expression breaks its rules",
+    "an expression has an unknown operator or channel",
     "a target stands twice in an action",
     "bytes follow the last section",
     "a part opens outside its limit",
@@ -40,6 +49,8 @@ const NAMES: [&str; 17] = [
     "the section number is above 2",
     "the budget is above 65,535",
     "the input would leave its part outside its limit",
+    "a value of an expression is of the wrong type, or a far channel is not allowed there",
+    "an expression ends early or has bytes left over",
 ];
 
 impl Refusal {

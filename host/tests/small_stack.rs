@@ -1,6 +1,7 @@
 //! The header says how much stack a call needs: the deepest calls on a thread with nine tenths of that.
 
 use reaction::raw::{self, Memory, PLACE};
+use reaction::Refusal;
 use std::thread;
 
 /// With any pool, and with a pool of up to `SHORT` places.
@@ -28,6 +29,17 @@ fn deepest() -> Vec<u8> {
     [b"\x02ab\x01", &rule[..], &[2], &part, &part].concat()
 }
 
+/// The deepest expressions with a fault in the last byte: of the first, which is a number, and of the last, a truth.
+fn deepest_with_a_fault() -> [Vec<u8>; 2] {
+    let deck = deepest();
+    [9 + 63, deck.len() - 1].map(|last| {
+        let mut deck = deck.clone();
+        deck[last] = u8::MAX;
+        assert_eq!(raw::check(&deck).result(), Err(Refusal { number: 3, place: last as u32 }));
+        deck
+    })
+}
+
 /// All six calls, whatever they answer. Whether a deck passes.
 fn calls(deck: &[u8], places: usize) -> bool {
     let mut memory = Memory::new(PLACE * places);
@@ -42,7 +54,8 @@ fn calls(deck: &[u8], places: usize) -> bool {
 #[test]
 fn the_stack_of_the_header_is_enough() {
     let stored = DECKS.iter().map(|(deck, passes)| (deck.to_vec(), *passes));
-    for (deck, passes) in stored.chain([(deepest(), true)]) {
+    let faulty = deepest_with_a_fault().map(|deck| (deck, false));
+    for (deck, passes) in stored.chain([(deepest(), true)]).chain(faulty) {
         for places in PLACES {
             let stack = if places <= SHORT { SHORT_STACK } else { STACK } / 10 * 9;
             let deck = deck.clone();

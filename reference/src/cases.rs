@@ -132,12 +132,12 @@ struct Maker {
 impl Maker {
     fn case(&mut self, turn: usize) -> Case {
         match turn {
-            0..=16 => self.aimed(turn as u32 + 1),
-            17..=20 => {
-                let word = ANSWERS[turn - 17];
+            0..=18 => self.aimed(turn as u32 + 1),
+            19..=22 => {
+                let word = ANSWERS[turn - 19];
                 self.until(|maker| maker.run(Kind::Rich), |case| case.run_answers(word))
             }
-            21..=29 => {
+            23..=29 => {
                 let kind = self.random.pick(&[Kind::Rich, Kind::Rich, Kind::Valid]);
                 self.run(kind)
             }
@@ -146,7 +146,7 @@ impl Maker {
             37 => self.until(|maker| maker.start(Kind::Valid), Case::is_accepted),
             38 => self.check(Kind::Valid),
             _ => {
-                let kind = self.random.pick(&[Kind::Valid, Kind::Rich, Kind::Cyclic, Kind::Damaged]);
+                let kind = self.random.pick(&[Kind::Rich, Kind::Cyclic, Kind::Damaged, Kind::Expression]);
                 self.check(kind)
             }
         }
@@ -166,6 +166,9 @@ impl Maker {
 
     fn attempt(&mut self, number: u32) -> Case {
         match number {
+            refusal::UNKNOWN_BYTE | refusal::WRONG_TYPE | refusal::WRONG_END => {
+                self.any_call(Kind::Expression)
+            }
             refusal::DECK_ENDS..=refusal::BYTES_FOLLOW => self.any_call(Kind::Damaged),
             refusal::OPENS_OUTSIDE_LIMIT => self.any_call(Kind::Limit),
             refusal::CYCLE => self.any_call(Kind::Cyclic),

@@ -1,4 +1,4 @@
-//! The deck: what its bytes say, the reader with faults 1 to 5, and the encoder.
+//! The deck: what its bytes say, the reader with faults 1 to 5, 18 and 19, and the encoder.
 
 use crate::expression::{Expression, Number, Scope, Truth};
 use crate::refusal::{self, require, Refusal};
@@ -131,8 +131,10 @@ impl Reader<'_> {
 
     fn expression<E: Expression>(&mut self, scope: Scope) -> Result<E, Refusal> {
         let length = self.count(1, Deck::EXPRESSION)?;
-        let fault = Refusal::at(refusal::EXPRESSION, self.at);
-        E::read_whole(self.take(length)?, scope).ok_or(fault)
+        let start = self.at;
+        // It is judged when all its bytes are there.
+        self.take(length)?;
+        E::read_whole(&self.bytes[..self.at], start, scope)
     }
 
     fn labels(&mut self) -> Result<Vec<u8>, Refusal> {
@@ -252,6 +254,16 @@ impl Encoded {
         let bytes = expression.encode();
         self.count(Field::ExpressionLength, bytes.len());
         self.field(Field::Expression, &bytes);
+    }
+
+    /// Puts other bytes in the place of the expression whose first byte is here.
+    pub fn replace_expression(&mut self, start: usize, expression: &[u8]) {
+        let length = usize::from(self.bytes[start - 1]);
+        self.bytes.splice(start..start + length, expression.iter().copied());
+        self.bytes[start - 1] = expression.len() as u8;
+        for (at, _) in self.fields.iter_mut().filter(|(at, _)| *at > start) {
+            *at = *at - length + expression.len();
+        }
     }
 
     fn action(&mut self, action: &[Assignment]) {

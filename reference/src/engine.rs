@@ -163,7 +163,7 @@ fn capacity(pool: &[i32]) -> u64 {
 }
 
 impl Engine {
-    /// Tests a deck: 1 to 8.
+    /// Tests a deck: 1 to 8, 18 and 19.
     fn new(bytes: &[u8]) -> Result<Engine, Refusal> {
         let (deck, sections) = Deck::read(bytes)?;
         let outside = deck.parts.iter().position(|part| !part.limit.holds(&part.opening, &[]));
@@ -175,14 +175,14 @@ impl Engine {
         Ok(Engine { deck, sections, charges })
     }
 
-    /// Tests a deck and the pool's length: 1 to 9.
+    /// Tests a deck and the pool's length: 1 to 9, 18 and 19.
     fn for_pool(bytes: &[u8], pool: &[i32]) -> Result<Engine, Refusal> {
         let engine = Engine::new(bytes)?;
         require(places(pool.len()).is_some(), Refusal::new(refusal::POOL_LENGTH))?;
         Ok(engine)
     }
 
-    /// Tests a deck, the pool's length and the state: 1 to 10.
+    /// Tests a deck, the pool's length and the state: 1 to 10, 18 and 19.
     fn for_state(bytes: &[u8], pool: &[i32], state: &State) -> Result<(Engine, Machine), Refusal> {
         let engine = Engine::for_pool(bytes, pool)?;
         let machine = Machine::load(&engine.deck, &engine.charges, pool, state);

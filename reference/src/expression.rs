@@ -1,7 +1,9 @@
-//! Expressions: syntax, reading, writing and evaluation.
+//! Expressions: syntax, the reader with faults 3, 18 and 19, writing and evaluation.
+
+use crate::refusal::{self, require, Refusal};
 
 /// The operator bytes.
-mod operator {
+pub mod operator {
     pub const LITERAL: u8 = 0;
     pub const OWN: u8 = 1;
     pub const FAR: u8 = 2;
@@ -54,14 +56,16 @@ pub struct Scope {
 
 /// What both kinds of expression have in common.
 pub trait Expression: Sized {
-    fn read(reader: &mut Reader) -> Option<Self>;
+    fn read(reader: &mut Reader) -> Result<Self, Refusal>;
     fn write(&self, bytes: &mut Vec<u8>);
 
-    /// The expression that these bytes are, all of them, if they keep the rules.
-    fn read_whole(bytes: &[u8], scope: Scope) -> Option<Self> {
-        let mut reader = Reader { bytes, scope };
+    /// The expression that the bytes from `start` on are, all of them, or the first fault. Its
+    /// place is the offset among all bytes.
+    fn read_whole(bytes: &[u8], start: usize, scope: Scope) -> Result<Self, Refusal> {
+        let mut reader = Reader { bytes, at: start, scope };
         let expression = Self::read(&mut reader)?;
-        reader.bytes.is_empty().then_some(expression)
+        require(reader.at == bytes.len(), Refusal::at(refusal::WRONG_END, reader.at))?;
+        Ok(expression)
     }
 
     fn encode(&self) -> Vec<u8> {
@@ -71,38 +75,55 @@ pub trait Expression: Sized {
     }
 }
 
-/// The bytes of an expression that are still unread.
+/// Bytes up to the end of an expression, and the offset of the next unread one.
 pub struct Reader<'a> {
     bytes: &'a [u8],
+    at: usize,
     scope: Scope,
 }
 
 impl Reader<'_> {
-    fn byte(&mut self) -> Option<u8> {
-        let (&first, rest) = self.bytes.split_first()?;
-        self.bytes = rest;
-        Some(first)
+    fn byte(&mut self) -> Result<u8, Refusal> {
+        let missing = Refusal::at(refusal::WRONG_END, self.at);
+        let byte = *self.bytes.get(self.at).ok_or(missing)?;
+        self.at += 1;
+        Ok(byte)
     }
 
-    fn literal(&mut self) -> Option<i32> {
-        let (&first, rest) = self.bytes.split_first_chunk::<4>()?;
-        self.bytes = rest;
-        Some(i32::from_le_bytes(first))
+    /// A byte that must be a known one.
+    fn known_byte(&mut self, known: impl Fn(u8) -> bool) -> Result<u8, Refusal> {
+        let unknown = Refusal::at(refusal::UNKNOWN_BYTE, self.at);
+        let byte = self.byte()?;
+        require(known(byte), unknown)?;
+        Ok(byte)
     }
 
-    fn channel(&mut self) -> Option<u8> {
-        let channel = self.byte()?;
-        (usize::from(channel) < self.scope.channels).then_some(channel)
+    fn operator(&mut self) -> Result<u8, Refusal> {
+        self.known_byte(|byte| matches!(byte, LITERAL..=NEGATION | FALSE..=EQUAL))
     }
 
-    fn operand<E: Expression>(&mut self) -> Option<E> {
+    fn channel(&mut self) -> Result<u8, Refusal> {
+        let channels = self.scope.channels;
+        self.known_byte(|byte| usize::from(byte) < channels)
+    }
+
+    fn literal(&mut self) -> Result<i32, Refusal> {
+        Ok(i32::from_le_bytes([self.byte()?, self.byte()?, self.byte()?, self.byte()?]))
+    }
+
+    fn operand<E: Expression>(&mut self) -> Result<E, Refusal> {
         E::read(self)
+    }
+
+    /// The operator that was just read may not stand there.
+    fn wrong_type(&self) -> Refusal {
+        Refusal::at(refusal::WRONG_TYPE, self.at - 1)
     }
 }
 
 /// Operands stand behind a box.
 impl<E: Expression> Expression for Box<E> {
-    fn read(reader: &mut Reader) -> Option<Box<E>> {
+    fn read(reader: &mut Reader) -> Result<Box<E>, Refusal> {
         E::read(reader).map(Box::new)
     }
 
@@ -112,8 +133,8 @@ impl<E: Expression> Expression for Box<E> {
 }
 
 impl Expression for Number {
-    fn read(reader: &mut Reader) -> Option<Number> {
-        Some(match reader.byte()? {
+    fn read(reader: &mut Reader) -> Result<Number, Refusal> {
+        Ok(match reader.operator()? {
             LITERAL => Number::Literal(reader.literal()?),
             OWN => Number::Own(reader.channel()?),
             FAR if reader.scope.far => Number::Far(reader.channel()?),
@@ -121,7 +142,7 @@ impl Expression for Number {
             DIFFERENCE => Number::Difference(reader.operand()?, reader.operand()?),
             PRODUCT => Number::Product(reader.operand()?, reader.operand()?),
             NEGATION => Number::Negation(reader.operand()?),
-            _ => return None,
+            _ => return Err(reader.wrong_type()),
         })
     }
 
@@ -142,8 +163,8 @@ impl Expression for Number {
 }
 
 impl Expression for Truth {
-    fn read(reader: &mut Reader) -> Option<Truth> {
-        Some(match reader.byte()? {
+    fn read(reader: &mut Reader) -> Result<Truth, Refusal> {
+        Ok(match reader.operator()? {
             FALSE => Truth::False,
             TRUE => Truth::True,
             NOT => Truth::Not(reader.operand()?),
@@ -151,7 +172,7 @@ impl Expression for Truth {
             OR => Truth::Or(reader.operand()?, reader.operand()?),
             LESS => Truth::Less(reader.operand()?, reader.operand()?),
             EQUAL => Truth::Equal(reader.operand()?, reader.operand()?),
-            _ => return None,
+            _ => return Err(reader.wrong_type()),
         })
     }
 

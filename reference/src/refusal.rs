@@ -9,7 +9,8 @@ pub struct Refusal {
 
 pub const DECK_ENDS: u32 = 1;
 pub const OUT_OF_RANGE: u32 = 2;
-pub const EXPRESSION: u32 = 3;
+/// An unknown operator or channel in an expression.
+pub const UNKNOWN_BYTE: u32 = 3;
 pub const TARGET_TWICE: u32 = 4;
 pub const BYTES_FOLLOW: u32 = 5;
 pub const OPENS_OUTSIDE_LIMIT: u32 = 6;
@@ -24,6 +25,10 @@ pub const PLACE: u32 = 14;
 pub const SECTION: u32 = 15;
 pub const BUDGET: u32 = 16;
 pub const INPUT_OUTSIDE_LIMIT: u32 = 17;
+/// A value of the wrong type, or a far channel where none may stand.
+pub const WRONG_TYPE: u32 = 18;
+/// An expression that ends early or has bytes left over.
+pub const WRONG_END: u32 = 19;
 
 impl Refusal {
     /// Places are deck offsets (a fault shows within 42,884 bytes), channels or
@@ -32,7 +37,7 @@ impl Refusal {
         Refusal { number, place: u32::try_from(place).unwrap_or(u32::MAX) }
     }
 
-    /// A refusal whose place is 0: all from 9 on.
+    /// A refusal whose place is 0: 9 to 17.
     pub fn new(number: u32) -> Refusal {
         Refusal { number, place: 0 }
     }

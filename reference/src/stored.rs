@@ -36,6 +36,18 @@ fn deck_d_and(more: &[u8]) -> Vec<u8> {
     [&deck_d()[..], more].concat()
 }
 
+/// Two channels, and one rule, carried by nobody, with this kind and condition: the condition's
+/// first byte stands at 9.
+pub fn deck_with_condition(kind: u8, condition: &[u8]) -> Vec<u8> {
+    let mut deck = vec![2, b'a', b'b', 1];
+    deck.extend([1, 0, 0, kind, condition.len() as u8]);
+    deck.extend(condition);
+    deck.extend([0, 1]);
+    deck.extend([0; 8]);
+    deck.extend([0, 1, 0x11]);
+    deck
+}
+
 /// A rule "here" that copies its event to its target.
 pub fn copy(event: u8, target: u8) -> Rule {
     Rule {
@@ -103,11 +115,9 @@ fn changed(name: &'static str, line: &'static str, changes: &[(usize, u8)]) -> S
 
 /// All stored decks, in the order in which they are checked.
 pub fn all() -> Vec<Stored> {
-    [document(), number_1(), number_2(), number_3(), number_4(), numbers_5_and_6(), number_7(), number_8()]
-        .into_iter()
-        .chain([longest_ones()])
-        .flatten()
-        .collect()
+    let to_4 = [document(), number_1(), number_2(), number_3(), number_18(), number_19(), number_4()];
+    let others = [conditions(), numbers_5_and_6(), number_7(), number_8(), longest_ones()];
+    to_4.into_iter().chain(others).flatten().collect()
 }
 
 /// What stands beside the two programs, by paths below the folder `crates`: `check_deck` reads
@@ -145,12 +155,14 @@ fn document() -> Vec<Stored> {
 }
 
 fn number_1() -> Vec<Stored> {
-    let wrong = deck_d_with(&[(25, 99)]);
+    let (unknown, wrong_type) = (deck_d_with(&[(25, 99)]), deck_d_with(&[(25, 17)]));
     vec![
         stored("1-count-alone", "refused 1 1", vec![3]),
         stored("1-before-parts", "refused 1 33", deck_d()[..33].to_vec()),
         stored("1-opening-value", "refused 1 36", deck_d()[..36].to_vec()),
-        stored("1-before-3", "refused 1 32", wrong[..32].to_vec()),
+        stored("1-before-3", "refused 1 32", unknown[..32].to_vec()),
+        stored("1-before-18", "refused 1 32", wrong_type[..32].to_vec()),
+        changed("1-before-19", "refused 1 75", &[(66, 9)]),
     ]
 }
 
@@ -179,6 +191,21 @@ fn number_2() -> Vec<Stored> {
 }
 
 fn number_3() -> Vec<Stored> {
+    vec![
+        changed("3-operator-7", "refused 3 14", &[(14, 7)]),
+        changed("3-operator-15", "refused 3 10", &[(10, 15)]),
+        changed("3-operator-23", "refused 3 10", &[(10, 23)]),
+        changed("3-operator-255", "refused 3 67", &[(67, 255)]),
+        changed("3-second-operand", "refused 3 28", &[(28, 9)]),
+        changed("3-own-channel", "refused 3 15", &[(15, 3)]),
+        changed("3-far-channel", "refused 3 15", &[(14, 2), (15, 3)]),
+        changed("3-channel-in-limit", "refused 3 69", &[(69, 3)]),
+        changed("3-before-2", "refused 3 14", &[(14, 7), (33, 0)]),
+        changed("3-before-7", "refused 3 69", &[(12, 0), (69, 3)]),
+    ]
+}
+
+fn number_18() -> Vec<Stored> {
     let mut far = Rule { kind: Kind::Everywhere, ..copy(0, 1) };
     far.condition = Truth::Equal(Number::Far(0).into(), Number::Own(0).into());
     far.action = vec![assign(1, Number::Far(1))];
@@ -186,16 +213,58 @@ fn number_3() -> Vec<Stored> {
     far.default_action = far.action.clone();
     let default = deck_of(2, vec![far], &[&[0], &[0]]);
     vec![
-        changed("3-number-for-truth", "refused 3 10", &[(10, 3)]),
-        changed("3-truth-for-number", "refused 3 25", &[(25, 17)]),
-        changed("3-operator", "refused 3 14", &[(14, 7)]),
-        changed("3-own-channel", "refused 3 14", &[(15, 3)]),
-        changed("3-operand-missing", "refused 3 25", &[(26, 0)]),
-        changed("3-bytes-left", "refused 3 25", &[(25, 6)]),
-        changed("3-far-in-here", "refused 3 25", &[(26, 2)]),
-        changed("3-far-in-limit", "refused 3 67", &[(68, 2)]),
-        stored("3-far-in-default", "refused 3 9", default.encode().bytes),
+        changed("18-number-for-truth", "refused 18 10", &[(10, 3)]),
+        changed("18-truth-for-number", "refused 18 25", &[(25, 17)]),
+        changed("18-truth-as-operand", "refused 18 68", &[(68, 17)]),
+        changed("18-number-as-operand", "refused 18 68", &[(67, 19)]),
+        changed("18-number-for-limit", "refused 18 67", &[(67, 3)]),
+        changed("18-far-in-here", "refused 18 26", &[(26, 2)]),
+        changed("18-far-in-limit", "refused 18 68", &[(68, 2)]),
+        stored("18-far-in-default", "refused 18 9", default.encode().bytes),
+        changed("18-before-6", "refused 18 68", &[(50, 16), (68, 17)]),
         stored("far-allowed", "passed 2 1 2 1", allowed.encode().bytes),
+    ]
+}
+
+fn number_19() -> Vec<Stored> {
+    let cut = deck_d_with(&[(66, 7)]);
+    let longer = [&deck_d_with(&[(66, 9)])[..], &[0]].concat();
+    vec![
+        changed("19-literal-cut", "refused 19 33", &[(26, 0)]),
+        changed("19-length-less", "refused 19 74", &[(66, 7)]),
+        changed("19-bytes-left", "refused 19 28", &[(25, 6)]),
+        changed("19-length-more", "refused 19 33", &[(24, 9)]),
+        stored("19-at-the-end-of-the-deck", "refused 19 74", cut[..74].to_vec()),
+        stored("19-before-5", "refused 19 75", longer),
+    ]
+}
+
+/// Conditions with a fault in the first byte, between the operands, at the end and behind it.
+fn conditions() -> Vec<Stored> {
+    let condition = |name, line, kind, bytes: &[u8]| stored(name, line, deck_with_condition(kind, bytes));
+    let nots = |count| [vec![0x12; count], vec![0x11; 64 - count]].concat();
+    vec![
+        condition("3-alone", "refused 3 9", 0, &[0x07]),
+        condition("3-before-18", "refused 3 10", 0, &[0x15, 0x07, 0x11]),
+        condition("3-last-channel", "refused 3 13", 0, &[0x15, 0x01, 0x00, 0x01, 0x02]),
+        condition("3-far-allowed", "refused 3 11", 1, &[0x15, 0x02, 0x09, 0x01, 0x00]),
+        condition("18-before-19", "refused 18 9", 0, &[0x01]),
+        condition("18-before-3", "refused 18 10", 0, &[0x15, 0x11, 0x07]),
+        condition("18-not-of-a-number", "refused 18 10", 0, &[0x12, 0x01, 0x00]),
+        condition("18-far", "refused 18 10", 0, &[0x15, 0x02, 0x00, 0x01, 0x00]),
+        condition("18-far-before-its-channel", "refused 18 10", 0, &[0x15, 0x02, 0x09, 0x01, 0x00]),
+        condition("18-far-without-channel", "refused 18 10", 0, &[0x15, 0x02]),
+        condition("18-far-for-truth", "refused 18 9", 1, &[0x02, 0x09]),
+        condition("19-far-without-channel", "refused 19 11", 1, &[0x15, 0x02]),
+        condition("19-not-alone", "refused 19 10", 0, &[0x12]),
+        condition("19-two-truths", "refused 19 10", 0, &[0x11, 0x11]),
+        condition("19-channel-missing", "refused 19 13", 0, &[0x15, 0x01, 0x00, 0x01]),
+        condition("19-literal-of-two-bytes", "refused 19 13", 0, &[0x15, 0x00, 0x05, 0x00]),
+        condition("19-unknown-byte-left", "refused 19 14", 0, &[0x15, 0x01, 0x00, 0x01, 0x01, 0x07]),
+        condition("19-not-64-times", "refused 19 73", 0, &nots(64)),
+        condition("19-not-62-times", "refused 19 72", 0, &nots(62)),
+        condition("not-63-times", "passed 2 1 1 0", 0, &nots(63)),
+        condition("less-than-far", "passed 2 1 1 0", 1, &[0x15, 0x02, 0x00, 0x01, 0x00]),
     ]
 }
 
@@ -205,12 +274,18 @@ fn number_4() -> Vec<Stored> {
     let action = Rule { action: twice, ..copy(0, 1) };
     let both = Rule { default_action: vec![assign(1, Number::Own(0))], ..copy(0, 1) };
     let default = deck_of(3, vec![default], &[&[0]]).encode().bytes;
-    let mut then_length_65 = default.clone();
-    then_length_65[17] = 65;
+    let with = |at: usize, byte| {
+        let mut deck = default.clone();
+        deck[at] = byte;
+        deck
+    };
     vec![
-        stored("4-default-action", "refused 4 16", default),
+        stored("4-default-action", "refused 4 16", default.clone()),
         stored("4-action", "refused 4 20", deck_of(3, vec![action], &[&[]]).encode().bytes),
-        stored("4-before-2", "refused 4 16", then_length_65),
+        stored("4-before-2", "refused 4 16", with(17, 65)),
+        stored("4-before-3", "refused 4 16", with(18, 7)),
+        stored("18-before-4", "refused 18 14", with(14, 17)),
+        stored("19-before-4", "refused 19 16", with(14, 6)),
         stored("target-in-both", "passed 3 1 1 2", deck_of(3, vec![both], &[&[0]]).encode().bytes),
     ]
 }

@@ -25,7 +25,7 @@ pub struct StoredText {
 }
 
 /// Lines of calls, each with ` => ` and its answer where it prints one.
-const BY_HAND: [(&str, &str, &str); 14] = [
+const BY_HAND: [(&str, &str, &str); 17] = [
     ("p8", "d", "start 20 => started\ninput 0 0 4 => added 2\ncommit 0 => applied 1\ncommit 0 => applied 0\n"),
     ("p8-one-place", "d", "start 10 => started\ninput 0 0 4 => refused 13 0\n"),
     ("p9", "d", "start 20 => started\ninput 0 0 9 => added 2\ncommit 0 => applied 1\ncommit 0 => discarded 0\n"),
@@ -42,6 +42,9 @@ const BY_HAND: [(&str, &str, &str); 14] = [
     ),
     ("refused-calls", "d", REFUSED_CALLS),
     ("refused-deck", "cut", REFUSED_DECK),
+    ("refused-unknown-byte", "unknown-byte", REFUSED_UNKNOWN_BYTE),
+    ("refused-wrong-type", "wrong-type", REFUSED_WRONG_TYPE),
+    ("refused-wrong-end", "wrong-end", REFUSED_WRONG_END),
     ("damaged-memory", "d", DAMAGED_MEMORY),
     ("limit", "d", LIMIT),
     ("outside-by-hand", "d", OUTSIDE_BY_HAND),
@@ -89,6 +92,36 @@ input 0 0 4 => refused 1 74
 commit 0 => refused 1 74
 settle 65536 => refused 1 74
 section 3 => refused 1 74
+";
+
+const REFUSED_UNKNOWN_BYTE: &str = "\
+start 20 => refused 3 69
+start 15 => refused 3 69
+input 2 0 4 => refused 3 69
+commit 0 => refused 3 69
+settle 65536 => refused 3 69
+section 0 => refused 3 69
+section 3 => refused 3 69
+";
+
+const REFUSED_WRONG_TYPE: &str = "\
+start 20 => refused 18 68
+start 15 => refused 18 68
+input 2 0 4 => refused 18 68
+commit 0 => refused 18 68
+settle 65536 => refused 18 68
+section 0 => refused 18 68
+section 3 => refused 18 68
+";
+
+const REFUSED_WRONG_END: &str = "\
+start 20 => refused 19 74
+start 15 => refused 19 74
+input 2 0 4 => refused 19 74
+commit 0 => refused 19 74
+settle 65536 => refused 19 74
+section 0 => refused 19 74
+section 3 => refused 19 74
 ";
 
 const DAMAGED_MEMORY: &str = "\
@@ -268,6 +301,9 @@ pub fn decks() -> Vec<NamedDeck> {
     let mut decks = vec![
         named("d", deck_d()),
         named("cut", deck_d()[..74].to_vec()),
+        named("unknown-byte", deck_d_with(&[(69, 3)])),
+        named("wrong-type", deck_d_with(&[(68, 17)])),
+        named("wrong-end", deck_d_with(&[(66, 7)])[..74].to_vec()),
         named("cyclic", deck_d_with(&[(12, 0)])),
         named("chain", chain.encode().bytes),
         named("limits", limits().encode().bytes),

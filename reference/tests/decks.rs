@@ -14,7 +14,8 @@ use reference::generate::heavy::exact;
 use reference::generate::{deck, Kind, Size};
 use reference::graph;
 use reference::random::Random;
-use reference::{check, section};
+use reference::refusal::WRONG_TYPE;
+use reference::{check, section, Refusal};
 
 #[test]
 fn what_is_written_is_read() {
@@ -185,10 +186,11 @@ fn expressions_of_every_length() {
         let length = 1 + round % 64;
         let (number, truth) = (number(random, scope, length.max(2)), truth(random, scope, length));
         assert_eq!((number.encode().len(), truth.encode().len()), (length.max(2), length));
-        assert_eq!(Number::read_whole(&number.encode(), scope), Some(number.clone()));
-        assert_eq!(Truth::read_whole(&truth.encode(), scope), Some(truth.clone()));
-        assert_eq!(Truth::read_whole(&number.encode(), scope), None);
-        assert_eq!(Number::read_whole(&truth.encode(), scope), None);
+        let wrong_type = Refusal::at(WRONG_TYPE, 0);
+        assert_eq!(Number::read_whole(&number.encode(), 0, scope), Ok(number.clone()));
+        assert_eq!(Truth::read_whole(&truth.encode(), 0, scope), Ok(truth.clone()));
+        assert_eq!(Truth::read_whole(&number.encode(), 0, scope), Err(wrong_type));
+        assert_eq!(Number::read_whole(&truth.encode(), 0, scope), Err(wrong_type));
         let values: Vec<i32> = (0..64).map(|_| value(random)).collect();
         let (own, far) = values.split_at(32);
         assert_eq!(number.evaluate(own, far), evaluate(&number, own, far));

@@ -1,4 +1,5 @@
-//! Every refusal, 1 to 17, with its number and place, and the order among them.
+//! Every refusal but those inside expressions (3, 18, 19), with its number and place, and the order
+//! among them.
 
 mod common;
 
@@ -72,47 +73,6 @@ fn number_2_lists_that_do_not_rise() {
     let eight = [1, b'a', 1, 8, 0, 1];
     assert_eq!(check_line(&eight), "refused 2 5");
     assert_eq!(check_line(&eight[..5]), "refused 1 5");
-}
-
-#[test]
-fn number_3_expressions() {
-    assert_changed(&[
-        (&[(10, 3)], "refused 3 10"),          // a number where a truth stands
-        (&[(10, 23)], "refused 3 10"),         // an unknown operator
-        (&[(10, 18)], "refused 3 10"),         // not without an operand
-        (&[(14, 7)], "refused 3 14"),          // an unknown operator
-        (&[(15, 3)], "refused 3 14"),          // an unknown own channel
-        (&[(14, 2), (15, 3)], "refused 3 14"), // an unknown far channel
-        (&[(25, 17)], "refused 3 25"),         // a truth where a number stands
-        (&[(25, 6)], "refused 3 25"),          // bytes left over
-        (&[(26, 2)], "refused 3 25"),          // a far channel in a here task
-        (&[(26, 0)], "refused 3 25"),          // the second operand is missing
-        (&[(67, 19)], "refused 3 67"),         // truths asked for, numbers found
-        (&[(68, 2)], "refused 3 67"),          // a far channel in a limit
-        (&[(69, 3)], "refused 3 67"),          // an unknown channel in a limit
-        (&[(24, 7)], "refused 3 25"),          // a literal cut short
-        (&[(24, 9)], "refused 3 25"),          // a byte of the next section left over
-    ]);
-    assert_eq!(check_line(&deck_d_with(&[(14, 2), (15, 1)])), "passed 3 2 2 2");
-}
-
-#[test]
-fn number_3_far_channel_in_the_default_action_of_an_everywhere_rule() {
-    let mut rule = Rule { kind: Kind::Everywhere, ..copy(0, 1) };
-    rule.action = vec![assign(1, Number::Far(1))];
-    rule.condition = Truth::Equal(Number::Far(0).into(), Number::Own(0).into());
-    let allowed = deck_of(2, vec![rule.clone()], &[&[0], &[0]]);
-    rule.default_action = vec![assign(1, Number::Far(1))];
-    let refused = deck_of(2, vec![rule], &[&[0], &[0]]);
-    assert_lines(&[("task", allowed, "passed 2 1 2 1"), ("default action", refused, "refused 3 9")]);
-}
-
-#[test]
-fn number_1_before_number_3_inside_an_expression() {
-    // The expression is judged only when all its bytes are there.
-    let wrong = deck_d_with(&[(25, 99)]);
-    assert_eq!(check_line(&wrong[..32]), "refused 1 32");
-    assert_eq!(check_line(&wrong[..33]), "refused 3 25");
 }
 
 #[test]

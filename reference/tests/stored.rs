@@ -18,7 +18,7 @@ fn lines() {
 fn every_refusal_of_check_is_there() {
     let first_two = |line: &str| line.split(' ').take(2).collect::<Vec<_>>().join(" ");
     let seen: BTreeSet<String> = stored::all().iter().map(|stored| first_two(stored.line)).collect();
-    for number in 1..=8 {
+    for number in (1..=8).chain([18, 19]) {
         assert!(seen.contains(&format!("refused {number}")), "{number}");
     }
 }
@@ -60,7 +60,7 @@ fn every_answer_of_replay_is_there() {
     let all: String = stored_replays::texts().iter().map(printed).collect();
     let seen: BTreeSet<&str> =
         all.lines().map(|line| line.rsplit_once(' ').map_or(line, |(words, _)| words)).collect();
-    for number in 9..=17 {
+    for number in [3].into_iter().chain(9..=19) {
         assert!(seen.contains(&*format!("refused {number}")), "{number}");
     }
     for word in ["started", "added", "applied", "discarded", "settled", "spent", "unreadable"] {

@@ -2,9 +2,11 @@
 use Prim.Native.Nat.{ℕ}
 use mathlib.Core.Path.{_≡_, refl}
 use mathlib.Core.List.{List, [], _∷_, _++_, map}
+use lib.ListN.{length}
 use Rattle.lists.specs.Lists.{lists}
 use Rattle.refusals.specs.Outcome.{Outcome, refused, accepted}
 use Rattle.expression.specs.Reading.{readingExpressions}
+use Rattle.expression.specs.Faults.{faults}
 use Rattle.deck.specs.Deck.{R, M, N, decks}
 use Rattle.deck.specs.Reader.{readers}
 use Rattle.deck.specs.Layout.{Layout, read, layouts}
@@ -25,11 +27,42 @@ pub layout-cases : map (λ rule. shown (read (deckOf rule)))
     ∷ (1 ∷ 0 ∷ 0 ∷ 0 ∷ 1 ∷ 17 ∷ 2 ∷ 1 ∷ 2 ∷ 1 ∷ 0 ∷ 1 ∷ 99 ∷ [])  -- a second target, before a bad length
     ∷ (8 ∷ 0 ∷ 1 ∷ 1 ∷ [])  -- eight events in range; the third does not rise
     ∷ [])
-    ≡ (2 ∷ 1 ∷ 1 ∷ 3 ∷ 15 ∷ []) ∷ (3 ∷ 13 ∷ []) ∷ (2 ∷ 11 ∷ []) ∷ (4 ∷ 15 ∷ []) ∷ (2 ∷ 7 ∷ []) ∷ []
-unfolding lists decks readers readingExpressions layouts
+    ≡ (2 ∷ 1 ∷ 1 ∷ 3 ∷ 15 ∷ []) ∷ (18 ∷ 13 ∷ []) ∷ (2 ∷ 11 ∷ []) ∷ (4 ∷ 15 ∷ []) ∷ (2 ∷ 7 ∷ []) ∷ []
+unfolding lists decks readers readingExpressions layouts faults
 layout-cases = refl
 
 -- a deck that ends inside an expression ends there, whatever the bytes that are there
 pub ends-case : shown (read (2 ∷ 97 ∷ 98 ∷ 1 ∷ 1 ∷ 0 ∷ 0 ∷ 0 ∷ 2 ∷ 99 ∷ [])) ≡ 1 ∷ 10 ∷ []
-unfolding lists decks readers readingExpressions layouts
+unfolding lists decks readers readingExpressions layouts faults
 ends-case = refl
+
+-- document 02, Req 02: a condition whose length byte stands at 8, its bytes from 9 on; of a rule "here" (0) or "everywhere" (1)
+abbrev condition : ℕ → List ℕ → List ℕ
+condition kind bytes = shown (read (deckOf ((1 ∷ 0 ∷ 0 ∷ kind ∷ length bytes ∷ bytes) ++ 0 ∷ [])))
+
+pub here-cases : map (condition 0)
+    ((7 ∷ [])
+    ∷ (1 ∷ [])  -- 18 at the operator, before 19 behind it
+    ∷ (18 ∷ [])
+    ∷ (17 ∷ 17 ∷ [])
+    ∷ (18 ∷ 1 ∷ 0 ∷ [])
+    ∷ (21 ∷ 1 ∷ 0 ∷ 1 ∷ 2 ∷ [])
+    ∷ (21 ∷ 1 ∷ 0 ∷ 1 ∷ [])
+    ∷ (21 ∷ 0 ∷ 5 ∷ 0 ∷ [])
+    ∷ (21 ∷ 17 ∷ 7 ∷ [])
+    ∷ (21 ∷ 7 ∷ 17 ∷ [])
+    ∷ (21 ∷ 2 ∷ 0 ∷ 1 ∷ 0 ∷ [])
+    ∷ (21 ∷ 2 ∷ 9 ∷ 1 ∷ 0 ∷ [])
+    ∷ (21 ∷ 2 ∷ [])
+    ∷ (21 ∷ 1 ∷ 0 ∷ 1 ∷ 1 ∷ 7 ∷ [])  -- an unknown byte that is left over
+    ∷ [])
+    ≡ (3 ∷ 9 ∷ []) ∷ (18 ∷ 9 ∷ []) ∷ (19 ∷ 10 ∷ []) ∷ (19 ∷ 10 ∷ []) ∷ (18 ∷ 10 ∷ []) ∷ (3 ∷ 13 ∷ []) ∷ (19 ∷ 13 ∷ []) ∷ (19 ∷ 13 ∷ [])
+    ∷ (18 ∷ 10 ∷ []) ∷ (3 ∷ 10 ∷ []) ∷ (18 ∷ 10 ∷ []) ∷ (18 ∷ 10 ∷ []) ∷ (18 ∷ 10 ∷ []) ∷ (19 ∷ 14 ∷ []) ∷ []
+unfolding lists decks readers readingExpressions layouts faults
+here-cases = refl
+
+pub everywhere-cases : map (condition 1)
+    ((21 ∷ 2 ∷ 0 ∷ 1 ∷ 0 ∷ []) ∷ (21 ∷ 2 ∷ 9 ∷ 1 ∷ 0 ∷ []) ∷ (21 ∷ 2 ∷ []) ∷ (2 ∷ 9 ∷ []) ∷ [])
+    ≡ (2 ∷ 1 ∷ 1 ∷ 3 ∷ 15 ∷ []) ∷ (3 ∷ 11 ∷ []) ∷ (19 ∷ 11 ∷ []) ∷ (18 ∷ 9 ∷ []) ∷ []
+unfolding lists decks readers readingExpressions layouts faults
+everywhere-cases = refl

@@ -2,6 +2,7 @@
 pub mod Formed
 pub mod Exact
 pub mod Readers
+pub mod Judging
 pub mod Expressions
 pub mod Actions
 pub mod Rules

@@ -1,28 +1,46 @@
--- Document 01, "The deck": from bytes to the deck, or to the first fault in reading order, 1 to 5. Assumes nothing.
+-- Document 01, "The deck", and document 02, Req 02: from bytes to the deck, or to the first fault in reading order: 1, 2, 3, 4, 18 and
+-- 19, then 5. Assumes nothing.
 use Prim.Native.Nat.{ℕ, zero, suc}
+use mathlib.Core.Path.{_≡_, refl}
 use mathlib.Core.Bool.{Bool, not, cond}
 use mathlib.Core.List.{List, [], _∷_}
 use lib.Dec.{eqb}
 use Rattle.lists.specs.Lists.{member}
 use Rattle.refusals.specs.Outcome.{Outcome, refused, accepted}
-use Rattle.refusals.specs.Numbers.{badExpression, repeatedTarget}
+use Rattle.refusals.specs.Numbers.{repeatedTarget}
+use Rattle.expression.specs.Syntax.{Num, Truth}
 use Rattle.expression.specs.Reading.{Read, got, nothing, Scope, wholeNum, wholeTruth}
+use Rattle.expression.specs.Faults.{Found, sound, faulty, numFault, truthFault}
+use Rattle.expression.specs.Laws.Sound.{num-has-fault, truth-has-fault}
 use Rattle.deck.specs.Limits.{limits}
 use Rattle.deck.specs.Deck.{Action, Rule, Part, Deck}
 use Rattle.deck.specs.Reader.{Got, Reader, _>>=_, _>>_, give, fault, here, require, byte, end, number, times, rising, value}
 
--- 3: the bytes break the rules of expressions. The place is the first byte after the length byte
-unfoldable pub judged : {A : Type 0} → ℕ → Read A → Reader A
-judged at (got a n) = give a
-judged at nothing = fault badExpression at
+-- what an expression is to be: how its bytes are read, and their first fault from an offset on. Bytes that are not read have one
+pub record Expected (A : Type 0) : Type 0 where
+  pub whole : List ℕ → Read A
+  pub find : List ℕ → ℕ → Found
+  pub has-fault : (s : List ℕ) (at : ℕ) → whole s ≡ nothing → find s at ≡ sound → ⊥
+
+abbrev pub numbers : Scope → Expected Num
+numbers sc = record { whole = wholeNum sc; find = numFault sc; has-fault = num-has-fault sc }
+
+abbrev pub truths : Scope → Expected Truth
+truths sc = record { whole = wholeTruth sc; find = truthFault sc; has-fault = truth-has-fault sc }
+
+-- 3, 18 and 19: the bytes are the expression, or what is refused is their first fault
+unfoldable pub judged : {A : Type 0} → (r : Read A) (f : Found) → (r ≡ nothing → f ≡ sound → ⊥) → Reader A
+judged (got a n) f has = give a
+judged nothing (faulty n p) has = fault n p
+judged nothing sound has = absurd (has refl refl)
 
 -- "a length byte 1 to 64, then exactly that many bytes"; judged when all its bytes are there
-unfoldable pub expression : {A : Type 0} → (List ℕ → Read A) → Reader A
-expression whole = do
+unfoldable pub expression : {A : Type 0} → Expected A → Reader A
+expression e = do
   n ← number 1 (suc (limits .expression))
   at ← here
   bytes ← times n byte
-  judged at (whole bytes)
+  judged (e .whole bytes) (e .find bytes at) (e .has-fault bytes at)
 
 -- "Far channels stand only in the condition and action of an everywhere task"
 unfoldable pub ownOnly : ℕ → Scope
@@ -42,7 +60,7 @@ assignments sc (suc n) ts = do
   at ← here
   t ← number 0 (sc .owns)
   require (not (member t ts)) repeatedTarget at
-  e ← expression (wholeNum sc)
+  e ← expression (numbers sc)
   rest ← assignments sc n (t ∷ ts)
   give (record { target = t; value = e } ∷ rest)
 
@@ -61,7 +79,7 @@ rule R = do
   kind ← number 0 2
   let everywhere = eqb kind 1
   let scope = taskScope R everywhere
-  condition ← expression (wholeTruth scope)
+  condition ← expression (truths scope)
   act ← action scope
   give (record { events = events; default = default; everywhere = everywhere; condition = condition; action = act })
 
@@ -71,7 +89,7 @@ part R M = do
   opening ← times R value
   n ← number 0 (suc M)
   carried ← rising n 0 M
-  limit ← expression (wholeTruth (ownOnly R))
+  limit ← expression (truths (ownOnly R))
   give (record { opening = opening; carried = carried; limit = limit })
 
 -- the deck, and the offsets of its last two sections' counts

@@ -16,7 +16,7 @@ use Rattle.expression.specs.Answers.{isGot}
 use Rattle.deck.specs.Limits.{limits}
 use Rattle.deck.specs.Deck.{Assignment, Action, Rule, Part, targets}
 use Rattle.deck.specs.Reader.{Got, Reader, _>>=_, _>>_, give, here, require, end, number, times, rising, value}
-use Rattle.deck.specs.Layout.{expression, ownOnly, taskScope, action, Layout}
+use Rattle.deck.specs.Layout.{numbers, truths, expression, ownOnly, taskScope, action, Layout}
 use Rattle.deck.specs.Encoding.{kindByte}
 use Rattle.deck.specs.declared.Step.{Step}
 use Rattle.deck.specs.declared.Step.the-variants.{Next, Fault}
@@ -30,8 +30,8 @@ Kind true = Truth
 Kind false = Num
 
 unfoldable pub expressionFor : (truth : Bool) → Scope → Reader (Kind truth)
-expressionFor true sc = expression (wholeTruth sc)
-expressionFor false sc = expression (wholeNum sc)
+expressionFor true sc = expression (truths sc)
+expressionFor false sc = expression (numbers sc)
 
 -- how many channels are known where an expression stands
 unfoldable pub scopeOf : ℕ → ℕ → Scope
@@ -43,7 +43,7 @@ assignment sc ts = do
   at ← here
   t ← number 0 (sc .owns)
   require (not (member t ts)) repeatedTarget at
-  e ← expression (wholeNum sc)
+  e ← expression (numbers sc)
   give (record { target = t; value = e })
 
 -- whether bytes are a whole truth, or else a whole number
@@ -65,7 +65,7 @@ markedTask R = do
   let everywhere = eqb kind 1
   let scope = taskScope R everywhere
   conditionAt ← here
-  condition ← expression (wholeTruth scope)
+  condition ← expression (truths scope)
   actionAt ← here
   act ← action scope
   give (record { everywhere = everywhere; condition = condition; conditionAt = conditionAt; action = act; actionAt = actionAt })
@@ -110,7 +110,7 @@ markedPart R M = do
   n ← number 0 (suc M)
   carried ← rising n 0 M
   limitAt ← here
-  limit ← expression (wholeTruth (ownOnly R))
+  limit ← expression (truths (ownOnly R))
   give (record { part = record { opening = opening; carried = carried; limit = limit }; openingAt = openingAt; limitAt = limitAt })
 
 -- the first two sections: their counts, and the offset of the second one

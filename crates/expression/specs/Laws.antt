@@ -1,5 +1,5 @@
--- Laws of expressions: reading and encoding are inverse to each other; what evaluator and type check answer follows from their
--- operands.
+-- Laws of expressions: reading and encoding are inverse to each other; what evaluator, type check and the search for a fault
+-- answer follows from their operands; the first fault is at the exact byte.
 pub mod Bytes
 pub mod Value
 pub mod Spans
@@ -13,3 +13,7 @@ pub mod Agreement
 pub mod OperatorBytes
 pub mod Readings
 pub mod WholeAnswers
+pub mod Searches
+pub mod Sound
+pub mod Completions
+pub mod Exact

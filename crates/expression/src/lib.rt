@@ -1,5 +1,5 @@
-// Expressions: their operators, what evaluator and type check answer, and the numbers that bytes make. The definitions are in specs/;
-// the evaluator and the type check are the crates `evaluation` and `type_check`.
+// Expressions: their operators, what evaluator, type check and the search for a fault answer, and the numbers that bytes make. The
+// definitions are in specs/; the functions themselves are in the crates `evaluation`, `type_check` and `fault_search`.
 ghost use mathlib.Core.Path.{_≡_};
 ghost use Rattle.expression.specs.Reading.{numOp, truthOp, word, signed};
 
@@ -63,6 +63,12 @@ pub enum NumValue {
 pub enum TruthValue {
     Value(bool),
     None,
+}
+
+// What the search for a fault answers: the place after what was read, or the number and place of its first fault.
+pub enum Search {
+    After(usize),
+    Fault(u32, usize),
 }
 
 // Bytes that stand for no operator are `Unknown`.

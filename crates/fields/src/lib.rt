@@ -12,6 +12,7 @@ use deck::Deck;
 use deck::Loaded;
 use deck::Set;
 use deck::Step;
+use expression::Search;
 
 pub fn wide(x: u8) -> usize
     ensures { λ r. ⌜ r ≡ x ⌝ }
@@ -135,7 +136,7 @@ pub fn write_row(tail: &mut [u64], row: &[u64])
 }
 
 // Whether the bytes are a whole truth, or else a whole number.
-fn judged(bytes: &[u8], truth: bool, own: usize, far: usize) -> bool
+fn is_whole(bytes: &[u8], truth: bool, own: usize, far: usize) -> bool
     ensures { λ r. ⌜ r ≡ isWhole truth (scopeOf own far) (now (bytes .entry)) ⌝ }
 {
     if truth {
@@ -164,14 +165,15 @@ fn expression_end(s: &[u8], at: usize, truth: bool, own: usize, far: usize) -> u
     }
     let from = at + 1;
     let to = from + n;
-    if judged(&s[from..to], truth, own, far) {
+    if is_whole(&s[from..to], truth, own, far) {
         to
     } else {
         0
     }
 }
 
-// The same with the fault, step by step.
+// The same with the fault: of the length byte, of too few bytes, or the first one of the expression. It is called only where there is
+// one, so that decks that pass are not searched.
 fn expression_step(s: &[u8], at: usize, truth: bool, own: usize, far: usize) -> Step
     ensures { λ r. ⌜ Reads (now (s .entry)) (expressionFor truth (scopeOf own far) (drop at (now (s .entry))) at) (λ _. Unit {0}) r ⌝ }
 {
@@ -188,17 +190,18 @@ fn expression_step(s: &[u8], at: usize, truth: bool, own: usize, far: usize) -> 
         };
     }
     let to = from + n;
-    if judged(&s[from..to], truth, own, far) {
-        Step::Next(to)
-    } else {
-        Step::Fault {
-            number: refusals::BAD_EXPRESSION,
-            place: from,
-        }
+    let found = fault_search::expression_fault(s, from, to, truth, own, far);
+    match found {
+        Search::After(end) => Step::Next(end),
+        Search::Fault(number, place) => Step::Fault {
+            number: number,
+            place: place,
+        },
     }
 }
 
-// An expression. Mostly it has no fault, and its end comes back as one number.
+// An expression. Mostly it has no fault, and its end comes back as one number. `expression_step` is called in two places: called in one,
+// it would be compiled into this function, and this one no longer into its callers.
 pub fn expression_at(s: &[u8], at: usize, truth: bool, own: usize, far: usize) -> Step
     ensures { λ r. ⌜ Reads (now (s .entry)) (expressionFor truth (scopeOf own far) (drop at (now (s .entry))) at) (λ _. Unit {0}) r ⌝ }
 {
@@ -206,7 +209,11 @@ pub fn expression_at(s: &[u8], at: usize, truth: bool, own: usize, far: usize) -
     if end != 0 {
         return Step::Next(end);
     }
-    expression_step(s, at, truth, own, far)
+    if truth {
+        expression_step(s, at, true, own, far)
+    } else {
+        expression_step(s, at, false, own, far)
+    }
 }
 
 pub fn wrong(step: Step) -> Loaded

@@ -170,7 +170,8 @@ fn judge_whole(
     judge_rules(rules, parts, memo, counts)
 }
 
-// 1 to 8: the deck's tables are filled, and the tests follow in their order. The memo keeps the charges of a deck that passes.
+// 1 to 8, 18 and 19: the deck's tables are filled, and the tests follow in their order. The memo keeps the charges of a deck that
+// passes.
 pub fn judge(deck: &[u8], rules: &mut [u64], parts: &mut [u64], memo: &mut [u32]) -> Judged
     requires { ⌜ ZeroRules (now deck) (now rules) × (now parts ≡ replicate 64 0) × ZeroMemo (now deck) (now memo) ⌝ }
     ensures { λ r. ⌜ Judges (now (deck .entry)) (now (rules .exit)) (now (parts .exit)) (now (memo .exit)) r ⌝ }

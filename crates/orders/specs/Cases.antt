@@ -1,5 +1,5 @@
 -- Document 01, "Deck D and its cases": P1 to P11 as one list with one theorem over it, proved by computing; then document 02's Req 01
--- on the same deck. Assumes nothing.
+-- and Req 02 on the same deck. Assumes nothing.
 use Prim.Native.Nat.{ℕ, _+_, _*_, _-_}
 use Prim.Native.String.{String}
 use mathlib.Core.Bool.{cond}
@@ -12,6 +12,7 @@ use Rattle.lists.specs.Lists.{flatMap, lists}
 use Rattle.refusals.specs.Outcome.{Outcome, refused, accepted, outcomes}
 use Rattle.expression.specs.Values.{evaluation}
 use Rattle.expression.specs.Reading.{readingExpressions}
+use Rattle.expression.specs.Faults.{faults}
 use Rattle.deck.specs.Deck.{Deck, decks}
 use Rattle.deck.specs.Reader.{readers}
 use Rattle.deck.specs.Layout.{Layout, layouts}
@@ -135,7 +136,7 @@ cases =
 
 -- to open all that the calls are made of, on an `unfolding` line: what reads a deck, and what works on one
 unfoldable pub readingDecks : Unit {0}
-unfolding lists outcomes evaluation readingExpressions decks readers layouts
+unfolding lists outcomes evaluation readingExpressions faults decks readers layouts
 readingDecks = tt
 
 unfoldable pub makingCalls : Unit {0}
@@ -192,3 +193,20 @@ limitCases =
 pub limit-cases-hold : flatMap (λ c. c .called ∷ c .listed ∷ []) limitCases ≡ flatMap (λ c. c .wanted ∷ c .wanted ∷ []) limitCases
 unfolding nibble unhex D seen listedFor calling setA setC setAC byHand callingByHand settledAt limitCases readingDecks makingCalls
 limit-cases-hold = refl
+
+-- ---- document 02, Req 02: what is wrong in a formula. Part 1's limit has its length byte at 66 and is D's last field
+
+unfoldable pub faultCases : List Case
+faultCases =
+    checking (set D 68 2) (refused 18 68) "refused 18 68\n"  -- a far channel in a limit
+    ∷ checking (set D 68 17) (refused 18 68) "refused 18 68\n"  -- a truth as an operand of "less"
+    ∷ checking (set D 69 3) (refused 3 69) "refused 3 69\n"  -- channel 3 of three
+    ∷ checking (take 74 (set D 66 7)) (refused 19 74) "refused 19 74\n"  -- the literal ends early, where the deck ends
+    ∷ checking (set D 66 9 ++ 0 ∷ []) (refused 19 75) "refused 19 75\n"  -- a byte left over, and none that follows
+    ∷ checking (take 74 (set D 69 3)) (refused 1 74) "refused 1 74\n"  -- 1 before 3: a byte of the expression is missing
+    ∷ checking (set D6 69 3) (refused 3 69) "refused 3 69\n"  -- 3 before 7
+    ∷ []
+
+pub fault-cases-hold : flatMap (λ c. c .called ∷ c .listed ∷ []) faultCases ≡ flatMap (λ c. c .wanted ∷ c .wanted ∷ []) faultCases
+unfolding nibble unhex D D6 checked checking faultCases readingDecks makingCalls
+fault-cases-hold = refl

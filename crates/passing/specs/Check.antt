@@ -1,4 +1,4 @@
--- Document 01, "When a call declines": the tests of a deck, 1 to 8 in their order. Assumes nothing.
+-- Document 01, "When a call declines", and document 02, Req 02: the tests of a deck, 1 to 8, 18 and 19, in their order. Assumes nothing.
 use Prim.Native.Nat.{ℕ, _-_, _*_}
 use mathlib.Core.Bool.{Bool, not}
 use mathlib.Core.List.{List, _++_}
@@ -28,7 +28,7 @@ openingValues d =
 unfoldable pub outside : Deck → List ℕ
 outside d = filter (λ p. not (within d p (openingValues d))) (below (N d))
 
--- the deck that the bytes hold, if it passes: 1 to 5 in reading order, then 6, 7 and 8
+-- the deck that the bytes hold, if it passes: 1 to 4, 18 and 19 in reading order, then 5, 6, 7 and 8
 unfoldable pub passing : List ℕ → Outcome Layout
 passing bytes = do
   l ← read bytes

@@ -5,10 +5,9 @@ use mathlib.Core.Path.{_≡_}
 use mathlib.Core.List.{List, []}
 use lib.ListN.{length, getD}
 use Rattle.refusals.specs.Outcome.{Outcome, refused, accepted}
-use Rattle.expression.specs.Reading.{wholeTruth}
 use Rattle.deck.specs.Deck.{Deck, R, M, N, ruleAt, partAt}
 use Rattle.deck.specs.Reader.{times, value}
-use Rattle.deck.specs.Layout.{Layout, expression, ownOnly, taskScope, action, read}
+use Rattle.deck.specs.Layout.{truths, Layout, expression, ownOnly, taskScope, action, read}
 use Rattle.deck.specs.Tables.{TablesOf, Ranged}
 use Rattle.deck.specs.declared.Deck as Counted
 use Rattle.deck.specs.Laws.Points.{ReadsAt}
@@ -42,7 +41,7 @@ pub record Counts (l : Layout) (k : Counted.Deck) : Type 0 where
 pub record PartTable (s : List ℕ) (d : Deck) (parts : List ℕ) : Type 0 where
   pub long : length parts ≡ 64
   pub opening : (p : ℕ) → p < N d → ReadsAt s (times (R d) value) (getD parts (4 * p + 1) 0) (partAt d p .opening)
-  pub limit : (p : ℕ) → p < N d → ReadsAt s (expression (wholeTruth (ownOnly (R d)))) (getD parts (4 * p + 2) 0) (partAt d p .limit)
+  pub limit : (p : ℕ) → p < N d → ReadsAt s (expression (truths (ownOnly (R d)))) (getD parts (4 * p + 2) 0) (partAt d p .limit)
 
 -- a row of eight numbers for each rule: the fifth, sixth and seventh are the offsets of default action, condition and action.
 -- There is a row for each of 32 channels too
@@ -51,7 +50,7 @@ pub record RuleTable (s : List ℕ) (d : Deck) (rules : List ℕ) : Type 0 where
   pub room : 8 * M d ≤ length rules
   pub default : (r : ℕ) → r < M d → ReadsAt s (action (ownOnly (R d))) (getD rules (8 * r + 4) 0) (ruleAt d r .default)
   pub condition : (r : ℕ) → r < M d
-      → ReadsAt s (expression (wholeTruth (taskScope (R d) (ruleAt d r .everywhere)))) (getD rules (8 * r + 5) 0) (ruleAt d r .condition)
+      → ReadsAt s (expression (truths (taskScope (R d) (ruleAt d r .everywhere)))) (getD rules (8 * r + 5) 0) (ruleAt d r .condition)
   pub action : (r : ℕ) → r < M d
       → ReadsAt s (action (taskScope (R d) (ruleAt d r .everywhere))) (getD rules (8 * r + 6) 0) (ruleAt d r .action)
 

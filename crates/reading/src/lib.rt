@@ -1,4 +1,5 @@
-// The pass over a deck's bytes: the faults 1 to 5, the two tables, and the stretch of a section. The definitions are in `deck`.
+// The pass over a deck's bytes: the faults 1 to 5, 18 and 19, the two tables, and the stretch of a section. The definitions are in
+// `deck`.
 ghost use mathlib.Core.Path.{_≡_};
 ghost use Prim.Native.Nat.{_≤_};
 ghost use lib.ListN.{length};
@@ -50,7 +51,7 @@ fn front_at(s: &[u8], table: &mut [u64]) -> Front
     }
 }
 
-// One pass over the bytes: the deck, its rules and parts in the tables, or the first fault in reading order, 1 to 5.
+// One pass over the bytes: the deck, its rules and parts in the tables, or the first fault in reading order, 1 to 5, 18 or 19.
 pub fn read(deck: &[u8], rules: &mut [u64], parts: &mut [u64]) -> Loaded
     requires { ⌜ RulesFit (now deck) (length (now rules)) × (64 ≤ length (now parts)) ⌝ }
     ensures { λ r. ⌜ Loads (now (deck .entry)) (now (rules .exit)) (now (rules .entry)) (now (parts .exit)) (now (parts .entry)) r ⌝ }

@@ -10,9 +10,9 @@ deckEnds = 1
 abbrev pub outOfRange : ℕ
 outOfRange = 2
 
--- 3. An expression breaks its rules, unknown channels included
-abbrev pub badExpression : ℕ
-badExpression = 3
+-- 3. An expression has an unknown operator or channel
+abbrev pub unknownByte : ℕ
+unknownByte = 3
 
 -- 4. A target stands twice in an action
 abbrev pub repeatedTarget : ℕ
@@ -70,6 +70,14 @@ budgetTooLarge = 16
 abbrev pub inputOutside : ℕ
 inputOutside = 17
 
+-- 18. An expression has a value of the wrong type or a far channel that isn't allowed there
+abbrev pub wrongType : ℕ
+wrongType = 18
+
+-- 19. An expression ends early or has bytes left over
+abbrev pub wrongEnd : ℕ
+wrongEnd = 19
+
 -- the last of them
 abbrev pub lastNumber : ℕ
-lastNumber = inputOutside
+lastNumber = wrongEnd

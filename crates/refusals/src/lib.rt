@@ -3,7 +3,7 @@ pub const DECK_ENDS: u32 = 1;
 
 pub const OUT_OF_RANGE: u32 = 2;
 
-pub const BAD_EXPRESSION: u32 = 3;
+pub const UNKNOWN_BYTE: u32 = 3;
 
 pub const REPEATED_TARGET: u32 = 4;
 
@@ -32,3 +32,7 @@ pub const UNKNOWN_SECTION: u32 = 15;
 pub const BUDGET_TOO_LARGE: u32 = 16;
 
 pub const INPUT_OUTSIDE: u32 = 17;
+
+pub const WRONG_TYPE: u32 = 18;
+
+pub const WRONG_END: u32 = 19;

@@ -3,10 +3,11 @@
 use crate::decks::{bounded, cascade, figure, BOUND, ENTERED, LAST, MOST_BOUNDS};
 use crate::engines::{Engine, Reference};
 use reaction::raw::{Memory, Returned, PLACE};
+use reaction::Refusal;
 use reference::deck::Deck;
 use reference::generate::decks::longest;
 use reference::random::Random;
-use reference::refusal::INPUT_OUTSIDE_LIMIT;
+use reference::refusal::{INPUT_OUTSIDE_LIMIT, UNKNOWN_BYTE};
 use reference::stored::deck_d;
 
 /// A call with what it names.
@@ -41,8 +42,8 @@ pub struct Case {
     pub deck: Vec<u8>,
     pub memory: Memory,
     pub call: Call,
-    /// The refusal that it comes to, 0 where it is accepted.
-    pub refused: u32,
+    /// The refusal that it comes to, none where it is accepted.
+    pub refused: Option<Refusal>,
 }
 
 /// Cases that differ in size.
@@ -81,7 +82,9 @@ pub fn groups() -> Vec<Group> {
     ]
 }
 
+/// The last one is as long as the one before, which passes, so that the search for a fault shows in its time.
 fn checks() -> Vec<Case> {
+    let longest = longest(&mut Random::new(1)).encode().bytes;
     let decks = [
         ("deck D", deck_d()),
         ("2 parts, 4 rules", figure(2, 4, 1).encode().bytes),
@@ -89,17 +92,30 @@ fn checks() -> Vec<Case> {
         ("16 parts, 64 rules", figure(16, 64, 1).encode().bytes),
         ("the same, 2 terms", figure(16, 64, 2).encode().bytes),
         ("the same, 4 terms", figure(16, 64, 4).encode().bytes),
-        ("the longest deck", longest(&mut Random::new(1)).encode().bytes),
+        ("the longest deck", longest.clone()),
     ];
-    let case = |(name, deck): (&str, Vec<u8>)| Case {
+    let (faulty, refusal) = fault_in_last_byte(longest);
+    let refused = Case { refused: Some(refusal), ..checked("the same, a fault in its last byte", faulty) };
+    decks.into_iter().map(|(name, deck)| checked(name, deck)).chain([refused]).collect()
+}
+
+/// The check of a deck that passes.
+fn checked(name: &str, deck: Vec<u8>) -> Case {
+    Case {
         name: format!("{name}: {} bytes", deck.len()),
         size: deck.len(),
         deck,
         memory: Memory::new(0),
         call: Call::Check,
-        refused: 0,
-    };
-    decks.into_iter().map(case).collect()
+        refused: None,
+    }
+}
+
+/// The deck with a last byte that is no operator and no channel, and its refusal: the last limit ends with a channel.
+fn fault_in_last_byte(mut deck: Vec<u8>) -> (Vec<u8>, Refusal) {
+    let last = deck.len() - 1;
+    deck[last] = u8::MAX;
+    (deck, Refusal { number: UNKNOWN_BYTE, place: last as u32 })
 }
 
 /// A number of things, for the table.
@@ -122,7 +138,7 @@ fn starts() -> Vec<Case> {
         memory: started(&deck, places),
         deck: deck.clone(),
         call: Call::Start,
-        refused: 0,
+        refused: None,
     };
     [10, 1000, 65_535].map(case).into()
 }
@@ -136,7 +152,7 @@ fn enter() -> Call {
 /// An input with so many updates pending, and room for those that follow.
 fn entered(name: String, size: usize, deck: &Deck, count: usize) -> Case {
     let memory = pending(deck, count, count + 1000);
-    Case { name, size, deck: deck.encode().bytes, memory, call: enter(), refused: 0 }
+    Case { name, size, deck: deck.encode().bytes, memory, call: enter(), refused: None }
 }
 
 fn inputs_by_parts(pending: usize) -> Vec<Case> {
@@ -161,7 +177,7 @@ fn inputs_by_bounds() -> Vec<Case> {
     let mut past = case(MOST_BOUNDS);
     past.name.push_str(", refused at its limit");
     past.call = Call::Input { part: 0, pairs: vec![i32::from(ENTERED + MOST_BOUNDS - 1), BOUND] };
-    past.refused = INPUT_OUTSIDE_LIMIT;
+    past.refused = Some(Refusal { number: INPUT_OUTSIDE_LIMIT, place: 0 });
     [1, 4, MOST_BOUNDS].into_iter().map(case).chain([past]).collect()
 }
 
@@ -184,7 +200,7 @@ fn committed(name: String, size: usize, count: usize, places: usize, place: usiz
         memory.pool[PLACE * place + 2] = i32::from(ENTERED);
     }
     let call = Call::Commit { place: place as u32 };
-    Case { name, size, deck: deck.encode().bytes, memory, call, refused: 0 }
+    Case { name, size, deck: deck.encode().bytes, memory, call, refused: None }
 }
 
 fn commits(place: impl Fn(usize) -> usize) -> Vec<Case> {
@@ -208,7 +224,7 @@ fn settles() -> Vec<Case> {
         deck: deck.encode().bytes,
         memory: pending(&deck, count, count),
         call: Call::Settle { budget: 65_535 },
-        refused: 0,
+        refused: None,
     };
     [1, 10, 100, 1000, 10_000, 65_535].map(case).into()
 }
@@ -227,7 +243,7 @@ fn cascades() -> Vec<Case> {
             deck,
             memory,
             call: Call::Settle { budget: 65_535 },
-            refused: 0,
+            refused: None,
         }
     };
     [1, 2, 3, 4, 5].map(case).into()

@@ -64,7 +64,7 @@ fn median(samples: &mut [f64]) -> f64 {
 /// do not answer alike, or not as the case says.
 pub fn measure(case: &Case, engines: &mut [Measured]) -> Result<Vec<f64>, String> {
     let tried: Vec<_> = engines.iter_mut().map(|measured| measured.try_once(case)).collect();
-    if tried.iter().any(|outcome| *outcome != tried[0] || outcome.0.number != case.refused) {
+    if tried.iter().any(|outcome| *outcome != tried[0] || outcome.0.result().err() != case.refused) {
         let answers: Vec<_> = tried.iter().map(|(returned, _)| returned).collect();
         return Err(format!("{}: the engines differ, or miss what the case says: {answers:?}", case.name));
     }

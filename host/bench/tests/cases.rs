@@ -2,6 +2,8 @@
 
 use bench::cases::{groups, Call};
 use bench::engines::Reference;
+use reaction::Refusal;
+use reference::deck::Deck;
 
 #[test]
 fn all_are_accepted_or_refused_and_as_large_as_they_say() {
@@ -10,9 +12,10 @@ fn all_are_accepted_or_refused_and_as_large_as_they_say() {
             let mut memory = case.memory.clone();
             let returned = case.call.make(&mut Reference, &case.deck, &mut memory);
             let [place, first, second, ..] = returned.answer;
-            assert_eq!((returned.number, place), (case.refused, 0), "{}, {}", group.name, case.name);
+            let expected = case.refused.map_or((0, 0), |refusal| (refusal.number, refusal.place));
+            assert_eq!((returned.number, place), expected, "{}, {}", group.name, case.name);
             match case.call {
-                _ if case.refused != 0 => assert_eq!(memory, case.memory, "{}", case.name),
+                _ if case.refused.is_some() => assert_eq!(memory, case.memory, "{}", case.name),
                 Call::Input { .. } => assert!(memory.pending > case.memory.pending, "{}", case.name),
                 Call::Commit { .. } => assert_eq!(first, 1, "{}", case.name),
                 Call::Settle { .. } => assert_eq!((first as usize, second), (case.size, 1), "{}", case.name),
@@ -35,9 +38,23 @@ fn commits_fire() {
     }
 }
 
-/// Most calls are measured where they do their work; one input stops at a limit.
+/// Most calls are measured where they do their work; one check finds a fault in the last byte, and one input stops at a
+/// limit.
 #[test]
-fn one_is_refused() {
-    let refused = groups().into_iter().flat_map(|group| group.cases).map(|case| case.refused);
-    assert_eq!(refused.filter(|&number| number != 0).collect::<Vec<_>>(), [17]);
+fn two_are_refused() {
+    let refused = groups().into_iter().flat_map(|group| group.cases).filter_map(|case| case.refused);
+    let last = Deck::BYTES as u32 - 1;
+    let expected = [Refusal { number: 3, place: last }, Refusal { number: 17, place: 0 }];
+    assert_eq!(refused.collect::<Vec<_>>(), expected);
+}
+
+/// The deck with a fault is compared with one that passes and is as long, and differs from it in one byte.
+#[test]
+fn the_fault_is_all_that_differs() {
+    let checks = groups().into_iter().flat_map(|group| group.cases).filter(|case| case.size == Deck::BYTES);
+    let decks: Vec<Vec<u8>> = checks.map(|case| case.deck).collect();
+    let [passing, faulty] = &decks[..] else { panic!("{} decks", decks.len()) };
+    assert_eq!(passing.len(), faulty.len());
+    let differing = (0..passing.len()).filter(|&at| passing[at] != faulty[at]);
+    assert_eq!(differing.collect::<Vec<_>>(), [Deck::BYTES - 1]);
 }

@@ -1,5 +1,5 @@
-//! The plain engine judges decks, and inputs at a limit, as the reference does. Lists of calls are compared by the package
-//! `fuzz`.
+//! The plain engine judges decks, faults in expressions among them, and inputs at a limit, as the reference does. Lists
+//! of calls are compared by the package `fuzz`.
 
 use bench::engines::{Engine, Reference};
 use bench::plain;
@@ -7,6 +7,7 @@ use reaction::raw::{Memory, CHANNELS, PLACE};
 use reference::generate::{deck, Kind, Size};
 use reference::random::Random;
 use reference::stored;
+use std::collections::BTreeSet;
 
 fn compare(plain: &mut plain::Engine, deck: &[u8]) {
     assert_eq!(Engine::check(plain, deck), Reference.check(deck), "{deck:?}");
@@ -30,6 +31,47 @@ fn agrees_on_stored_decks() {
     for stored in stored::all() {
         compare(&mut plain, &stored.deck);
     }
+}
+
+/// The deck has two channels, so that 2 and all above are unknown ones; 7 is no operator.
+const EXPRESSION_BYTES: [u8; 11] = [0x00, 0x01, 0x02, 0x03, 0x06, 0x07, 0x10, 0x12, 0x13, 0x15, 0xFF];
+/// So many bytes at most.
+const LONGEST_EXPRESSION: u32 = 4;
+
+/// All expressions of these bytes, sound or not.
+fn expressions() -> impl Iterator<Item = Vec<u8>> {
+    let count = EXPRESSION_BYTES.len();
+    let bytes = move |length: u32, number: usize| -> Vec<u8> {
+        (0..length).map(|digit| EXPRESSION_BYTES[number / count.pow(digit) % count]).collect()
+    };
+    (1..=LONGEST_EXPRESSION)
+        .flat_map(move |length| (0..count.pow(length)).map(move |number| bytes(length, number)))
+}
+
+/// A deck with a rule of this kind and a part. The expression stands in the default action, the condition, the action or
+/// the limit, by number; the others are sound.
+fn with_expression(kind: u8, number: usize, expression: &[u8]) -> Vec<u8> {
+    let mut all: [&[u8]; 4] = [&[0x01, 0], &[0x11], &[0x01, 0], &[0x11]];
+    all[number] = expression;
+    let [default_action, condition, action, limit] = all.map(|bytes| [&[bytes.len() as u8], bytes].concat());
+    let rule = [&[1, 0, 1, 1], &default_action[..], &[kind], &condition, &[1, 1], &action].concat();
+    let part = [&[0; 8][..], &[1, 0], &limit].concat();
+    [b"\x02ab\x01", &rule[..], &[1], &part].concat()
+}
+
+#[test]
+fn agrees_on_short_expressions() {
+    let mut plain = plain::Engine::new();
+    let mut numbers = BTreeSet::new();
+    for expression in expressions() {
+        for (kind, number) in [0, 1].into_iter().flat_map(|kind| (0..4).map(move |number| (kind, number))) {
+            let deck = with_expression(kind, number, &expression);
+            let returned = Engine::check(&mut plain, &deck);
+            assert_eq!(returned, Reference.check(&deck), "{deck:02x?}");
+            numbers.insert(returned.number);
+        }
+    }
+    assert_eq!(numbers, BTreeSet::from([0, 3, 6, 18, 19]));
 }
 
 /// Channels of deck D, whose part 1 keeps `C` below 10.

@@ -3,6 +3,7 @@
 use crate::compare::{Comparison, Difference};
 use crate::step::Step;
 use reaction::raw::{CHANNELS, PLACE};
+use reference::deck::{Deck, Encoded, Field};
 use reference::engine::Call;
 use reference::generate::calls::{any, bad_length, damage, hand_written, restored, Known};
 use reference::generate::limits::Edge;
@@ -41,14 +42,15 @@ fn any_deck(random: &mut Random) -> Vec<u8> {
         1..=5 => MEDIUM,
         _ => SMALL,
     };
-    let kind = match random.below(400) {
+    let kind = match random.below(440) {
         0 => Kind::Longest,
         1..=16 => Kind::Heavy,
         17..=180 => Kind::Rich,
         181..=280 => Kind::Valid,
         281..=320 => Kind::Damaged,
-        321..=350 => Kind::Cyclic,
-        351..=380 => Kind::Limit,
+        321..=360 => Kind::Expression,
+        361..=390 => Kind::Cyclic,
+        391..=420 => Kind::Limit,
         _ => Kind::Noise,
     };
     deck(kind, random, size)
@@ -201,11 +203,13 @@ impl Case<'_> {
     fn other_deck(&mut self) -> Result<(), Difference> {
         let mut other = self.deck.clone();
         let at = self.random.below(other.len());
-        match self.random.below(5) {
+        match self.random.below(7) {
             0 => other.truncate(at),
             1 => other.clear(),
             2 => other.push(self.random.byte()),
             3 => other = any_deck(&mut self.random),
+            4 => other = deck(Kind::Expression, &mut self.random, SMALL),
+            5 => other = target_twice(&mut self.random, &other).unwrap_or(other),
             _ => other.iter_mut().skip(at).take(1).for_each(|byte| *byte = self.random.byte()),
         }
         self.step(Step::Deck(other))?;
@@ -223,6 +227,22 @@ impl Case<'_> {
         self.call()?;
         self.start()
     }
+}
+
+/// The deck with a target that stands twice and an unknown operator in the expression behind it, so that two refusals
+/// hold; none if no action has two targets.
+fn target_twice(random: &mut Random, deck: &[u8]) -> Option<Vec<u8>> {
+    let Encoded { mut bytes, fields } = Deck::read(deck).ok()?.0.encode();
+    // Between the targets of an action stands one expression, a length and its bytes.
+    let neighbours = fields.windows(4).filter(|run| run[0].1 == Field::Target && run[3].1 == Field::Target);
+    let targets: Vec<(usize, usize)> = neighbours.map(|run| (run[0].0, run[3].0)).collect();
+    if targets.is_empty() {
+        return None;
+    }
+    let (first, second) = random.pick(&targets);
+    bytes[second] = bytes[first];
+    bytes[second + 2] = u8::MAX;
+    Some(bytes)
 }
 
 /// Deck D with so many updates pending: commits anywhere, inputs, one at part 1's limit, settles, and damage deep in

@@ -1,9 +1,9 @@
 //! Generated calls, valid and hostile, through engines and through the reference.
 //!
-//! Cases are decks with lists of calls: decks that pass, damaged and cut ones, states and pools that were
-//! written by hand or damaged, parts put outside their limit, extreme numbers, wrong lengths and empty
-//! slices. After each call everything that was handed back is compared: the returned number, the five answer
-//! numbers, the stretch, all values, the pending number and the whole pool.
+//! Cases are decks with lists of calls: decks that pass, damaged and cut ones, decks with a fault in an
+//! expression, states and pools that were written by hand or damaged, parts put outside their limit, extreme
+//! numbers, wrong lengths and empty slices. After each call everything that was handed back is compared: the
+//! returned number, the five answer numbers, the stretch, all values, the pending number and the whole pool.
 #![warn(clippy::all)]
 #![forbid(unsafe_code)]
 

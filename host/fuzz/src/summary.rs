@@ -5,7 +5,7 @@ use std::collections::BTreeMap;
 use std::fmt;
 
 /// The largest number of a refusal.
-const REFUSALS: usize = 17;
+const REFUSALS: usize = 19;
 
 /// What calls that are accepted come to, by call.
 const ACCEPTED: [&str; 8] = [

@@ -1,12 +1,10 @@
 //! `compare_check OURS OTHER COUNT SEED`: runs two programs that check a deck on COUNT generated
 //! decks of all kinds and compares what they print. `scripts/compare_check` builds and runs it.
 //!
-//! Deck n depends on the seed and n alone. Some decks are cut off anywhere, or followed by many
-//! bytes more, and some are fed in pieces with pauses, so that they arrive in several reads.
+//! Some decks are fed in pieces with pauses, so that they arrive in several reads.
 
 use reference::comparison;
-use reference::generate::{deck, Kind, Size};
-use reference::random::Random;
+use reference::generate::any_kind;
 use std::collections::BTreeMap;
 use std::fs;
 use std::io::{self, Write};
@@ -27,7 +25,7 @@ fn compare(ours: &str, other: &str, count: u64, seed: u64) -> io::Result<usize> 
     let mut outcomes: BTreeMap<String, usize> = BTreeMap::new();
     let mut differences = 0;
     for number in 0..count {
-        let (kind, deck) = generated(seed, number);
+        let (kind, deck) = any_kind(seed, number);
         let pause = number % 50 == 7;
         let (one, two) = (run(ours, &deck, pause)?, run(other, &deck, pause)?);
         *outcomes.entry(outcome(&two)).or_default() += 1;
@@ -43,23 +41,6 @@ fn compare(ours: &str, other: &str, count: u64, seed: u64) -> io::Result<usize> 
     }
     println!("{count} decks, {differences} differences");
     Ok(differences)
-}
-
-/// Kinds take turns; the longest decks, which are slow to make, come more seldom.
-fn generated(seed: u64, number: u64) -> (&'static str, Vec<u8>) {
-    let mut random = Random::new(seed ^ number.wrapping_mul(0xD134_2543_DE82_EF95));
-    let (mut name, mut kind) = Kind::ALL[number as usize % Kind::ALL.len()];
-    if kind == Kind::Longest && random.chance(80) {
-        (name, kind) = ("damaged", Kind::Damaged);
-    }
-    let mut deck = deck(kind, &mut random, Size::FULL);
-    if random.chance(4) {
-        deck.truncate(random.below(deck.len() + 1));
-    } else if random.chance(1) {
-        let more = random.pick(&[1, 1000, 42_884, 70_000, 200_000]);
-        deck.extend((0..more).map(|_| random.byte()));
-    }
-    (name, deck)
 }
 
 /// What a program writes to standard output, and how it ends.

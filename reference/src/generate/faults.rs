@@ -7,7 +7,8 @@ use crate::deck::{Deck, Encoded, Field, Kind, Rule};
 use crate::expression::Truth;
 use crate::random::Random;
 
-fn passing(random: &mut Random, size: Size) -> Deck {
+/// A deck that passes.
+pub fn passing(random: &mut Random, size: Size) -> Deck {
     if random.chance(50) {
         valid(random, size)
     } else {

@@ -8,7 +8,7 @@ use reference::deck::Deck;
 use reference::expression::Truth;
 use reference::script::Host;
 #[allow(unused_imports)]
-pub use reference::stored::{assign, copy, deck_d, deck_d_with, deck_of};
+pub use reference::stored::{assign, copy, deck_d, deck_d_with, deck_of, deck_with_condition};
 
 /// A host after an accepted start with so many places.
 pub fn fresh(deck: &[u8], places: usize) -> Host<'_> {

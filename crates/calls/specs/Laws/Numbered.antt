@@ -13,7 +13,7 @@ use Rattle.refusals.specs.Numbers.{opensOutside, cyclicGraph, overcharged, badP
 use Rattle.refusals.specs.Numbers.{inputOutside, overCapacity, placeNotPending, unknownSection, budgetTooLarge, lastNumber}
 use Rattle.refusals.specs.Laws.Outcomes.{refused≢accepted}
 use Rattle.deck.specs.Layout.{Layout, read}
-use Rattle.deck.specs.Laws.Faults.{read-fault}
+use Rattle.deck.specs.Laws.Faults.{read-fault, reading-listed}
 use Rattle.pool.specs.States.{Memory}
 use Rattle.passing.specs.Check.{passing}
 use Rattle.calls.specs.Calls.{Done, reply, tested, check, start, input, commit, settle, Ends, sectionEnds, sectionReply, section}
@@ -56,7 +56,7 @@ none-numbered (p ∷ ps) n l = refuses l
 
 read-numbered : (bytes : List ℕ) (o : Outcome Layout) → read bytes ≡ o → Numbered o
 read-numbered bytes (accepted l) e = answers l
-read-numbered bytes (refused n p) e = let f = read-fault bytes n p e in refuses (f .least, omega (arith, f .most))
+read-numbered bytes (refused n p) e = refuses (reading-listed n (read-fault bytes n p e .number))
 
 passing-numbered : (bytes : List ℕ) → Numbered (passing bytes)
 unfolding passing

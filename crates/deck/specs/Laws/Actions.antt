@@ -18,7 +18,7 @@ use Rattle.expression.specs.Laws.Whole.{whole-num}
 use Rattle.deck.specs.Limits.{limits}
 use Rattle.deck.specs.Deck.{Assignment, Action, targets, decks}
 use Rattle.deck.specs.Reader.{readers}
-use Rattle.deck.specs.Layout.{assignments, action, layouts}
+use Rattle.deck.specs.Layout.{numbers, assignments, action, layouts}
 use Rattle.deck.specs.Encoding.{encodeExpression, encodeAssignment, encodeAction, goodAssignment, goodAction, encodings}
 use Rattle.deck.specs.Laws.Exact.{Exact, Any, Coded, exact-by, give-exact, here-exact, require-exact, then-exact}
 use Rattle.deck.specs.Laws.Readers.{number-exact, nil-exact, cons-exact}
@@ -90,7 +90,7 @@ module _ (sc : Scope) where
       (exact-by
       (here-exact λ p.
       then-exact (number-exact 0 (sc .owns)) λ t.
-      require-exact (not (member t ts)) repeatedTarget p (then-exact (expression-exact (whole-num sc)) λ e.
+      require-exact (not (member t ts)) repeatedTarget p (then-exact (expression-exact (numbers sc) (whole-num sc)) λ e.
       then-exact (assignments-exact n (t ∷ ts)) λ a.
       give-exact (record { target = t; value = e } ∷ a)))
       (λ at a w _ p.

@@ -5,9 +5,8 @@ use mathlib.Core.List.{List, [], _∷_}
 use lib.ListN.{drop}
 use Rattle.refusals.specs.Outcome.{accepted}
 use Rattle.refusals.specs.Laws.Outcomes.{refused≢accepted, accepted-inj}
-use Rattle.expression.specs.Reading.{wholeTruth}
 use Rattle.deck.specs.Reader.{Got, Reader, _>>=_, _>>_, here, end, number, times, rising, value}
-use Rattle.deck.specs.Layout.{expression, action, ownOnly}
+use Rattle.deck.specs.Layout.{truths, expression, action, ownOnly}
 use Rattle.deck.specs.Marks.{markedTask, markedRule, MarkedFront, markedFront, markedPart, Marked, markedSections}
 use Rattle.deck.specs.Laws.Points.{
   Tracks,
@@ -70,7 +69,7 @@ part-tracks R M =
     then-tracks (rising n 0 M) _ (rising-tracks n 0 M)
     (λ carried.
     then-tracks here _ here-tracks
-    (λ l. then-tracks (expression (wholeTruth (ownOnly R))) _ (expression-tracks (wholeTruth (ownOnly R))) (λ limit. give-tracks _))))))
+    (λ l. then-tracks (expression (truths (ownOnly R))) _ (expression-tracks (truths (ownOnly R))) (λ limit. give-tracks _))))))
 
 pub front-tracks : Tracks markedFront
 unfolding markedFront _>>=_

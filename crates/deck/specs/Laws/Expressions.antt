@@ -9,9 +9,11 @@ use Rattle.lists.specs.Laws.Alls.{all-left, all-right}
 use Rattle.expression.specs.Reading.{Read, got, nothing}
 use Rattle.expression.specs.Laws.Holds.{none, holds}
 use Rattle.expression.specs.Laws.Whole.{Whole}
+use Rattle.expression.specs.Faults.{Found, sound}
 use Rattle.deck.specs.Limits.{limits}
-use Rattle.deck.specs.Layout.{judged, expression, layouts}
+use Rattle.deck.specs.Layout.{Expected, judged, expression, layouts}
 use Rattle.deck.specs.Encoding.{encodeExpression, inRange, goodLength, encodings}
+use Rattle.deck.specs.Laws.Judging.{judged-cases}
 use Rattle.deck.specs.Laws.Exact.{Exact, Any, Coded, exact-by, give-exact, here-exact, then-exact, fault-exact}
 use Rattle.deck.specs.Laws.Readers.{number-exact, bytes-exact}
 
@@ -27,23 +29,25 @@ below-range hi n = rw (leb·zero n)
 pub zero-range : (hi n : ℕ) → (leb 0 n && ltb n (suc hi)) ≡ leb n hi
 zero-range hi n = below-range (suc hi) n ∙ leb·suc-suc n hi
 
-judged-exact : {A : Type 0} (p : ℕ) (r : Read A) → Exact Any (judged p r) (λ at e w. (n : ℕ) × (r ≡ got e n) × (w ≡ []))
-unfolding layouts
-judged-exact p (got a n) =
+judged-exact : {A : Type 0} (r : Read A) (f : Found) (has : r ≡ nothing → f ≡ sound → ⊥)
+    → Exact Any (judged r f has) (λ at e w. (n : ℕ) × (r ≡ got e n) × (w ≡ []))
+judged-exact r f has =
+    judged-cases r f has (λ q. Exact Any q (λ at e w. (n : ℕ) × (r ≡ got e n) × (w ≡ [])))
+    (λ a n k.
     exact-by (give-exact a)
-    (λ at e w _ q. (n, ap (λ x. got x n) (sym (q .0)), q .1))
-    (λ at e w q. let h : got a n ≡ got e (q .0) = q .1 in (cc, q .2))
-judged-exact p nothing = fault-exact _ p (λ at e w q. holds {P = λ _ _. ⊥} none (q .1))
+    (λ at e w _ q. (n, k ∙ ap (λ x. got x n) (sym (q .0)), q .1))
+    (λ at e w q. let h : got a n ≡ got e (q .0) = sym k ∙ q .1 in (cc, q .2)))
+    (λ n p k _. fault-exact n p (λ at e w q. holds {P = λ _ _. ⊥} none (sym k ∙ q .1)))
 
-module _ {A : Type 0} {whole : List ℕ → Read A} {enc : A → List ℕ} {ok : A → Bool} where
-  pub expression-exact : Whole whole enc ok
-      → Exact Any (expression whole) (Coded (λ e. encodeExpression (enc e)) (λ e. (ok e ≡ true) × (goodLength (enc e) ≡ true)))
+module _ {A : Type 0} (j : Expected A) {enc : A → List ℕ} {ok : A → Bool} where
+  pub expression-exact : Whole (j .whole) enc ok
+      → Exact Any (expression j) (Coded (λ e. encodeExpression (enc e)) (λ e. (ok e ≡ true) × (goodLength (enc e) ≡ true)))
   unfolding layouts encodings
   expression-exact x =
       exact-by (then-exact (number-exact 1 (suc (limits .expression))) λ n.
       here-exact λ p.
       then-exact (bytes-exact n) λ s.
-      judged-exact p (whole s))
+      judged-exact (j .whole s) (j .find s p) (j .has-fault s p))
       (λ at e w b p.
       let n : ℕ = p .0 in
       let s : List ℕ = p .4 .0 in

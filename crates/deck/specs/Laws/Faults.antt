@@ -1,5 +1,6 @@
--- Where reading finds its faults, and which bytes show them: 1 at the end of the bytes, the others below it; 2 and 4 at the last
--- byte that shows them; 5 behind a whole deck. Assumes nothing.
+-- Where reading finds its faults, and which bytes show them: 1 at the end of the bytes, the others below it, but for an expression
+-- that ends early with the bytes; 2, 3, 4, 18 and 19 where nothing behind that place matters; 5 behind a whole deck. 3, 18 and 19 are
+-- the first fault of one expression. Assumes nothing.
 use Prim.Native.Nat.{ℕ, zero, suc, _+_, _-_, _<_, _≤_}
 use mathlib.Core.Path.{_≡_, refl, sym, _∙_, ap, ap₂, subst}
 use mathlib.Core.Logic.{_⊎_, inl, inr, ⊎-elim, _↔_}
@@ -8,19 +9,28 @@ use mathlib.Core.List.{List, [], _∷_, _++_, append-assoc, append-nil}
 use native.Mathlib.Omega.{arith}
 use lib.Dec.{leb, ltb, eqb}
 use lib.ListN.{length, take, drop, length-append, length-take, length-drop, take-append-drop}
-use lib.Seq.{take-append-seam}
-use borrow.Author.Tests.{leb-true}
+use lib.Seq.{take-append-seam, take-append-le, take-append-add, take-at, drop-at, take-all, length-take-le}
+use borrow.Author.Tests.{leb-true, leb-false, ltb-true, ltb-false}
 use Rattle.lists.specs.Lists.{member}
 use Rattle.lists.specs.Laws.Booleans.{and-left}
 use Rattle.refusals.specs.Outcome.{Outcome, refused, accepted}
-use Rattle.refusals.specs.Numbers.{deckEnds, outOfRange, badExpression, repeatedTarget, bytesFollow}
+use Rattle.refusals.specs.Numbers.{deckEnds, outOfRange, repeatedTarget, bytesFollow, wrongEnd, lastNumber}
 use Rattle.refusals.specs.Laws.Outcomes.{refused≢accepted, accepted-inj, number-inj, place-inj}
 use Rattle.expression.specs.Reading.{Read, got, nothing, Scope, wholeNum, wholeTruth}
+use Rattle.expression.specs.Answers.{isGot}
+use Rattle.expression.specs.Faults.{aNumber, aTruth, Found, sound, faulty, firstFault, numFault, truthFault}
+use Rattle.expression.specs.ExactByte.{InExpression}
+use Rattle.expression.specs.Searching.{awaitedFor}
+use Rattle.expression.specs.Laws.Sound.{num-agrees, truth-agrees, nothing-if-faulty}
+use Rattle.expression.specs.Laws.Exact.{ShownAt, shown-at, fault-at-0}
 use Rattle.deck.specs.Limits.{limits}
 use Rattle.deck.specs.Reader.{Got, Reader, andThen, _>>=_, _>>_, give, fault, here, require, byte, end, number, times, rising, value}
 use Rattle.deck.specs.Reader.{readers}
-use Rattle.deck.specs.Layout.{Layout, judged, expression, ownOnly, taskScope, assignments, action, rule, part, sections, valueOf}
-use Rattle.deck.specs.Layout.{read}
+use Rattle.deck.specs.Layout.{Expected, numbers, truths, judged, expression, ownOnly, taskScope, assignments, action, rule, part}
+use Rattle.deck.specs.Layout.{Layout, sections, valueOf, read}
+use Rattle.deck.specs.Laws.Formed.{owns-task}
+use Rattle.deck.specs.Laws.Judging.{judged-read, judged-nothing}
+use Rattle.deck.specs.Laws.Offsets.{bytes-there, bytes-short}
 
 -- ---- what a reader sees
 
@@ -35,19 +45,54 @@ record Takes {A : Type 0} (r : From A) (at : ℕ) (s : List ℕ) (g : Got A) : T
   pub place : g .at ≡ at + length word
   pub always : (t : List ℕ) → r (word ++ t) ≡ accepted (record { value = g .value; rest = t; at = at + length word })
 
--- 2, 3 or 4
-abbrev Shown : ℕ → Type 0
-Shown n = (n ≡ outOfRange) ⊎ ((n ≡ badExpression) ⊎ (n ≡ repeatedTarget))
+-- 2 or 4
+abbrev pub AtOnce : ℕ → Type 0
+AtOnce n = (n ≡ outOfRange) ⊎ (n ≡ repeatedTarget)
 
--- a word shows the fault, whatever follows; but for an expression's, the place is the word's last byte
+abbrev Shown : ℕ → Type 0
+Shown n = AtOnce n ⊎ InExpression n
+
+-- 2 and 4 are no faults in an expression
+not-both : (n : ℕ) → AtOnce n → InExpression n → ⊥
+not-both n (inl e) (inl f) = omega arith
+not-both n (inl e) (inr (inl f)) = omega arith
+not-both n (inl e) (inr (inr f)) = omega arith
+not-both n (inr e) (inl f) = omega arith
+not-both n (inr e) (inr (inl f)) = omega arith
+not-both n (inr e) (inr (inr f)) = omega arith
+
+-- the bytes s show the fault too, unless they end before: they are fewer than k then
+abbrev Again : {A : Type 0} → From A → ℕ → ℕ → ℕ → ℕ → List ℕ → Type 0
+Again r at n p k s = (r s ≡ refused n p) ⊎ ((r s ≡ refused deckEnds (at + length s)) × (length s < k))
+
+-- n at p is the first fault of one expression: its bytes stand among s, which begins at the offset `at`
+pub record FoundIn (s : List ℕ) (at n p : ℕ) : Type 0 where
+  pub before : List ℕ
+  pub content : List ℕ
+  pub rest : List ℕ
+  pub bytes : s ≡ before ++ (content ++ rest)
+  -- a truth or a number, and the channels that are known there: an own one is
+  pub truth : Bool
+  pub scope : Scope
+  pub known : 0 < scope .owns
+  -- what is found of the bytes alone
+  pub offset : ℕ
+  pub found : firstFault scope (awaitedFor truth ∷ []) content 0 ≡ faulty n offset
+  pub place : p ≡ at + length before + offset
+
+-- a word shows the fault, whatever follows; of 2 and 4 the place is the word's last byte. And so does what stands up to the place
 record Shows {A : Type 0} (r : From A) (at : ℕ) (s : List ℕ) (n p : ℕ) : Type 0 where
   pub word : List ℕ
   pub rest : List ℕ
   pub bytes : s ≡ word ++ rest
   pub number : Shown n
-  pub inside : p < at + length word
-  pub last : (n ≡ badExpression → ⊥) → suc p ≡ at + length word
+  pub from : at ≤ suc p
+  pub within : p ≤ at + length word
+  pub inside : ¬ (n ≡ wrongEnd) → p < at + length word
+  pub last : AtOnce n → suc p ≡ at + length word
   pub always : (t : List ℕ) → r (word ++ t) ≡ refused n p
+  pub again : (t : List ℕ) → Again r at n p (length word) (take (suc p - at) word ++ t)
+  pub origin : InExpression n → FoundIn s at n p
 
 data Sees {A : Type 0} (r : From A) (at : ℕ) (s : List ℕ) : Outcome (Got A) → Type 0 where
   takes : {g : Got A} → Takes r at s g → Sees r at s (accepted g)
@@ -96,10 +141,45 @@ module _ {A B : Type 0} (r : From A) (f : A → Reader B) (at : ℕ) (s : List �
           rest = x .rest;
           bytes = joined (x .word) (x .rest) (x .bytes);
           number = x .number;
-          inside = omega (arith, x .inside, further (x .word));
+          from = omega (arith, x .from, w .place);
+          within = omega (arith, x .within, further (x .word));
+          inside = λ h. omega (arith, x .inside h, further (x .word));
           last = λ h. x .last h ∙ further (x .word);
           always = λ t. behind (x .word) t ∙ x .always t;
+          again = λ t.
+              subst (λ u. Again both at n p (length (w .word ++ x .word)) (u ++ t)) (sym (up-to n p x))
+              (so-far n p (x .word) (take (suc p - g .at) (x .word)) t (x .again t));
+          origin = λ h. further-in n p (x .origin h);
         })
+      where
+        up-to : (n p : ℕ) (x : Shows (λ t. f (g .value) t (g .at)) (g .at) (g .rest) n p)
+            → take (suc p - at) (w .word ++ x .word) ≡ w .word ++ take (suc p - g .at) (x .word)
+        up-to n p x =
+            let k : suc p - at ≡ length (w .word) + (suc p - g .at) = omega (arith, x .from, w .place) in
+            ap (λ k. take k (w .word ++ x .word)) k ∙ take-append-add (w .word) (x .word) (suc p - g .at)
+
+        so-far : (n p : ℕ) (all v t : List ℕ) → Again (λ t. f (g .value) t (g .at)) (g .at) n p (length all) (v ++ t)
+            → Again both at n p (length (w .word ++ all)) ((w .word ++ v) ++ t)
+        so-far n p all v t (inl e) = inl (behind v t ∙ e)
+        so-far n p all v t (inr (e, l)) =
+            let longer : length ((w .word ++ v) ++ t) ≡ length (w .word) + length (v ++ t) =
+            ap length (append-assoc (w .word) v t) ∙ length-append (w .word) (v ++ t) in
+            let size : g .at + length (v ++ t) ≡ at + length ((w .word ++ v) ++ t) = omega (arith, w .place, longer) in
+            inr (behind v t ∙ e ∙ ap (λ k. refused deckEnds k) size, omega (arith, l, longer, length-append (w .word) all))
+
+        further-in : (n p : ℕ) → FoundIn (g .rest) (g .at) n p → FoundIn s at n p
+        further-in n p x = record {
+          before = w .word ++ x .before;
+          content = x .content;
+          rest = x .rest;
+          bytes = joined (x .before) (x .content ++ x .rest) (x .bytes);
+          truth = x .truth;
+          scope = x .scope;
+          known = x .known;
+          offset = x .offset;
+          found = x .found;
+          place = omega (arith, x .place, further (x .before));
+        }
 
   then-sees : (o : Outcome (Got A)) → Sees r at s o
       → ((g : Got A) → o ≡ accepted g → Sees (λ t. f (g .value) t (g .at)) (g .at) (g .rest) (f (g .value) (g .rest) (g .at)))
@@ -113,9 +193,13 @@ module _ {A B : Type 0} (r : From A) (f : A → Reader B) (at : ℕ) (s : List �
         rest = x .rest;
         bytes = x .bytes;
         number = x .number;
+        from = x .from;
+        within = x .within;
         inside = x .inside;
         last = x .last;
         always = λ t. ap (λ o. andThen o f) (x .always t);
+        again = λ t. ⊎-elim (λ e. inl (ap (λ o. andThen o f) e)) (λ e. inr (ap (λ o. andThen o f) (e .0), e .1)) (x .again t);
+        origin = x .origin;
       })
 
 then-looks : {A B : Type 0} (r : Reader A) (f : A → Reader B) → Looks r → ((a : A) → Looks (f a)) → Looks (λ s at. andThen (r s at) f)
@@ -133,27 +217,31 @@ give-looks a s at =
       always = λ t. ap (λ k. accepted (record { value = a; rest = t; at = k })) (omega arith);
     })
 
--- a fault of the last byte that was read, or of an expression's bytes
-fault-sees : {A : Type 0} (n p : ℕ) → Shown n → (s : List ℕ) (at : ℕ) → p < at → ((n ≡ badExpression → ⊥) → suc p ≡ at)
+-- a fault of the last byte that was read
+fault-sees : {A : Type 0} (n p : ℕ) → AtOnce n → (s : List ℕ) (at : ℕ) → suc p ≡ at
     → Sees {A = A} (λ t. fault n p t at) at s (fault n p s at)
 unfolding fault
-fault-sees n p shown s at below last =
+fault-sees n p shown s at e =
     shows {p = p} (record {
       word = [];
       rest = s;
       bytes = refl;
-      number = shown;
-      inside = omega arith;
-      last = λ h. omega (arith, last h);
+      number = inl shown;
+      from = omega arith;
+      within = omega arith;
+      inside = λ _. omega arith;
+      last = λ _. omega arith;
       always = λ t. refl;
+      again = λ t. inl refl;
+      origin = λ h. absurd (not-both n shown h);
     })
 
 -- a test of the last byte that was read
-require-sees : {A : Type 0} (b : Bool) (n p : ℕ) → Shown n → (n ≡ badExpression → ⊥) → (q : Reader A) (s : List ℕ) (at : ℕ) → suc p ≡ at
+require-sees : {A : Type 0} (b : Bool) (n p : ℕ) → AtOnce n → (q : Reader A) (s : List ℕ) (at : ℕ) → suc p ≡ at
     → Sees (λ t. q t at) at s (q s at) → Sees (λ t. (require b n p >> q) t at) at s ((require b n p >> q) s at)
 unfolding require _>>_ andThen give fault
-require-sees true n p shown other q s at e x = x
-require-sees false n p shown other q s at e x = fault-sees n p shown s at (omega arith) (λ _. e)
+require-sees true n p shown q s at e x = x
+require-sees false n p shown q s at e x = fault-sees n p shown s at e
 
 byte-looks : Looks byte
 unfolding byte
@@ -184,7 +272,7 @@ unfolding readers
 number-looks lo hi [] at = ends {p = at} refl (omega arith)
 number-looks lo hi (b ∷ s) at =
     then-sees (λ t. byte t at) (λ b. require (leb lo b && ltb b hi) outOfRange at >> give b) at (b ∷ s) _ (byte-looks (b ∷ s) at)
-    (λ g e. require-sees (leb lo (g .value) && ltb (g .value) hi) outOfRange at (inl refl) (λ h. absurd (omega (arith, h)))
+    (λ g e. require-sees (leb lo (g .value) && ltb (g .value) hi) outOfRange at (inl refl)
     (give (g .value)) (g .rest) (g .at) (ap (λ (h : Got ℕ). h .at) (accepted-inj e)) (give-looks (g .value) (g .rest) (g .at)))
 
 times-looks : {A : Type 0} {r : Reader A} → Looks r → (n : ℕ) → Looks (times n r)
@@ -207,74 +295,214 @@ value-looks =
 
 -- ---- expressions
 
--- n bytes were read
-bytes-took : (n : ℕ) (s : List ℕ) (at : ℕ) (g : Got (List ℕ)) → times n byte s at ≡ accepted g → g .at ≡ at + n
-unfolding readers
-bytes-took zero s at g e = sym (ap (λ (h : Got (List ℕ)). h .at) (accepted-inj e)) ∙ omega arith
-bytes-took (suc n) [] at g e = refused≢accepted e
-bytes-took (suc n) (b ∷ s) at g e = go (times n byte s (suc at)) (λ k f. bytes-took n s (suc at) k f) e
-  where
-    go : (o : Outcome (Got (List ℕ))) → ((k : Got (List ℕ)) → o ≡ accepted k → k .at ≡ suc at + n)
-        → andThen o (λ l t k. accepted (record { value = b ∷ l; rest = t; at = k })) ≡ accepted g → g .at ≡ at + suc n
-    go (refused m p) f h = refused≢accepted h
-    go (accepted k) f h = omega (arith, f k refl, ap (λ (h : Got (List ℕ)). h .at) (accepted-inj h))
+-- what is found of an expression's bytes: where it stands, that they are not read, and that it is their first fault
+record Finds {A : Type 0} (j : Expected A) : Type 0 where
+  pub truth : Bool
+  pub scope : Scope
+  pub known : 0 < scope .owns
+  pub shown : (s : List ℕ) (at : ℕ) {n p : ℕ} → j .find s at ≡ faulty n p → ShownAt (j .find) s at n p
+  pub none : (s : List ℕ) (at : ℕ) {n p : ℕ} → j .find s at ≡ faulty n p → isGot (j .whole s) ≡ false
+  pub alone : (s : List ℕ) (at : ℕ) {n p : ℕ} → j .find s at ≡ faulty n p
+      → firstFault scope (awaitedFor truth ∷ []) s 0 ≡ faulty n (p - at)
 
-judged-sees : {A : Type 0} (p : ℕ) (r : Read A) (s : List ℕ) (at : ℕ) → p < at → Sees (λ t. judged p r t at) at s (judged p r s at)
-unfolding judged
-judged-sees p (got a n) s at below = give-looks a s at
-judged-sees p nothing s at below = fault-sees badExpression p (inr (inl refl)) s at below (λ h. absurd (h refl))
+module _ (sc : Scope) (own : 0 < sc .owns) where
+  numbers-find : Finds (numbers sc)
+  numbers-find = record {
+    truth = false;
+    scope = sc;
+    known = own;
+    shown = shown-at sc (aNumber ∷ []);
+    none = λ s at. nothing-if-faulty (wholeNum sc s) (numFault sc s at) (num-agrees sc s at);
+    alone = fault-at-0 sc (aNumber ∷ []);
+  }
 
-expression-looks : {A : Type 0} (whole : List ℕ → Read A) → Looks (expression whole)
+  truths-find : Finds (truths sc)
+  truths-find = record {
+    truth = true;
+    scope = sc;
+    known = own;
+    shown = shown-at sc (aTruth ∷ []);
+    none = λ s at. nothing-if-faulty (wholeTruth sc s) (truthFault sc s at) (truth-agrees sc s at);
+    alone = fault-at-0 sc (aTruth ∷ []);
+  }
+
+-- the bytes behind a length byte
+module _ {A : Type 0} (j : Expected A) (x : Finds j) (n at : ℕ) where
+  abbrev judgedAt : List ℕ → Reader A
+  judgedAt bytes = judged (j .whole bytes) (j .find bytes at) (j .has-fault bytes at)
+
+  abbrev content : From A
+  content s = andThen (times n byte s at) judgedAt
+
+  -- n bytes are there
+  content-there : (u t : List ℕ) → length u ≡ n
+      → content (u ++ t) ≡ judgedAt u t (at + n)
+  unfolding andThen
+  content-there u t e =
+      ap (λ o. andThen o judgedAt) (bytes-there n (u ++ t) at (omega (arith, length-append u t)))
+      ∙ ap₂ (λ b l. judgedAt b l (at + n)) (take-at u t n e) (drop-at u t n e)
+
+  content-refused : (u t : List ℕ) {m p : ℕ} → length u ≡ n → j .find u at ≡ faulty m p → content (u ++ t) ≡ refused m p
+  content-refused u t e k =
+      content-there u t e ∙ judged-nothing (j .whole u) (j .find u at) (j .has-fault u at) t (at + n) (x .none u at k) k
+
+  content-short : (s : List ℕ) → length s < n → content s ≡ refused deckEnds (at + length s)
+  unfolding andThen
+  content-short s h = ap (λ o. andThen o judgedAt) (bytes-short n s at h)
+
+  module _ (u : List ℕ) (size : length u ≡ n) where
+    -- what stands up to the place of a fault shows it, if all n bytes are there
+    content-again : {m p : ℕ} → j .find u at ≡ faulty m p → (t : List ℕ) → Again content at m p (length u) (take (suc p - at) u ++ t)
+    content-again {m} {p} k t = go (leb n (length (take (suc p - at) u ++ t))) refl
+      where
+        f : ShownAt (j .find) u at m p
+        f = x .shown u at k
+
+        v : List ℕ
+        v = take (suc p - at) u
+
+        all-of : at + length u ≤ p → v ≡ u
+        all-of h = take-all (suc p - at) u (omega arith)
+
+        whole : Bool → Type 0
+        whole b = ltb p (at + length u) ≡ b
+
+        there : n ≤ length (v ++ t) → (b : Bool) → whole b → content (v ++ t) ≡ refused m p
+        there h true e =
+            let l = ltb-true p (at + length u) e in
+            let long : length v ≡ suc p - at = length-take-le (suc p - at) u (omega (arith, f .from)) in
+            let more = n - (suc p - at) in
+            let split : v ++ t ≡ (v ++ take more t) ++ drop more t =
+            ap (λ r. v ++ r) (sym (take-append-drop more t)) ∙ sym (append-assoc v (take more t) (drop more t)) in
+            let enough : more ≤ length t = omega (arith, length-append v t, long) in
+            ap content split
+            ∙ content-refused (v ++ take more t) (drop more t)
+            (omega (arith, length-append v (take more t), length-take-le more t enough, long, f .from))
+            (f .same l (take more t))
+        there h false e = ap (λ r. content (r ++ t)) (all-of (ltb-false p (at + length u) e)) ∙ content-refused u t size k
+
+        go : (b : Bool) → leb n (length (v ++ t)) ≡ b → Again content at m p (length u) (v ++ t)
+        go true e = inl (there (leb-true n (length (v ++ t)) e) (ltb p (at + length u)) refl)
+        go false e = let l = leb-false n (length (v ++ t)) e in inr (content-short (v ++ t) l, omega arith)
+
+    content-shows : (t : List ℕ) {m p : ℕ} → j .find u at ≡ faulty m p → Shows content at (u ++ t) m p
+    content-shows t {m} {p} k =
+        let f = x .shown u at k in
+        record {
+          word = u;
+          rest = t;
+          bytes = refl;
+          number = inr (f .number);
+          from = omega (arith, f .from);
+          within = f .within;
+          inside = f .on-a-byte;
+          last = λ h. absurd (not-both m h (f .number));
+          always = λ t. content-refused u t size k;
+          again = content-again k;
+          origin = λ _. record {
+            before = [];
+            content = u;
+            rest = t;
+            bytes = refl;
+            truth = x .truth;
+            scope = x .scope;
+            known = x .known;
+            offset = p - at;
+            found = x .alone u at k;
+            place = omega (arith, f .from);
+          };
+        }
+
+    content-takes : (t : List ℕ) {a : A} {m : ℕ} → j .whole u ≡ got a m → Sees content at (u ++ t) (content (u ++ t))
+    content-takes t {a} e =
+        subst (λ o. Sees content at (u ++ t) o) (sym (read t))
+        (takes {g = record { value = a; rest = t; at = at + n }} (record {
+          word = u;
+          bytes = refl;
+          place = omega arith;
+          always = λ r. read r ∙ ap (λ k. accepted (record { value = a; rest = r; at = k })) (omega arith);
+        }))
+      where
+        read : (r : List ℕ) → content (u ++ r) ≡ accepted (record { value = a; rest = r; at = at + n })
+        read r = content-there u r size ∙ judged-read (j .whole u) (j .find u at) (j .has-fault u at) r (at + n) e
+
+    content-sees : (t : List ℕ) → Sees content at (u ++ t) (content (u ++ t))
+    content-sees t = go (j .whole u) refl (j .find u at) refl
+      where
+        go : (r : Read A) → j .whole u ≡ r → (f : Found) → j .find u at ≡ f → Sees content at (u ++ t) (content (u ++ t))
+        go (got a m) e f k = content-takes t e
+        go nothing e sound k = absurd (j .has-fault u at e k)
+        go nothing e (faulty m p) k = subst (λ o. Sees content at (u ++ t) o) (sym (content-refused u t size k)) (shows (content-shows t k))
+
+  content-looks : (s : List ℕ) → Sees content at s (content s)
+  content-looks s = go (leb n (length s)) refl
+    where
+      go : (b : Bool) → leb n (length s) ≡ b → Sees content at s (content s)
+      go true e =
+          subst (λ s. Sees content at s (content s)) (take-append-drop n s)
+          (content-sees (take n s) (length-take-le n s (leb-true n (length s) e)) (drop n s))
+      go false e = subst (λ o. Sees content at s o) (sym (content-short s (leb-false n (length s) e))) (ends refl refl)
+
+expression-looks : {A : Type 0} (j : Expected A) → Finds j → Looks (expression j)
 unfolding expression readers
-expression-looks whole s at =
+expression-looks j x s at =
     then-sees (λ t. number 1 (suc (limits .expression)) t at) _ at s _ (number-looks 1 (suc (limits .expression)) s at)
-    (λ n e. then-sees (λ t. times (n .value) byte t (n .at)) _ (n .at) (n .rest) _ (times-looks byte-looks (n .value) (n .rest) (n .at))
-    (λ g f. judged-sees (n .at) (whole (g .value)) (g .rest) (g .at)
-    (omega (arith, number-took 1 (suc (limits .expression)) s at n e .0, bytes-took (n .value) (n .rest) (n .at) g f))))
+    (λ n e. content-looks j x (n .value) (n .at) (n .rest))
 
 -- ---- rules and parts
 
-assignments-looks : (sc : Scope) (n : ℕ) (ts : List ℕ) → Looks (assignments sc n ts)
+assignments-looks : (sc : Scope) → 0 < sc .owns → (n : ℕ) (ts : List ℕ) → Looks (assignments sc n ts)
 unfolding assignments _>>=_ here andThen
-assignments-looks sc zero ts s at = give-looks [] s at
-assignments-looks sc (suc n) ts s at =
+assignments-looks sc own zero ts s at = give-looks [] s at
+assignments-looks sc own (suc n) ts s at =
     then-sees (λ t. number 0 (sc .owns) t at) _ at s _ (number-looks 0 (sc .owns) s at)
     (λ g e.
-    require-sees (not (member (g .value) ts)) repeatedTarget at (inr (inr refl)) (λ h. absurd (omega (arith, h))) _ (g .rest) (g .at)
+    require-sees (not (member (g .value) ts)) repeatedTarget at (inr refl) _ (g .rest) (g .at)
     (number-took 0 (sc .owns) s at g e .1)
-    (then-looks (expression (wholeNum sc)) _ (expression-looks (wholeNum sc))
+    (then-looks (expression (numbers sc)) _ (expression-looks (numbers sc) (numbers-find sc own))
     (λ x.
-    then-looks (assignments sc n (g .value ∷ ts)) _ (assignments-looks sc n (g .value ∷ ts)) (λ rest. give-looks _)) (g .rest) (g .at)))
+    then-looks (assignments sc n (g .value ∷ ts)) _ (assignments-looks sc own n (g .value ∷ ts)) (λ rest. give-looks _)) (g .rest) (g .at)))
 
-action-looks : (sc : Scope) → Looks (action sc)
+action-looks : (sc : Scope) → 0 < sc .owns → Looks (action sc)
 unfolding action _>>=_
-action-looks sc =
-    then-looks (number 0 (suc (limits .assignments))) _ (number-looks 0 (suc (limits .assignments))) (λ n. assignments-looks sc n [])
+action-looks sc own =
+    then-looks (number 0 (suc (limits .assignments))) _ (number-looks 0 (suc (limits .assignments))) (λ n. assignments-looks sc own n [])
 
-rule-looks : (R : ℕ) → Looks (rule R)
+own-known : (R : ℕ) → 0 < R → 0 < ownOnly R .owns
+unfolding ownOnly
+own-known R own = own
+
+task-known : (R : ℕ) (everywhere : Bool) → 0 < R → 0 < taskScope R everywhere .owns
+task-known R everywhere own = subst (λ k. 0 < k) (sym (owns-task R everywhere)) own
+
+rule-looks : (R : ℕ) → 0 < R → Looks (rule R)
 unfolding rule _>>=_
-rule-looks R =
+rule-looks R own =
     then-looks (number 1 (suc (limits .events))) _ (number-looks 1 (suc (limits .events)))
     (λ n.
     then-looks (rising n 0 R) _ (rising-looks n 0 R)
     (λ events.
-    then-looks (action (ownOnly R)) _ (action-looks (ownOnly R))
+    then-looks (action (ownOnly R)) _ (action-looks (ownOnly R) (own-known R own))
     (λ default.
     then-looks (number 0 2) _ (number-looks 0 2)
     (λ kind.
-    then-looks (expression (wholeTruth (taskScope R (eqb kind 1)))) _ (expression-looks (wholeTruth (taskScope R (eqb kind 1))))
+    then-looks (expression (truths (taskScope R (eqb kind 1)))) _
+    (expression-looks (truths (taskScope R (eqb kind 1))) (truths-find (taskScope R (eqb kind 1)) (task-known R (eqb kind 1) own)))
     (λ condition.
-    then-looks (action (taskScope R (eqb kind 1))) _ (action-looks (taskScope R (eqb kind 1))) (λ act. give-looks _))))))
+    then-looks (action (taskScope R (eqb kind 1))) _ (action-looks (taskScope R (eqb kind 1)) (task-known R (eqb kind 1) own))
+    (λ act. give-looks _))))))
 
-part-looks : (R M : ℕ) → Looks (part R M)
+part-looks : (R M : ℕ) → 0 < R → Looks (part R M)
 unfolding part _>>=_
-part-looks R M =
+part-looks R M own =
     then-looks (times R value) _ (times-looks value-looks R)
     (λ opening.
     then-looks (number 0 (suc M)) _ (number-looks 0 (suc M))
     (λ n.
     then-looks (rising n 0 M) _ (rising-looks n 0 M)
-    (λ carried. then-looks (expression (wholeTruth (ownOnly R))) _ (expression-looks (wholeTruth (ownOnly R))) (λ limit. give-looks _))))
+    (λ carried.
+    then-looks (expression (truths (ownOnly R))) _ (expression-looks (truths (ownOnly R)) (truths-find (ownOnly R) (own-known R own)))
+    (λ limit. give-looks _))))
 
 -- ---- the whole deck
 
@@ -282,45 +510,59 @@ part-looks R M =
 abbrev closing : {A : Type 0} → A → Reader A
 closing a = end >> give a
 
--- a reader that ends where the bytes do: another one, and then the end
-record Closed {A : Type 0} (q : Reader A) : Type 0 where
+-- a reader that ends where the bytes do: another one, and then the end. What is seen of it may ask for Q
+record Closed (Q : Type 0) {A : Type 0} (q : Reader A) : Type 0 where
   pub front : Reader A
-  pub looks : Looks front
+  pub looks : Q → Looks front
   pub closes : (s : List ℕ) (at : ℕ) → q s at ≡ andThen (front s at) closing
 
-end-closed : {A : Type 0} (a : A) → Closed (end >> give a)
-unfolding give andThen
-end-closed a = record { front = give a; looks = give-looks a; closes = λ s at. refl }
-
-here-closed : {A : Type 0} (f : ℕ → Reader A) → ((p : ℕ) → Closed (f p)) → Closed (here >>= f)
-unfolding here _>>=_ andThen
-here-closed f k =
-    record { front = λ s at. k at .front s at; looks = λ s at. k at .looks s at; closes = λ s at. k at .closes s at }
-
-then-closed : {A B : Type 0} (r : Reader A) (f : A → Reader B) → Looks r → ((a : A) → Closed (f a)) → Closed (r >>= f)
+then-closes : {A B : Type 0} (Q : A → Type 0) (r : Reader A) (f : A → Reader B) (k : (a : A) → Closed (Q a) (f a)) (s : List ℕ) (at : ℕ)
+    → (r >>= f) s at ≡ andThen (andThen (r s at) (λ a. k a .front)) closing
 unfolding _>>=_ andThen
-then-closed r f x k =
-    record {
-      front = λ s at. andThen (r s at) (λ a. k a .front);
-      looks = then-looks r _ x (λ a. k a .looks);
-      closes = λ s at. go (r s at);
-    }
+then-closes {A} Q r f k s at = go (r s at)
   where
-    go : (o : Outcome (Got _)) → andThen o f ≡ andThen (andThen o (λ a. k a .front)) closing
+    go : (o : Outcome (Got A)) → andThen o f ≡ andThen (andThen o (λ a. k a .front)) closing
     go (refused n p) = refl
     go (accepted g) = k (g .value) .closes (g .rest) (g .at)
 
-sections-closed : Closed sections
+module _ {Q : Type 0} where
+  end-closed : {A : Type 0} (a : A) → Closed Q (end >> give a)
+  unfolding give andThen
+  end-closed a = record { front = give a; looks = λ _. give-looks a; closes = λ s at. refl }
+
+  here-closed : {A : Type 0} (f : ℕ → Reader A) → ((p : ℕ) → Closed Q (f p)) → Closed Q (here >>= f)
+  unfolding here _>>=_ andThen
+  here-closed f k =
+      record { front = λ s at. k at .front s at; looks = λ h s at. k at .looks h s at; closes = λ s at. k at .closes s at }
+
+  then-closed : {A B : Type 0} (r : Reader A) (f : A → Reader B) → (Q → Looks r) → ((a : A) → Closed Q (f a)) → Closed Q (r >>= f)
+  then-closed r f x k = record {
+    front = λ s at. andThen (r s at) (λ a. k a .front);
+    looks = λ h. then-looks r _ (x h) (λ a. k a .looks h);
+    closes = then-closes (λ _. Q) r f k;
+  }
+
+-- what is asked for is that the number that was read is in its range
+number-closed : {A : Type 0} (lo hi : ℕ) (f : ℕ → Reader A) → ((a : ℕ) → Closed (lo ≤ a) (f a)) → Closed (Unit {0}) (number lo hi >>= f)
+number-closed lo hi f k = record {
+  front = λ s at. andThen (number lo hi s at) (λ a. k a .front);
+  looks = λ _ s at.
+      then-sees (λ t. number lo hi t at) (λ a. k a .front) at s (number lo hi s at) (number-looks lo hi s at)
+      (λ g e. k (g .value) .looks (number-took lo hi s at g e .0) (g .rest) (g .at));
+  closes = then-closes (λ a. lo ≤ a) (number lo hi) f k;
+}
+
+sections-closed : Closed (Unit {0}) sections
 unfolding sections
 sections-closed =
-    then-closed _ _ (number-looks 1 (suc (limits .channels))) λ R.
-    then-closed _ _ (times-looks (number-looks 33 127) R) λ labels.
+    number-closed 1 (suc (limits .channels)) _ λ R.
+    then-closed _ _ (λ _. times-looks (number-looks 33 127) R) λ labels.
     here-closed _ λ rulesAt.
-    then-closed _ _ (number-looks 0 (suc (limits .rules))) λ M.
-    then-closed _ _ (times-looks (rule-looks R) M) λ rules.
+    then-closed _ _ (λ _. number-looks 0 (suc (limits .rules))) λ M.
+    then-closed _ _ (λ own. times-looks (rule-looks R own) M) λ rules.
     here-closed _ λ partsAt.
-    then-closed _ _ (number-looks 1 (suc (limits .parts))) λ N.
-    then-closed _ _ (times-looks (part-looks R M) N) λ parts.
+    then-closed _ _ (λ _. number-looks 1 (suc (limits .parts))) λ N.
+    then-closed _ _ (λ own. times-looks (part-looks R M own) N) λ parts.
     end-closed _
 
 -- the sections from the first byte on, whatever follows them
@@ -332,66 +574,121 @@ unfolding read
 read-front s o e = ap valueOf (sections-closed .closes s 0 ∙ ap (λ o. andThen o closing) e)
 
 sees : (s : List ℕ) → Sees front 0 s (front s)
-sees s = sections-closed .looks s 0
+sees s = sections-closed .looks tt s 0
+
+read-refused : (s : List ℕ) (n p : ℕ) → front s ≡ refused n p → read s ≡ refused n p
+unfolding andThen valueOf
+read-refused s n p e = read-front s (refused n p) e
 
 -- ---- faults
 
+-- 1; 2 or 4; 3, 18 or 19; 5
+abbrev pub OfReading : ℕ → Type 0
+OfReading n = (n ≡ deckEnds) ⊎ (AtOnce n ⊎ (InExpression n ⊎ (n ≡ bytesFollow)))
+
+pub reading-listed : (n : ℕ) → OfReading n → (1 ≤ n) × (n ≤ lastNumber)
+reading-listed n (inl e) = (omega arith, omega arith)
+reading-listed n (inr (inl (inl e))) = (omega arith, omega arith)
+reading-listed n (inr (inl (inr e))) = (omega arith, omega arith)
+reading-listed n (inr (inr (inl (inl e)))) = (omega arith, omega arith)
+reading-listed n (inr (inr (inl (inr (inl e))))) = (omega arith, omega arith)
+reading-listed n (inr (inr (inl (inr (inr e))))) = (omega arith, omega arith)
+reading-listed n (inr (inr (inr e))) = (omega arith, omega arith)
+
 -- what a fault of reading says of the bytes
 pub record FaultAt (bytes : List ℕ) (n p : ℕ) : Type 0 where
-  pub least : 1 ≤ n
-  pub most : n ≤ 5
-  -- "for 1 the deck's length"; the others at a byte of the deck
+  pub number : OfReading n
+  -- "for 1 the deck's length"; the others at a byte of the deck, but for 19, whose expression may end early where the deck ends
   pub ends : n ≡ deckEnds → p ≡ length bytes
-  pub inside : (n ≡ deckEnds → ⊥) → p < length bytes
+  pub within : p ≤ length bytes
+  pub inside : ¬ (n ≡ deckEnds) → ¬ (n ≡ wrongEnd) → p < length bytes
   -- 2 and 4 do not depend on what follows that byte
-  pub shown : (n ≡ outOfRange) ⊎ (n ≡ repeatedTarget) → (t : List ℕ) → read (take (suc p) bytes ++ t) ≡ refused n p
+  pub shown : AtOnce n → (t : List ℕ) → read (take (suc p) bytes ++ t) ≡ refused n p
+  -- nor do 3, 18 and 19, unless the deck is shorter now and ends before all bytes of the expression are there
+  pub found : InExpression n → (t : List ℕ)
+      → let s = take (suc p) bytes ++ t in (read s ≡ refused n p) ⊎ ((read s ≡ refused deckEnds (length s)) × (length s < length bytes))
+  -- they are the first fault of one expression
+  pub origin : InExpression n → FoundIn bytes 0 n p
 
-shown-range : (n : ℕ) → Shown n → (2 ≤ n) × (n ≤ 4)
-shown-range n (inl e) = (omega arith, omega arith)
-shown-range n (inr (inl e)) = (omega arith, omega arith)
-shown-range n (inr (inr e)) = (omega arith, omega arith)
-
--- 2 and 4 are neither 1 nor 3
-neither : (n : ℕ) → (n ≡ outOfRange) ⊎ (n ≡ repeatedTarget) → (n ≡ deckEnds → ⊥) × (n ≡ badExpression → ⊥)
-neither n (inl e) = (λ h. absurd (omega arith), λ h. absurd (omega arith))
-neither n (inr e) = (λ h. absurd (omega arith), λ h. absurd (omega arith))
+-- 1 and 5 are neither 2 nor 4, nor faults in an expression
+neither : (n : ℕ) → (n ≡ deckEnds) ⊎ (n ≡ bytesFollow) → Shown n → ⊥
+neither n (inl e) (inl (inl f)) = omega arith
+neither n (inl e) (inl (inr f)) = omega arith
+neither n (inl e) (inr (inl f)) = omega arith
+neither n (inl e) (inr (inr (inl f))) = omega arith
+neither n (inl e) (inr (inr (inr f))) = omega arith
+neither n (inr e) (inl (inl f)) = omega arith
+neither n (inr e) (inl (inr f)) = omega arith
+neither n (inr e) (inr (inl f)) = omega arith
+neither n (inr e) (inr (inr (inl f))) = omega arith
+neither n (inr e) (inr (inr (inr f))) = omega arith
 
 module _ (s : List ℕ) (n p : ℕ) where
   fault-ends : n ≡ deckEnds → p ≡ length s → FaultAt s n p
   fault-ends e f =
       record {
-        least = omega arith;
-        most = omega arith;
+        number = inl e;
         ends = λ _. f;
+        within = omega arith;
         inside = λ h. absurd (h e);
-        shown = λ h. absurd (neither n h .0 e);
+        shown = λ h. absurd (neither n (inl e) (inl h));
+        found = λ h. absurd (neither n (inl e) (inr h));
+        origin = λ h. absurd (neither n (inl e) (inr h));
       }
 
-  fault-shows : Shows front 0 s n p → FaultAt s n p
-  unfolding valueOf andThen
-  fault-shows x =
-      let range = shown-range n (x .number) in
-      let whole = ap length (x .bytes) ∙ length-append (x .word) (x .rest) in
-      record {
-        least = omega (arith, range .0);
-        most = omega (arith, range .1);
-        ends = λ h. absurd (omega (arith, range .0));
-        inside = λ h. omega (arith, x .inside, whole);
-        shown = λ h t.
-            let size : suc p ≡ length (x .word) = omega (arith, x .last (neither n h .1)) in
-            let word : take (suc p) s ≡ x .word =
-            ap₂ take size (x .bytes) ∙ take-append-seam (x .word) (x .rest) in
-            ap (λ w. read (w ++ t)) word ∙ read-front (x .word ++ t) (refused n p) (x .always t);
-      }
+  module _ (x : Shows front 0 s n p) where
+    whole : length s ≡ length (x .word) + length (x .rest)
+    whole = ap length (x .bytes) ∙ length-append (x .word) (x .rest)
+
+    -- what stands up to the place, of the word or with the byte behind it
+    up-to : (t : List ℕ) → (b : Bool) → ltb p (length (x .word)) ≡ b → Again front 0 n p (length (x .word)) (take (suc p) s ++ t)
+    up-to t true e =
+        let l = ltb-true p (length (x .word)) e in
+        let k : suc p - 0 ≡ suc p = omega arith in
+        let front-of : take (suc p) s ≡ take (suc p) (x .word) =
+        ap (take (suc p)) (x .bytes) ∙ take-append-le (suc p) (x .word) (x .rest) (omega arith) in
+        let same : take (suc p - 0) (x .word) ≡ take (suc p) s = ap (λ k. take k (x .word)) k ∙ sym front-of in
+        subst (λ u. Again front 0 n p (length (x .word)) (u ++ t)) same (x .again t)
+    up-to t false e =
+        let l = ltb-false p (length (x .word)) e in
+        let k : suc p ≡ length (x .word) + 1 = omega (arith, x .within) in
+        let same : take (suc p) s ++ t ≡ x .word ++ (take 1 (x .rest) ++ t) =
+        ap (λ u. u ++ t) (ap₂ take k (x .bytes) ∙ take-append-add (x .word) (x .rest) 1) ∙ append-assoc (x .word) (take 1 (x .rest)) t in
+        inl (ap front same ∙ x .always (take 1 (x .rest) ++ t))
+
+    fault-shows : FaultAt s n p
+    unfolding valueOf andThen
+    fault-shows =
+        record {
+          number = ⊎-elim (λ e. inr (inl e)) (λ e. inr (inr (inl e))) (x .number);
+          ends = λ h. absurd (neither n (inl h) (x .number));
+          within = omega (arith, x .within, whole);
+          inside = λ _ h. omega (arith, x .inside h, whole);
+          shown = λ h t.
+              let size : suc p ≡ length (x .word) = omega (arith, x .last h) in
+              let word : take (suc p) s ≡ x .word =
+              ap₂ take size (x .bytes) ∙ take-append-seam (x .word) (x .rest) in
+              ap (λ w. read (w ++ t)) word ∙ read-refused (x .word ++ t) n p (x .always t);
+          found = λ h t.
+              let u = take (suc p) s ++ t in
+              ⊎-elim (λ e. inl (read-refused u n p e))
+              (λ e.
+              let size : 0 + length u ≡ length u = omega arith in
+              inr (read-refused u deckEnds (0 + length u) (e .0) ∙ ap (λ k. refused deckEnds k) size, omega (arith, e .1, whole)))
+              (up-to t (ltb p (length (x .word))) refl);
+          origin = x .origin;
+        }
 
   fault-follows : n ≡ bytesFollow → p < length s → FaultAt s n p
   fault-follows e f =
       record {
-        least = omega arith;
-        most = omega arith;
+        number = inr (inr (inr e));
         ends = λ h. absurd (omega arith);
-        inside = λ h. f;
-        shown = λ h. ⊎-elim (λ i. absurd (omega arith)) (λ i. absurd (omega arith)) h;
+        within = omega arith;
+        inside = λ _ _. f;
+        shown = λ h. absurd (neither n (inr e) (inl h));
+        found = λ h. absurd (neither n (inr e) (inr h));
+        origin = λ h. absurd (neither n (inr e) (inr h));
       }
 
 -- ---- the end
@@ -421,10 +718,6 @@ module _ {A : Type 0} (a : A) where
 read-behind : (s : List ℕ) (g : Got Layout) → front s ≡ accepted g → read s ≡ valueOf (closing (g .value) (g .rest) (g .at))
 unfolding andThen
 read-behind s g e = read-front s (accepted g) e
-
-read-refused : (s : List ℕ) (n p : ℕ) → front s ≡ refused n p → read s ≡ refused n p
-unfolding andThen valueOf
-read-refused s n p e = read-front s (refused n p) e
 
 -- a fault that reading finds
 pub read-fault : (bytes : List ℕ) (n p : ℕ) → read bytes ≡ refused n p → FaultAt bytes n p
@@ -466,7 +759,7 @@ module _ (s : List ℕ) (p : ℕ) where
             ),
           )
       go (refused m q) e (ends i j) = absurd (omega (arith, number-inj (sym h ∙ read-refused s m q e)))
-      go (refused m q) e (shows x) = absurd (omega (arith, number-inj (sym h ∙ read-refused s m q e), shown-range m (x .number) .1))
+      go (refused m q) e (shows x) = absurd (neither m (inr (sym (number-inj (sym h ∙ read-refused s m q e)))) (x .number))
 
   whole-five : WholeBefore s p → read s ≡ refused bytesFollow p
   whole-five (below, (l, h)) = go (front (take p s)) refl (sees (take p s))

@@ -4,9 +4,8 @@ use mathlib.Core.Path.{_≡_, refl, _∙_, ap}
 use mathlib.Core.List.{List, map}
 use lib.Dec.{eqb}
 use Rattle.refusals.specs.Outcome.{Outcome, refused, accepted}
-use Rattle.expression.specs.Reading.{wholeTruth}
 use Rattle.deck.specs.Reader.{Got, Reader, andThen, number, times, rising, value, end, readers}
-use Rattle.deck.specs.Layout.{expression, ownOnly, taskScope, action, rule, part, sections, valueOf, read}
+use Rattle.deck.specs.Layout.{truths, expression, ownOnly, taskScope, action, rule, part, sections, valueOf, read}
 use Rattle.deck.specs.Marks.{markedTask, markedRule, ruleOf, markedPart, markedFront, markedSections, unmarked}
 
 -- ---- forgetting the offsets
@@ -41,7 +40,7 @@ rule-marked R s at =
     (λ default s at.
     step-inside ruleOf (number 0 2 s at) _ _ _
     (λ kind s at.
-    step-inside ruleOf (expression (wholeTruth (taskScope R (eqb kind 1))) s at) _ _ _
+    step-inside ruleOf (expression (truths (taskScope R (eqb kind 1))) s at) _ _ _
     (λ condition s at. step-inside ruleOf (action (taskScope R (eqb kind 1)) s at) _ _ _ (λ act s at. refl))))))
 
 part-marked : (R M : ℕ) (s : List ℕ) (at : ℕ) → part R M s at ≡ mapGot (λ m. m .part) (markedPart R M s at)
@@ -52,7 +51,7 @@ part-marked R M s at =
     step (λ m. m .part) (number 0 (suc M) s at) _ _
     (λ n s at.
     step (λ m. m .part) (rising n 0 M s at) _ _
-    (λ carried s at. step (λ m. m .part) (expression (wholeTruth (ownOnly R)) s at) _ _ (λ limit s at. refl))))
+    (λ carried s at. step (λ m. m .part) (expression (truths (ownOnly R)) s at) _ _ (λ limit s at. refl))))
 
 -- two readers that agree, one after the other
 both-steps : {A B C D : Type 0} (h : B → A) (k : D → C) (o : Outcome (Got A)) (p : Outcome (Got B)) (f : A → Reader C) (g : B → Reader D)

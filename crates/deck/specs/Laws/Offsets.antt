@@ -9,17 +9,21 @@ use native.Mathlib.Nat.{add-zero}
 use lib.ListN.{length, take, drop, length-drop}
 use lib.Seq.{drop-drop}
 use Rattle.lists.specs.Lists.{member}
-use Rattle.lists.specs.Laws.Booleans.{contradiction}
 use Rattle.refusals.specs.Outcome.{Outcome, refused, accepted}
-use Rattle.refusals.specs.Numbers.{deckEnds, badExpression, repeatedTarget}
-use Rattle.expression.specs.Reading.{Scope, Read, got, nothing, wholeNum, wholeTruth}
+use Rattle.refusals.specs.Numbers.{deckEnds, repeatedTarget}
+use Rattle.expression.specs.Reading.{Scope}
 use Rattle.expression.specs.Answers.{isGot}
-use Rattle.deck.specs.Reader.{Got, Reader, andThen, _>>=_, give, fault, require, byte, number, times, readers}
-use Rattle.deck.specs.Layout.{judged, expression}
+use Rattle.expression.specs.Faults.{Found, sound, faulty, firstFault}
+use Rattle.expression.specs.Searching.{awaitedFor, answerFor}
+use Rattle.expression.specs.declared.Search.{Search}
+use Rattle.expression.specs.declared.Search.the-variants as Of
+use Rattle.deck.specs.Reader.{Got, Reader, andThen, _>>=_, give, require, byte, number, times, readers}
+use Rattle.deck.specs.Layout.{Expected, numbers, truths, judged, expression}
 use Rattle.deck.specs.Marks.{Reads, expressionFor, isWhole, assignment}
 use Rattle.deck.specs.declared.Step.{Step}
 use Rattle.deck.specs.declared.Step.the-variants.{Next, Fault}
 use Rattle.deck.specs.Laws.Turns.{number-below}
+use Rattle.deck.specs.Laws.Judging.{judged-read, judged-nothing, value-got, whole-if-sound, none-if-faulty}
 
 -- what was read, and the place after it
 abbrev pub gotTo : {A : Type 0} → List ℕ → A → ℕ → Got A
@@ -54,7 +58,7 @@ module _ {b : Bool} (n p : ℕ) (s : List ℕ) (at : ℕ) where
 
 -- ---- an expression
 
-bytes-there : (n : ℕ) (s : List ℕ) (at : ℕ) → n ≤ length s
+pub bytes-there : (n : ℕ) (s : List ℕ) (at : ℕ) → n ≤ length s
     → times n byte s at ≡ accepted (record { value = take n s; rest = drop n s; at = at + n })
 unfolding readers
 bytes-there zero s at h = rw (add-zero at) refl
@@ -65,7 +69,7 @@ bytes-there (suc n) (b ∷ s) at h =
     ap (λ o. andThen o (λ xs. give (b ∷ xs))) e ∙ ap (λ p. accepted (record { value = b ∷ take n s; rest = drop n s; at = p })) k
 bytes-there (suc n) [] at h = absurd (omega arith)
 
-bytes-short : (n : ℕ) (s : List ℕ) (at : ℕ) → length s < n → times n byte s at ≡ refused deckEnds (at + length s)
+pub bytes-short : (n : ℕ) (s : List ℕ) (at : ℕ) → length s < n → times n byte s at ≡ refused deckEnds (at + length s)
 unfolding readers
 bytes-short zero s at h = absurd (omega arith)
 bytes-short (suc n) (b ∷ s) at h =
@@ -73,21 +77,10 @@ bytes-short (suc n) (b ∷ s) at h =
     ap (λ o. andThen o (λ xs. give (b ∷ xs))) e ∙ ap (λ p. refused deckEnds p) (omega arith)
 bytes-short (suc n) [] at h = ap (λ p. refused deckEnds p) (omega arith)
 
-judged-got : {A : Type 0} (p : ℕ) (r : Read A) (s : List ℕ) (at : ℕ) → isGot r ≡ true
-    → (a : A) × (judged p r s at ≡ accepted (record { value = a; rest = s; at = at }))
-unfolding judged give
-judged-got p (got a n) s at e = (a, refl)
-judged-got p nothing s at e = contradiction e refl
-
-judged-nothing : {A : Type 0} (p : ℕ) (r : Read A) (s : List ℕ) (at : ℕ) → isGot r ≡ false → judged p r s at ≡ refused badExpression p
-unfolding judged fault
-judged-nothing p (got a n) s at e = contradiction refl e
-judged-nothing p nothing s at e = refl
-
 -- the length byte n was read, and the bytes begin at `from`
-module _ {A : Type 0} (whole : List ℕ → Read A) (s : List ℕ) (at n from : ℕ)
+module _ {A : Type 0} (j : Expected A) (s : List ℕ) (at n from : ℕ)
     (e : number 1 65 (drop at s) at ≡ accepted (gotTo s n from)) where
-  pub whole-ends : from ≤ length s → length s < from + n → expression whole (drop at s) at ≡ refused deckEnds (length s)
+  pub whole-ends : from ≤ length s → length s < from + n → expression j (drop at s) at ≡ refused deckEnds (length s)
   unfolding expression readers
   whole-ends b h =
       let k : length (drop from s) ≡ length s - from = length-drop from s in
@@ -95,23 +88,32 @@ module _ {A : Type 0} (whole : List ℕ → Read A) (s : List ℕ) (at n from : 
       ∙ then-fault _ (bytes-short n (drop from s) from (omega arith))
       ∙ ap (λ p. refused deckEnds p) (omega arith)
 
+  abbrev bytes : List ℕ
+  bytes = take n (drop from s)
+
   pub whole-there : from + n ≤ length s
-      → expression whole (drop at s) at ≡ judged from (whole (take n (drop from s))) (drop (from + n) s) (from + n)
+      → expression j (drop at s) at ≡ judged (j .whole bytes) (j .find bytes from) (j .has-fault bytes from) (drop (from + n) s) (from + n)
   unfolding expression readers
   whole-there h =
       then-next _ e
       ∙ then-next _ (bytes-there n (drop from s) from (omega (arith, length-drop from s)))
-      ∙ ap (λ l. judged from (whole (take n (drop from s))) l (from + n)) (drop-drop n from s)
+      ∙ ap (λ l. judged (j .whole bytes) (j .find bytes from) (j .has-fault bytes from) l (from + n)) (drop-drop n from s)
 
-  good : from + n ≤ length s → isGot (whole (take n (drop from s))) ≡ true
-      → Reads s (expression whole (drop at s) at) (λ _. Unit {0}) (Next (from + n))
+  good : from + n ≤ length s → isGot (j .whole bytes) ≡ true → Reads s (expression j (drop at s) at) (λ _. Unit {0}) (Next (from + n))
   good h w =
-      let j = judged-got from (whole (take n (drop from s))) (drop (from + n) s) (from + n) w in
-      (j .0, whole-there h ∙ j .1, h, tt)
+      let g = value-got (j .whole bytes) w in
+      let read = judged-read (j .whole bytes) (j .find bytes from) (j .has-fault bytes from) (drop (from + n) s) (from + n) (g .1 .1) in
+      (g .0, whole-there h ∙ read, h, tt)
 
-  bad : from + n ≤ length s → isGot (whole (take n (drop from s))) ≡ false
-      → expression whole (drop at s) at ≡ refused badExpression from
-  bad h w = whole-there h ∙ judged-nothing from (whole (take n (drop from s))) (drop (from + n) s) (from + n) w
+  bad : from + n ≤ length s → isGot (j .whole bytes) ≡ false → {m p : ℕ} → j .find bytes from ≡ faulty m p
+      → expression j (drop at s) at ≡ refused m p
+  bad h w f =
+      whole-there h ∙ judged-nothing (j .whole bytes) (j .find bytes from) (j .has-fault bytes from) (drop (from + n) s) (from + n) w f
+
+-- the search's answer as a step
+abbrev pub stepOf : Search → Step
+stepOf (Of.After n) = Next n
+stepOf (Of.Fault k p) = Fault k p
 
 -- the same of both kinds
 pub expression-fault : (truth : Bool) (sc : Scope) (s : List ℕ) (at : ℕ) {n p : ℕ} → number 1 65 s at ≡ refused n p
@@ -126,28 +128,45 @@ module _ (truth : Bool) (sc : Scope) (s : List ℕ) (at n from : ℕ) (e : numbe
   expression-ends b h = go truth
     where
       go : (truth : Bool) → expressionFor truth sc (drop at s) at ≡ refused deckEnds (length s)
-      go true = whole-ends (wholeTruth sc) s at n from e b h
-      go false = whole-ends (wholeNum sc) s at n from e b h
+      go true = whole-ends (truths sc) s at n from e b h
+      go false = whole-ends (numbers sc) s at n from e b h
 
-  pub expression-good : from + n ≤ length s → isWhole truth sc (take n (drop from s)) ≡ true
+  abbrev content : List ℕ
+  content = take n (drop from s)
+
+  -- what the bytes are found to have
+  abbrev found : Found
+  found = firstFault sc (awaitedFor truth ∷ []) content from
+
+  pub expression-good : from + n ≤ length s → isWhole truth sc content ≡ true
       → Reads s (expressionFor truth sc (drop at s) at) (λ _. Unit {0}) (Next (from + n))
   unfolding expressionFor
   expression-good h w = go truth w
     where
-      go : (truth : Bool) → isWhole truth sc (take n (drop from s)) ≡ true
+      go : (truth : Bool) → isWhole truth sc content ≡ true
           → Reads s (expressionFor truth sc (drop at s) at) (λ _. Unit {0}) (Next (from + n))
-      go true w = good (wholeTruth sc) s at n from e h w
-      go false w = good (wholeNum sc) s at n from e h w
+      go true w = good (truths sc) s at n from e h w
+      go false w = good (numbers sc) s at n from e h w
 
-  pub expression-bad : from + n ≤ length s → isWhole truth sc (take n (drop from s)) ≡ false
-      → expressionFor truth sc (drop at s) at ≡ refused badExpression from
+  expression-bad : from + n ≤ length s → {m p : ℕ} → found ≡ faulty m p → expressionFor truth sc (drop at s) at ≡ refused m p
   unfolding expressionFor
-  expression-bad h w = go truth w
+  expression-bad h {m} {p} f = go truth f
     where
-      go : (truth : Bool) → isWhole truth sc (take n (drop from s)) ≡ false
-          → expressionFor truth sc (drop at s) at ≡ refused badExpression from
-      go true w = bad (wholeTruth sc) s at n from e h w
-      go false w = bad (wholeNum sc) s at n from e h w
+      go : (truth : Bool) → firstFault sc (awaitedFor truth ∷ []) content from ≡ faulty m p
+          → expressionFor truth sc (drop at s) at ≡ refused m p
+      go true f = bad (truths sc) s at n from e h (none-if-faulty sc content from true f) f
+      go false f = bad (numbers sc) s at n from e h (none-if-faulty sc content from false f) f
+
+  -- the search for a fault answers for an expression: it is read where none is found, and else the fault is its own
+  abbrev ReadsAs : Search → Type 0
+  ReadsAs r = Reads s (expressionFor truth sc (drop at s) at) (λ _. Unit {0}) (stepOf r)
+
+  pub expression-searched : from + n ≤ length s → (r : Search) → r ≡ answerFor (from + n) found → ReadsAs r
+  expression-searched h r q = go found refl
+    where
+      go : (f : Found) → found ≡ f → ReadsAs r
+      go sound k = subst ReadsAs (sym (q ∙ ap (answerFor (from + n)) k)) (expression-good h (whole-if-sound sc content from truth k))
+      go (faulty m p) k = subst ReadsAs (sym (q ∙ ap (answerFor (from + n)) k)) (expression-bad h k)
 
 -- ---- an assignment
 
@@ -163,7 +182,7 @@ module _ (sc : Scope) (ts : List ℕ) (s : List ℕ) (at : ℕ) where
 
   -- the target is new, and the expression's reading is the assignment's
   new-target : {g : Got ℕ} → number 0 (sc .owns) s at ≡ accepted g → member (g .value) ts ≡ false
-      → assignment sc ts s at ≡ andThen (expression (wholeNum sc) (g .rest) (g .at)) (λ e. give (record { target = g .value; value = e }))
+      → assignment sc ts s at ≡ andThen (expression (numbers sc) (g .rest) (g .at)) (λ e. give (record { target = g .value; value = e }))
   unfolding assignment readers
   new-target e m = then-next _ e ∙ then-next _ (require-passes repeatedTarget at _ _ (ap not m))
 
@@ -174,6 +193,6 @@ pub assignment-value : (sc : Scope) (ts : List ℕ) (s : List ℕ) (at t next : 
 unfolding expressionFor
 assignment-value sc ts s at t next step e m r =
     subst (λ o. Reads s o (λ a. (t ≡ a .target) × (a .target < sc .owns)) step) (sym (new-target sc ts (drop at s) at e m))
-    (reads-last s (expression (wholeNum sc) (drop next s) next) (λ _. Unit {0}) (λ e. record { target = t; value = e }) _ step
+    (reads-last s (expression (numbers sc) (drop next s) next) (λ _. Unit {0}) (λ e. record { target = t; value = e }) _ step
     (λ _ _. (refl, number-below 0 (sc .owns) (drop at s) at (gotTo s t next) e))
     r)

@@ -7,9 +7,8 @@ use lib.IntN.{ℤ}
 use lib.ListN.{drop}
 use Rattle.lists.specs.Bits.{maskOf}
 use Rattle.refusals.specs.Outcome.{Outcome, refused, accepted}
-use Rattle.expression.specs.Reading.{wholeTruth}
 use Rattle.deck.specs.Reader.{Got, Reader, _>>=_, andThen, give, here, number, times, rising, value}
-use Rattle.deck.specs.Layout.{expression, ownOnly}
+use Rattle.deck.specs.Layout.{truths, expression, ownOnly}
 use Rattle.deck.specs.Marks.{MarkedPart, markedPart, partRow, Reads, scopeOf, expressionFor, marks}
 use Rattle.deck.specs.Laws.Offsets.{then-next, then-fault, reads-last}
 use Rattle.deck.specs.declared.Step.{Step}
@@ -44,7 +43,7 @@ module _ (R M : ℕ) (s : List ℕ) (at : ℕ) where
 
       module _ (cs : List ℕ) (l : ℕ) (g : rising k 0 M (drop b s) b ≡ gotAt s cs l) where
         last : whole
-            ≡ andThen (expression (wholeTruth (ownOnly R)) (drop l s) l)
+            ≡ andThen (expression (truths (ownOnly R)) (drop l s) l)
             (λ t. give (record { part = record { opening = vs; carried = cs; limit = t }; openingAt = at; limitAt = l }))
         unfolding markedPart _>>=_
         last =
@@ -57,6 +56,6 @@ module _ (R M : ℕ) (s : List ℕ) (at : ℕ) where
         unfolding marks ownOnly
         part-read mask step same h =
             subst (λ (o : Outcome (Got MarkedPart)). Reads s o (λ m. mask ∷ at ∷ l ∷ 0 ∷ [] ≡ partRow m) step) (sym last)
-            (reads-last s (expression (wholeTruth (ownOnly R)) (drop l s) l) (λ _. Unit {0})
+            (reads-last s (expression (truths (ownOnly R)) (drop l s) l) (λ _. Unit {0})
             (λ t. record { part = record { opening = vs; carried = cs; limit = t }; openingAt = at; limitAt = l })
             (λ m. mask ∷ at ∷ l ∷ 0 ∷ [] ≡ partRow m) step (λ t _. ap (λ x. x ∷ at ∷ l ∷ 0 ∷ []) same) h)

@@ -10,10 +10,12 @@ use native.Mathlib.Numerals.{add-one}
 use Rattle.lists.specs.Lists.{member}
 use Rattle.refusals.specs.Outcome.{Outcome, refused, accepted}
 use Rattle.refusals.specs.Laws.Outcomes.{refused≢accepted, accepted-inj}
-use Rattle.expression.specs.Reading.{Read, got, nothing, Scope, wholeNum, wholeTruth}
+use Rattle.expression.specs.Reading.{Read, nothing, Scope}
+use Rattle.expression.specs.Faults.{Found, sound}
 use Rattle.deck.specs.Reader.{Got, Reader, _>>=_, _>>_, andThen, give, fault, here, require, byte, number, times, rising, value}
-use Rattle.deck.specs.Layout.{judged, expression, ownOnly, taskScope, assignments, action}
+use Rattle.deck.specs.Layout.{Expected, numbers, truths, judged, expression, ownOnly, taskScope, assignments, action}
 use Rattle.deck.specs.Marks.{MarkedTask, markedTask, MarkedRule, markedRule, MarkedPart, markedPart}
+use Rattle.deck.specs.Laws.Judging.{judged-cases}
 
 -- what a reader leaves is the bytes from its place on
 abbrev pub Tracks : {A : Type 0} → Reader A → Type 0
@@ -74,16 +76,19 @@ rising-tracks zero lo hi = give-tracks []
 rising-tracks (suc n) lo hi =
     then-tracks (number lo hi) _ (number-tracks lo hi) (λ c. then-tracks (rising n (suc c) hi) _ (rising-tracks n (suc c) hi) (λ cs. give-tracks (c ∷ cs)))
 
-judged-tracks : {A : Type 0} (at : ℕ) (r : Read A) → Tracks (judged at r)
-unfolding judged fault
-judged-tracks p (got a n) s at g e = give-tracks a s at g e
-judged-tracks p nothing s at g e = refused≢accepted e
+judged-tracks : {A : Type 0} (r : Read A) (f : Found) (has : r ≡ nothing → f ≡ sound → ⊥) → Tracks (judged r f has)
+unfolding fault
+judged-tracks r f has = judged-cases r f has Tracks (λ a n _. give-tracks a) (λ n p _ _ s at g e. refused≢accepted e)
 
-pub expression-tracks : {A : Type 0} (whole : List ℕ → Read A) → Tracks (expression whole)
+pub expression-tracks : {A : Type 0} (j : Expected A) → Tracks (expression j)
 unfolding expression _>>=_
-expression-tracks whole =
+expression-tracks j =
     then-tracks (number 1 65) _ (number-tracks 1 65)
-    (λ n. then-tracks here _ here-tracks (λ at. then-tracks (times n byte) _ (times-tracks byte byte-tracks n) (λ bytes. judged-tracks at (whole bytes))))
+    (λ n.
+    then-tracks here _ here-tracks
+    (λ at.
+    then-tracks (times n byte) _ (times-tracks byte byte-tracks n)
+    (λ bytes. judged-tracks (j .whole bytes) (j .find bytes at) (j .has-fault bytes at))))
 
 assignments-tracks : (sc : Scope) (n : ℕ) (ts : List ℕ) → Tracks (assignments sc n ts)
 unfolding assignments _>>=_ _>>_
@@ -95,7 +100,7 @@ assignments-tracks sc (suc n) ts =
     (λ t.
     then-tracks (require (not (member t ts)) 4 at) _ (require-tracks (not (member t ts)) 4 at)
     (λ _.
-    then-tracks (expression (wholeNum sc)) _ (expression-tracks (wholeNum sc))
+    then-tracks (expression (numbers sc)) _ (expression-tracks (numbers sc))
     (λ e. then-tracks (assignments sc n (t ∷ ts)) _ (assignments-tracks sc n (t ∷ ts)) (λ rest. give-tracks (record { target = t; value = e } ∷ rest))))))
 
 pub action-tracks : (sc : Scope) → Tracks (action sc)
@@ -112,7 +117,7 @@ reads-at : {A : Type 0} (r : Reader A) → Tracks r → (s : List ℕ) (k : ℕ)
 reads-at r t s k x e = (x .at, e ∙ ap (λ l. accepted (record { value = x .value; rest = l; at = x .at })) (t s k x e))
 
 pub record TaskPoints (R : ℕ) (s : List ℕ) (m : MarkedTask) : Type 0 where
-  pub condition : ReadsAt s (expression (wholeTruth (taskScope R (m .everywhere)))) (m .conditionAt) (m .condition)
+  pub condition : ReadsAt s (expression (truths (taskScope R (m .everywhere)))) (m .conditionAt) (m .condition)
   pub action : ReadsAt s (action (taskScope R (m .everywhere))) (m .actionAt) (m .action)
 
 pub record RulePoints (R : ℕ) (s : List ℕ) (m : MarkedRule) : Type 0 where
@@ -121,7 +126,7 @@ pub record RulePoints (R : ℕ) (s : List ℕ) (m : MarkedRule) : Type 0 where
 
 pub record PartPoints (R : ℕ) (s : List ℕ) (m : MarkedPart) : Type 0 where
   pub opening : ReadsAt s (times R value) (m .openingAt) (m .part .opening)
-  pub limit : ReadsAt s (expression (wholeTruth (ownOnly R))) (m .limitAt) (m .part .limit)
+  pub limit : ReadsAt s (expression (truths (ownOnly R))) (m .limitAt) (m .part .limit)
 
 -- one step of a reading that went well: what was read, and that the rest goes well from there
 pub then-at : {A B : Type 0} (r : Reader A) (f : A → Reader B) → Tracks r → (s : List ℕ) (at : ℕ) (g : Got B) → andThen (r (drop at s) at) f ≡ accepted g
@@ -145,12 +150,12 @@ task-points R s at g e =
     let i4 = then-at (number 0 2) _ (number-tracks 0 2) s at g e in
     let scope = taskScope R (eqb (i4 .0 .value) 1) in
     let h5 = here-at _ (drop (i4 .0 .at) s) (i4 .0 .at) g (i4 .2) in
-    let i5 = then-at (expression (wholeTruth scope)) _ (expression-tracks (wholeTruth scope)) s (i4 .0 .at) g h5 in
+    let i5 = then-at (expression (truths scope)) _ (expression-tracks (truths scope)) s (i4 .0 .at) g h5 in
     let h6 = here-at _ (drop (i5 .0 .at) s) (i5 .0 .at) g (i5 .2) in
     let i6 = then-at (action scope) _ (action-tracks scope) s (i5 .0 .at) g h6 in
     subst (TaskPoints R s) (given _ (drop (i6 .0 .at) s) (i6 .0 .at) g (i6 .2))
     (record {
-      condition = reads-at (expression (wholeTruth scope)) (expression-tracks (wholeTruth scope)) s (i4 .0 .at) (i5 .0) (i5 .1);
+      condition = reads-at (expression (truths scope)) (expression-tracks (truths scope)) s (i4 .0 .at) (i5 .0) (i5 .1);
       action = reads-at (action scope) (action-tracks scope) s (i5 .0 .at) (i6 .0) (i6 .1);
     })
 
@@ -161,7 +166,7 @@ task-tracks R =
     (λ kind.
     then-tracks here _ here-tracks
     (λ a.
-    then-tracks (expression (wholeTruth (taskScope R (eqb kind 1)))) _ (expression-tracks (wholeTruth (taskScope R (eqb kind 1))))
+    then-tracks (expression (truths (taskScope R (eqb kind 1)))) _ (expression-tracks (truths (taskScope R (eqb kind 1))))
     (λ c. then-tracks here _ here-tracks (λ b. then-tracks (action (taskScope R (eqb kind 1))) _ (action-tracks (taskScope R (eqb kind 1))) (λ act. give-tracks _)))))
 
 pub rule-points : (R : ℕ) (s : List ℕ) (at : ℕ) (g : Got MarkedRule) → markedRule R (drop at s) at ≡ accepted g → RulePoints R s (g .value)
@@ -192,9 +197,9 @@ part-points R M s at g e =
     let i2 = then-at (number 0 (suc M)) _ (number-tracks 0 (suc M)) s (i1 .0 .at) g (i1 .2) in
     let i3 = then-at (rising (i2 .0 .value) 0 M) _ (rising-tracks (i2 .0 .value) 0 M) s (i2 .0 .at) g (i2 .2) in
     let h4 = here-at _ (drop (i3 .0 .at) s) (i3 .0 .at) g (i3 .2) in
-    let i4 = then-at (expression (wholeTruth (ownOnly R))) _ (expression-tracks (wholeTruth (ownOnly R))) s (i3 .0 .at) g h4 in
+    let i4 = then-at (expression (truths (ownOnly R))) _ (expression-tracks (truths (ownOnly R))) s (i3 .0 .at) g h4 in
     subst (PartPoints R s) (given _ (drop (i4 .0 .at) s) (i4 .0 .at) g (i4 .2))
     (record {
       opening = reads-at (times R value) (times-tracks value value-tracks R) s at (i1 .0) (i1 .1);
-      limit = reads-at (expression (wholeTruth (ownOnly R))) (expression-tracks (wholeTruth (ownOnly R))) s (i3 .0 .at) (i4 .0) (i4 .1);
+      limit = reads-at (expression (truths (ownOnly R))) (expression-tracks (truths (ownOnly R))) s (i3 .0 .at) (i4 .0) (i4 .1);
     })

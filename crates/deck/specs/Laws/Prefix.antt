@@ -10,13 +10,16 @@ use lib.Seq.{take-all, length-take-le}
 use borrow.Author.Tests.{leb-true, leb-false}
 use Rattle.lists.specs.Lists.{member}
 use Rattle.refusals.specs.Outcome.{Outcome, accepted}
-use Rattle.refusals.specs.Numbers.{badExpression, repeatedTarget}
-use Rattle.expression.specs.Reading.{Read, got, nothing, Scope, wholeNum, wholeTruth}
+use Rattle.refusals.specs.Numbers.{repeatedTarget}
+use Rattle.expression.specs.Reading.{Read, nothing, Scope}
+use Rattle.expression.specs.Faults.{Found, sound}
 use Rattle.expression.specs.Laws.Bytes.{Bytes}
 use Rattle.deck.specs.Limits.{limits}
 use Rattle.deck.specs.Deck.{Deck}
 use Rattle.deck.specs.Reader.{Got, readers}
-use Rattle.deck.specs.Layout.{Layout, judged, expression, ownOnly, taskScope, assignments, action, rule, part, sections, valueOf, read, layouts}
+use Rattle.deck.specs.Layout.{Expected, numbers, truths, judged, expression, ownOnly, taskScope, assignments, action, rule, part}
+use Rattle.deck.specs.Layout.{Layout, sections, valueOf, read, layouts}
+use Rattle.deck.specs.Laws.Judging.{judged-cases}
 use Rattle.deck.specs.Encoding.{encode, wellFormed}
 use Rattle.deck.specs.Laws.Exact.{Accepts, accepting, refusing, accepts}
 use Rattle.deck.specs.Laws.Within.{Continues, both-refuse, both-accept, Within, Anything, widen, at-most, forget, give-within}
@@ -42,16 +45,15 @@ partSize = limits .channels * 4 + 1 + limits .rules + expressionSize
 
 -- ---- the deck's readers
 
-judged-within : {A : Type 0} (p : ℕ) (r : Read A) → Within Anything 0 0 (judged p r)
-unfolding layouts
-judged-within p (got a n) = give-within a tt
-judged-within p nothing = fault-within badExpression p
+judged-within : {A : Type 0} (r : Read A) (f : Found) (has : r ≡ nothing → f ≡ sound → ⊥) → Within Anything 0 0 (judged r f has)
+judged-within r f has = judged-cases r f has (Within Anything 0 0) (λ a n _. give-within a tt) (λ n p _ _. fault-within n p)
 
-expression-within : {A : Type 0} (whole : List ℕ → Read A) → Within Anything expressionSize expressionSize (expression whole)
+expression-within : {A : Type 0} (j : Expected A) → Within Anything expressionSize expressionSize (expression j)
 unfolding layouts readers
-expression-within whole =
+expression-within j =
     then-within (number-within 1 (suc (limits .expression))) λ n h. here-within λ p.
-    then-within (at-most (limits .expression) (omega arith) (times-within byte-within n)) λ s _. judged-within p (whole s)
+    then-within (at-most (limits .expression) (omega arith) (times-within byte-within n)) λ s _.
+    judged-within (j .whole s) (j .find s p) (j .has-fault s p)
 
 assignments-within : (sc : Scope) (n : ℕ) (ts : List ℕ) → Within Anything (n * assignmentSize) (n * assignmentSize) (assignments sc n ts)
 unfolding layouts readers
@@ -60,7 +62,7 @@ assignments-within sc (suc n) ts =
     here-within λ p. widen (omega arith) (omega arith)
     (then-within (number-within 0 (sc .owns)) λ t _.
     require-within (not (member t ts)) repeatedTarget p λ _.
-    then-within (expression-within (wholeNum sc)) λ e _.
+    then-within (expression-within (numbers sc)) λ e _.
     then-within (assignments-within sc n (t ∷ ts)) λ a _.
     give-within (record { target = t; value = e } ∷ a) tt)
 
@@ -77,7 +79,7 @@ rule-within R =
     then-within (at-most (limits .events) (omega arith) (rising-within n 0 R)) λ events _.
     then-within (action-within (ownOnly R)) λ default _.
     then-within (number-within 0 2) λ kind _.
-    then-within (expression-within (wholeTruth (taskScope R (eqb kind 1)))) λ condition _.
+    then-within (expression-within (truths (taskScope R (eqb kind 1)))) λ condition _.
     then-within (action-within (taskScope R (eqb kind 1))) λ act _.
     give-within _ tt
 
@@ -87,7 +89,7 @@ part-within R M h k =
     then-within (at-most (limits .channels * 4) (omega arith) (times-within value-within R)) λ opening _.
     then-within (number-within 0 (suc M)) λ n l.
     then-within (at-most (limits .rules) (omega arith) (rising-within n 0 M)) λ carried _.
-    then-within (expression-within (wholeTruth (ownOnly R))) λ limit _.
+    then-within (expression-within (truths (ownOnly R))) λ limit _.
     give-within _ tt
 
 -- the last byte looked at is one that follows

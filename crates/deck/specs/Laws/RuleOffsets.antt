@@ -10,10 +10,10 @@ use lib.ListN.{drop}
 use Rattle.lists.specs.Bits.{maskOf}
 use Rattle.refusals.specs.Outcome.{refused, accepted}
 use Rattle.expression.specs.Syntax.{Truth}
-use Rattle.expression.specs.Reading.{Scope, wholeTruth}
+use Rattle.expression.specs.Reading.{Scope}
 use Rattle.deck.specs.Deck.{Action, targets}
 use Rattle.deck.specs.Reader.{number, rising, readers}
-use Rattle.deck.specs.Layout.{expression, ownOnly, ownAndFar, taskScope, action}
+use Rattle.deck.specs.Layout.{truths, expression, ownOnly, ownAndFar, taskScope, action}
 use Rattle.deck.specs.Encoding.{kindByte}
 use Rattle.deck.specs.Marks.{Reads, scopeOf, expressionFor, MarkedTask, markedTask, MarkedRule, markedRule, ruleRow}
 use Rattle.deck.specs.declared.Step.{Step}
@@ -53,7 +53,7 @@ module _ (R : ℕ) (s : List ℕ) (at kind from : ℕ) (e : number 0 2 (drop at 
   unfolding markedTask expressionFor readers
   condition-fault {n} {p} f =
       then-next _ e
-      ∙ then-fault _ (subst (λ sc. expression (wholeTruth sc) (drop from s) from ≡ refused n p) (scope-by-kind R kind small) f)
+      ∙ then-fault _ (subst (λ sc. expression (truths sc) (drop from s) from ≡ refused n p) (scope-by-kind R kind small) f)
 
   pub task-reads : (condition : Truth) (to mask : ℕ) (step : Step)
       → expressionFor true (scopeOf R (R * kind)) (drop from s) from ≡ accepted (gotTo s condition to)
@@ -63,8 +63,8 @@ module _ (R : ℕ) (s : List ℕ) (at kind from : ℕ) (e : number 0 2 (drop at 
   task-reads condition to mask step f r =
       let same = scope-by-kind R kind small in
       let sc : Scope = taskScope R (eqb kind 1) in
-      let c : expression (wholeTruth sc) (drop from s) from ≡ accepted (gotTo s condition to)
-      = subst (λ sc. expression (wholeTruth sc) (drop from s) from ≡ accepted (gotTo s condition to)) same f in
+      let c : expression (truths sc) (drop from s) from ≡ accepted (gotTo s condition to)
+      = subst (λ sc. expression (truths sc) (drop from s) from ≡ accepted (gotTo s condition to)) same f in
       let a : Reads s (action sc (drop to s) to) (λ a. mask ≡ maskOf (targets a)) step
       = subst (λ sc. Reads s (action sc (drop to s) to) (λ a. mask ≡ maskOf (targets a)) step) same r in
       let task : Action → MarkedTask

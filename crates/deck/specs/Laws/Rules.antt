@@ -14,7 +14,7 @@ use Rattle.expression.specs.Laws.Whole.{whole-truth}
 use Rattle.deck.specs.Limits.{limits}
 use Rattle.deck.specs.Deck.{Rule, Part}
 use Rattle.deck.specs.Reader.{readers}
-use Rattle.deck.specs.Layout.{ownOnly, taskScope, rule, part, layouts}
+use Rattle.deck.specs.Layout.{truths, ownOnly, taskScope, rule, part, layouts}
 use Rattle.deck.specs.Encoding.{encodeExpression, encodeAction, kindByte, encodeRule, encodePart, inRange, isRising, goodAction, goodCondition, goodRule, goodPart}
 use Rattle.deck.specs.Laws.Exact.{Exact, Any, Coded, exact-by, give-exact, then-exact}
 use Rattle.deck.specs.Laws.Readers.{number-exact, times-exact, rising-exact, value-exact}
@@ -64,7 +64,7 @@ rule-exact R =
     then-exact (rising-exact n 0 R) λ events.
     then-exact (action-exact (ownOnly R)) λ default.
     then-exact (number-exact 0 2) λ kind.
-    then-exact (expression-exact (whole-truth (taskScope R (eqb kind 1)))) λ condition.
+    then-exact (expression-exact (truths (taskScope R (eqb kind 1))) (whole-truth (taskScope R (eqb kind 1)))) λ condition.
     then-exact (action-exact (taskScope R (eqb kind 1))) λ act.
     give-exact (record { events = events; default = default; everywhere = eqb kind 1; condition = condition; action = act }))
     (λ at r w _ p.
@@ -127,7 +127,7 @@ part-exact R M =
     (then-exact (times-exact value-exact R) λ opening.
     then-exact (number-exact 0 (suc M)) λ n.
     then-exact (rising-exact n 0 M) λ carried.
-    then-exact (expression-exact (whole-truth (ownOnly R))) λ limit.
+    then-exact (expression-exact (truths (ownOnly R)) (whole-truth (ownOnly R))) λ limit.
     give-exact (record { opening = opening; carried = carried; limit = limit }))
     (λ at r w _ p.
     let count = p .4 in

@@ -17,11 +17,12 @@ use Rattle.lists.specs.Laws.Members.{all-member}
 use Rattle.refusals.specs.Outcome.{Outcome, refused, accepted}
 use Rattle.refusals.specs.Numbers.{outOfRange, repeatedTarget}
 use Rattle.expression.specs.Syntax.{constant}
-use Rattle.expression.specs.Reading.{Scope, wholeNum, wholeTruth}
+use Rattle.expression.specs.Reading.{Scope}
 use Rattle.deck.specs.Deck.{Rule, Part, Deck, R, M, ruleAt, partAt, targets}
 use Rattle.deck.specs.Encoding.{kindByte}
 use Rattle.deck.specs.Reader.{Got, Reader, andThen, give, require, end, number, times, rising, value, readers}
-use Rattle.deck.specs.Layout.{expression, ownOnly, taskScope, assignments, action, rule, part, Layout, sections, valueOf, read}
+use Rattle.deck.specs.Layout.{numbers, truths, expression, ownOnly, taskScope, assignments, action, rule, part}
+use Rattle.deck.specs.Layout.{Layout, sections, valueOf, read}
 use Rattle.deck.specs.Marks.{
   MarkedRule,
   markedRule,
@@ -258,7 +259,7 @@ assignments-under sc zero ts s at = accepting refl
 assignments-under sc (suc n) ts s at =
     then-accepts _ (number-under 0 (sc .owns) s at) λ t p.
     then-accepts _ (anything (require (not (member (t .value) ts)) repeatedTarget at (t .rest) (t .at))) λ u _.
-    then-accepts _ (anything (expression (wholeNum sc) (u .rest) (u .at))) λ e _.
+    then-accepts _ (anything (expression (numbers sc) (u .rest) (u .at))) λ e _.
     then-accepts _ (assignments-under sc n (t .value ∷ ts) (e .rest) (e .at)) λ l q.
     accepting (all-cons (λ c. ltb c (sc .owns)) (t .value) (targets (l .value)) p q)
 
@@ -275,7 +276,7 @@ rule-under R s at =
     then-accepts _ (action-under (ownOnly R) (events .rest) (events .at)) λ default q.
     then-accepts _ (anything (number 0 2 (default .rest) (default .at))) λ kind _.
     let scope = taskScope R (eqb (kind .value) 1) in
-    then-accepts _ (anything (expression (wholeTruth scope) (kind .rest) (kind .at))) λ condition _.
+    then-accepts _ (anything (expression (truths scope) (kind .rest) (kind .at))) λ condition _.
     then-accepts _ (action-under scope (condition .rest) (condition .at)) λ act u.
     accepting (and-both (and-both p q) (ap (λ k. under k (targets (act .value))) (sym (owns-task R (eqb (kind .value) 1))) ∙ u))
 
@@ -285,7 +286,7 @@ part-under R M s at =
     then-accepts _ (anything (times R value s at)) λ opening _.
     then-accepts _ (anything (number 0 (suc M) (opening .rest) (opening .at))) λ n _.
     then-accepts _ (rising-under (n .value) 0 M (n .rest) (n .at)) λ carried p.
-    then-accepts _ (anything (expression (wholeTruth (ownOnly R)) (carried .rest) (carried .at))) λ limit _.
+    then-accepts _ (anything (expression (truths (ownOnly R)) (carried .rest) (carried .at))) λ limit _.
     accepting p
 
 sections-ranged : (s : List ℕ) (at : ℕ) → Accepts (λ g. Ranged (g .value .deck)) (sections s at)

@@ -10,4 +10,6 @@ expression-at-spec =
     (λ c κs. search needs)
     (λ c. c .before .expression-end .ensures (c .if1 .taken))
     (λ c κs. search needs)
-    (λ c. c .expression-step .ensures))
+    (λ c κs. search needs)
+    (λ c. rw (c .before .if2 .taken) (c .expression-step .ensures))
+    (λ c. rw (c .before .if2 .left) (c .expression-step2 .ensures)))

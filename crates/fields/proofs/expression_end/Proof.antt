@@ -18,7 +18,7 @@ returns-5 c _ =
     (expression-good (a .truth) (scopeOf (a .own) (a .far)) (a .s .now) (a .at) _ _
     (number-reads _ _ _ _ (k .before .before .before .before .before .if1 .left) (omega (arith, k .before .before .if2 .left, w)) (omega (arith, k .before .if3 .left, w)))
     (omega (arith, k .if4 .left, w))
-    (rw (add-sub-cancel-left, w) at (sym (c .before .judged .ensures) ∙ c .if5 .taken)))
+    (rw (add-sub-cancel-left, w) at (sym (c .before .is-whole .ensures) ∙ c .if5 .taken)))
 
 pub expression-end-spec : {M : Type 1} → statement M
 expression-end-spec =

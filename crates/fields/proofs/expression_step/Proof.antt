@@ -2,11 +2,10 @@
 use borrow.Author.Needs.{needs}
 use native.Mathlib.Omega.{arith}
 use native.Mathlib.Nat.{add-sub-cancel-left}
-use mathlib.Core.Path.{sym, _∙_}
 use lib.ListN.{drop}
 use Rattle.deck.specs.Marks.{scopeOf}
 use Rattle.deck.specs.Laws.Turns.{got-value}
-use Rattle.deck.specs.Laws.Offsets.{expression-fault, expression-ends, expression-good, expression-bad}
+use Rattle.deck.specs.Laws.Offsets.{expression-fault, expression-ends, expression-searched}
 use Rattle.fields.proofs.expression_step.Statement.{statement}
 use Rattle.fields.proofs.expression_step.Tie as tie
 
@@ -48,42 +47,39 @@ returns-2 c =
 add-to : tie.Need-add-to
 add-to c = search needs
 
-sub-judged : tie.Need-sub-judged
-sub-judged c = search needs
-
-part-judged-start : tie.Need-part-judged-start
-part-judged-start c = search needs
-
-part-judged-end : tie.Need-part-judged-end
-part-judged-end c =
+expression-fault-requires : tie.Need-expression-fault-requires
+expression-fault-requires c κs =
     let k = c .before .before in
     let read = rw (k .step .given .1) at (k .before .before .number-at .ensures) in
-    omega (arith, read .2)
-
-judged-requires : tie.Need-judged-requires
-judged-requires c κs = search needs
+    (omega arith, omega (arith, read .2))
 
 returns-3 : tie.Need-returns-3
+unfolding scopeOf
 returns-3 c =
-    let k = c .before .before .before .before .before in
+    let call = c .before .before .before in
+    let k = call .before .before .before in
     let n = k .before .before in
     let a = n .before .before .args in
     let read = rw (k .step .given .1) at (n .number-at .ensures) in
-    expression-good (a .truth) (scopeOf (a .own) (a .far)) (a .s .now) (a .at) (n .number-at .result .value) (k .step .given .0 .0)
+    expression-searched (a .truth) (scopeOf (a .own) (a .far)) (a .s .now) (a .at) (n .number-at .result .value) (k .step .given .0 .0)
     (got-value (a .s .now) (k .step .given .0 .0) (n .number-at .result .value) read)
     (omega (arith, read .2))
-    (rw add-sub-cancel-left at (sym (c .before .judged .ensures) ∙ c .if2 .taken))
+    _
+    (rw (c .before .found .given .1, add-sub-cancel-left) at (call .expression-fault .ensures))
 
 returns-4 : tie.Need-returns-4
+unfolding scopeOf
 returns-4 c =
-    let k = c .before .before .before .before .before in
+    let call = c .before .before .before in
+    let k = call .before .before .before in
     let n = k .before .before in
     let a = n .before .before .args in
     let read = rw (k .step .given .1) at (n .number-at .ensures) in
-    expression-bad (a .truth) (scopeOf (a .own) (a .far)) (a .s .now) (a .at) (n .number-at .result .value) (k .step .given .0 .0)
+    expression-searched (a .truth) (scopeOf (a .own) (a .far)) (a .s .now) (a .at) (n .number-at .result .value) (k .step .given .0 .0)
     (got-value (a .s .now) (k .step .given .0 .0) (n .number-at .result .value) read)
     (omega (arith, read .2))
-    (rw add-sub-cancel-left at (sym (c .before .judged .ensures) ∙ c .if2 .left))
+    _
+    (rw (c .before .found2 .given .1, add-sub-cancel-left) at (call .expression-fault .ensures))
 
 pub expression-step-spec : {M : Type 1} → statement M
 expression-step-spec =
@@ -97,9 +93,8 @@ expression-step-spec =
     sub-if1
     returns-2
     add-to
-    sub-judged
-    part-judged-start
-    part-judged-end
-    judged-requires
+    expression-fault-requires
+    (λ c. search needs)
+    (λ c. search needs)
     returns-3
     returns-4)

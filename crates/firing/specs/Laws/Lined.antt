@@ -6,14 +6,15 @@ use mathlib.Core.Bool.{Bool, true, false, not}
 use mathlib.Core.List.{List, [], _∷_}
 use native.Mathlib.Omega.{arith}
 use native.Mathlib.Decide.{decLt, decLe}
-use lib.ListN.{length, getD, drop}
+use lib.ListN.{length, getD, take, drop}
 use Rattle.lists.specs.Lists.{member}
 use Rattle.refusals.specs.Outcome.{accepted}
 use Rattle.refusals.specs.Laws.Outcomes.{refused≢accepted, accepted-inj}
-use Rattle.expression.specs.Reading.{Read, Scope, wholeNum}
+use Rattle.expression.specs.Reading.{Scope, wholeNum}
 use Rattle.deck.specs.Deck.{Action}
 use Rattle.deck.specs.Reader.{Got, _>>=_, _>>_, give, fault, here, require, number}
-use Rattle.deck.specs.Layout.{judged, expression, assignments, action}
+use Rattle.deck.specs.Layout.{Expected, numbers, expression, assignments, action}
+use Rattle.deck.specs.Laws.Judging.{judged-read}
 use Rattle.deck.specs.Laws.Turns.{number-ends, number-small, number-large, number-reads}
 use Rattle.deck.specs.Laws.Offsets.{whole-there}
 use Rattle.deck.specs.Laws.Points.{ReadsAt, then-at, here-at, given}
@@ -52,11 +53,11 @@ module _ (lo hi : ℕ) (s : List ℕ) (at : ℕ) (g : Got ℕ) (e : number lo hi
       at-offset (yes l) = in-range l (decLe lo (getD s at 0)) (decLt (getD s at 0) hi)
       at-offset (no l) = refused≢accepted (sym (number-ends lo hi s at (omega arith)) ∙ e)
 
-module _ {A : Type 0} (whole : List ℕ → Read A) (s : List ℕ) (at : ℕ) (g : Got A) (e : expression whole (drop at s) at ≡ accepted g) where
-  pub expression-stands : Stands whole s at (g .value)
+module _ {A : Type 0} (j : Expected A) (s : List ℕ) (at : ℕ) (g : Got A) (e : expression j (drop at s) at ≡ accepted g) where
+  pub expression-stands : Stands (j .whole) s at (g .value)
   expression-stands =
-      stands whole s at (g .value)
-      (g .at, e ∙ ap (λ l. accepted (record { value = g .value; rest = l; at = g .at })) (expression-tracks whole s at g e))
+      stands j s at (g .value)
+      (g .at, e ∙ ap (λ l. accepted (record { value = g .value; rest = l; at = g .at })) (expression-tracks j s at g e))
 
   length-read : NumberRead 1 65 s at (record { value = getD s at 0; rest = drop (at + 1) s; at = at + 1 })
   unfolding expression _>>=_
@@ -66,14 +67,17 @@ module _ {A : Type 0} (whole : List ℕ → Read A) (s : List ℕ) (at : ℕ) (g
       record { inside = r .inside; value = refl; next = refl; low = r .low; high = r .high }
 
   pub expression-next : g .at ≡ at + 1 + getD s at 0
-  unfolding judged give
   expression-next =
       let r = length-read in
       let h = expression-stands in
       let n = getD s at 0 in
-      let there = whole-there whole s at n (at + 1) (number-reads 1 65 s at (r .inside) (r .low) (r .high)) (h .ends) in
+      let bytes = take n (drop (at + 1) s) in
+      let there = whole-there j s at n (at + 1) (number-reads 1 65 s at (r .inside) (r .low) (r .high)) (h .ends) in
       ap (λ g. g .at)
-      (accepted-inj (sym e ∙ there ∙ ap (λ w. judged (at + 1) w (drop (at + 1 + n) s) (at + 1 + n)) (h .holds)))
+      (accepted-inj
+      (sym e
+      ∙ there
+      ∙ judged-read (j .whole bytes) (j .find bytes (at + 1)) (j .has-fault bytes (at + 1)) (drop (at + 1 + n) s) (at + 1 + n) (h .holds)))
 
 -- ---- the assignments
 
@@ -97,7 +101,7 @@ assignments-tracks sc (suc n) ts =
     (λ t.
     then-tracks (require (not (member t ts)) 4 at) _ (require-tracks (not (member t ts)) 4 at)
     (λ _.
-    then-tracks (expression (wholeNum sc)) _ (expression-tracks (wholeNum sc))
+    then-tracks (expression (numbers sc)) _ (expression-tracks (numbers sc))
     (λ e.
     then-tracks (assignments sc n (t ∷ ts)) _ (assignments-tracks sc n (t ∷ ts))
     (λ rest. give-tracks (record { target = t; value = e } ∷ rest))))))
@@ -115,13 +119,13 @@ assignments-lined sc s (suc n) ts at g e =
     let t = i .0 .value in
     let test = not (member t ts) in
     let j = then-at (require test 4 at) _ (require-tracks test 4 at) s (i .0 .at) g (i .2) in
-    let k = then-at (expression (wholeNum sc)) _ (expression-tracks (wholeNum sc)) s (j .0 .at) g (j .2) in
+    let k = then-at (expression (numbers sc)) _ (expression-tracks (numbers sc)) s (j .0 .at) g (j .2) in
     let l = then-at (assignments sc n (t ∷ ts)) _ (assignments-tracks sc n (t ∷ ts)) s (k .0 .at) g (k .2) in
     let r = number-read 0 (sc .owns) s at (i .0) (i .1) in
     let stays = require-stays test 4 at (drop (i .0 .at) s) (i .0 .at) (j .0) (j .1) in
     let first : j .0 .at ≡ at + 1 = stays ∙ r .next in
-    let there = subst (λ p. Stands (wholeNum sc) s p (k .0 .value)) first (expression-stands (wholeNum sc) s (j .0 .at) (k .0) (k .1)) in
-    let after = expression-next (wholeNum sc) s (j .0 .at) (k .0) (k .1) in
+    let there = subst (λ p. Stands (wholeNum sc) s p (k .0 .value)) first (expression-stands (numbers sc) s (j .0 .at) (k .0) (k .1)) in
+    let after = expression-next (numbers sc) s (j .0 .at) (k .0) (k .1) in
     let same : getD s (j .0 .at) 0 ≡ getD s (at + 1) 0 = ap (λ p. getD s p 0) first in
     let second : k .0 .at ≡ at + 2 + getD s (at + 1) 0 = omega (arith, after, same, first) in
     let rest = assignments-lined sc s n (t ∷ ts) (k .0 .at) (l .0) (l .1) in

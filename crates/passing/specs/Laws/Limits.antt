@@ -10,7 +10,7 @@ use Rattle.expression.specs.Reading.{wholeTruth}
 use Rattle.expression.specs.Answers.{scope, valueIn, truthIn}
 use Rattle.expression.specs.Laws.Agreement.{truth-agree}
 use Rattle.deck.specs.Deck.{Deck, R, N, partAt}
-use Rattle.deck.specs.Layout.{ownOnly}
+use Rattle.deck.specs.Layout.{truths, ownOnly}
 use Rattle.deck.specs.Laws.Formed.{Formed}
 use Rattle.deck.specs.Laws.Scoped.{Scoped}
 use Rattle.pool.specs.Updates.{indexOf, valueAt}
@@ -48,7 +48,7 @@ pub limit-stands : (s parts : List ℕ) (d : Deck) (p : ℕ) → PartTable s d p
 unfolding ownOnly
 limit-stands s parts d p t h own e =
     subst (λ n. Stands (wholeTruth (scope n 0)) s (getD parts (4 * p + 2) 0) (partAt d p .limit)) (sym e)
-    (stands (wholeTruth (ownOnly (R d))) s (getD parts (4 * p + 2) 0) (partAt d p .limit) (t .limit p h))
+    (stands (truths (ownOnly (R d))) s (getD parts (4 * p + 2) 0) (partAt d p .limit) (t .limit p h))
 
 -- a part opens within its limit where its opening values alone do
 pub opens-value : (d : Deck) (p : ℕ) → Scoped d → Formed d → p < N d

@@ -14,50 +14,55 @@ use Rattle.refusals.specs.Laws.Outcomes.{refused≢accepted, accepted-inj}
 use Rattle.expression.specs.Syntax.{Truth}
 use Rattle.expression.specs.Reading.{Read, got, nothing, word, signed, wholeTruth}
 use Rattle.expression.specs.Answers.{scope, mapRead, truthIn, truthResult, wholeTruthValue}
+use Rattle.expression.specs.Faults.{Found, sound}
 use Rattle.expression.specs.declared.TruthValue.{TruthValue}
 use Rattle.expression.specs.declared.TruthValue.the-variants.{Value, None}
 use Rattle.deck.specs.Reader.{Got, _>>=_, give, fault, number, times, value, readers}
-use Rattle.deck.specs.Layout.{judged, expression}
+use Rattle.deck.specs.Layout.{Expected, judged, expression}
+use Rattle.deck.specs.Laws.Judging.{judged-cases}
 use Rattle.deck.specs.Laws.Turns.{number-ends, number-small, number-large, number-reads}
 use Rattle.deck.specs.Laws.Offsets.{then-fault, whole-ends, whole-there}
 use Rattle.deck.specs.Laws.Points.{ReadsAt, then-at, given, times-tracks, value-tracks}
 use Rattle.passing.specs.Stands.{Stands, valueFrom, valuesFrom}
 
-module _ {A : Type 0} (whole : List ℕ → Read A) (s : List ℕ) (at : ℕ) (a : A) (r : ReadsAt s (expression whole) at a) where
+module _ {A : Type 0} (j : Expected A) (s : List ℕ) (at : ℕ) (a : A) (r : ReadsAt s (expression j) at a) where
   -- no fault was found
-  never : {n p : ℕ} → expression whole (drop at s) at ≡ refused n p → Stands whole s at a
+  never : {n p : ℕ} → expression j (drop at s) at ≡ refused n p → Stands (j .whole) s at a
   never e = refused≢accepted (sym e ∙ r .1)
 
-  length-fault : {n p : ℕ} → number 1 65 (drop at s) at ≡ refused n p → expression whole (drop at s) at ≡ refused n p
+  length-fault : {n p : ℕ} → number 1 65 (drop at s) at ≡ refused n p → expression j (drop at s) at ≡ refused n p
   unfolding expression _>>=_
   length-fault e = then-fault _ e
 
-  byte-there : (w : Read A) (p : ℕ) (t : List ℕ) (n : ℕ) → judged p w t n ≡ accepted (record { value = a; rest = drop (r .0) s; at = r .0 })
-      → (k : ℕ) × (w ≡ got a k)
-  unfolding judged give fault
-  byte-there (got b k) p t n e = (k, ap (λ x. got x k) (ap (λ g. g .value) (accepted-inj e)))
-  byte-there nothing p t n e = refused≢accepted e
+  byte-there : (w : Read A) (f : Found) (has : w ≡ nothing → f ≡ sound → ⊥) (t : List ℕ) (n : ℕ)
+      → judged w f has t n ≡ accepted (record { value = a; rest = drop (r .0) s; at = r .0 }) → (k : ℕ) × (w ≡ got a k)
+  unfolding give fault
+  byte-there w f has t n =
+      judged-cases w f has (λ q. q t n ≡ accepted (record { value = a; rest = drop (r .0) s; at = r .0 }) → (k : ℕ) × (w ≡ got a k))
+      (λ b k e h. (k, e ∙ ap (λ x. got x k) (ap (λ g. g .value) (accepted-inj h))))
+      (λ m p _ _ h. refused≢accepted h)
 
-  pub stands : Stands whole s at a
+  pub stands : Stands (j .whole) s at a
   stands = at-offset (decLt at (length s))
     where
       n : ℕ
       n = getD s at 0
 
-      whole-bytes : at < length s → 1 ≤ n → n < 65 → Dec (at + 1 + n ≤ length s) → Stands whole s at a
+      whole-bytes : at < length s → 1 ≤ n → n < 65 → Dec (at + 1 + n ≤ length s) → Stands (j .whole) s at a
       whole-bytes l lo hi (yes h) =
           let e = number-reads 1 65 s at l lo hi in
-          let j = byte-there (whole (take n (drop (at + 1) s))) (at + 1) (drop (at + 1 + n) s) (at + 1 + n)
-          (sym (whole-there whole s at n (at + 1) e h) ∙ r .1) in
-          record { inside = l; ends = h; end = j .0; holds = j .1 }
-      whole-bytes l lo hi (no h) = never (whole-ends whole s at n (at + 1) (number-reads 1 65 s at l lo hi) (omega arith) (omega arith))
+          let bytes = take n (drop (at + 1) s) in
+          let b = byte-there (j .whole bytes) (j .find bytes (at + 1)) (j .has-fault bytes (at + 1)) (drop (at + 1 + n) s) (at + 1 + n)
+          (sym (whole-there j s at n (at + 1) e h) ∙ r .1) in
+          record { inside = l; ends = h; end = b .0; holds = b .1 }
+      whole-bytes l lo hi (no h) = never (whole-ends j s at n (at + 1) (number-reads 1 65 s at l lo hi) (omega arith) (omega arith))
 
-      in-range : at < length s → Dec (1 ≤ n) → Dec (n < 65) → Stands whole s at a
+      in-range : at < length s → Dec (1 ≤ n) → Dec (n < 65) → Stands (j .whole) s at a
       in-range l (yes lo) (yes hi) = whole-bytes l lo hi (decLe (at + 1 + n) (length s))
       in-range l (yes lo) (no hi) = never (length-fault (number-large 1 65 s at l lo (omega arith)))
       in-range l (no lo) hi = never (length-fault (number-small 1 65 s at l (omega arith)))
 
-      at-offset : Dec (at < length s) → Stands whole s at a
+      at-offset : Dec (at < length s) → Stands (j .whole) s at a
       at-offset (yes l) = in-range l (decLe 1 n) (decLt n 65)
       at-offset (no l) = never (length-fault (number-ends 1 65 s at (omega arith)))
 

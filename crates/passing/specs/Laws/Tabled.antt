@@ -10,11 +10,10 @@ use lib.ListN.{length, getD, drop, length-append, length-drop, length-map}
 use Rattle.lists.specs.Lists.{all, flatMap, lists}
 use Rattle.lists.specs.Laws.Booleans.{and-left}
 use Rattle.refusals.specs.Outcome.{accepted}
-use Rattle.expression.specs.Reading.{wholeTruth}
 use Rattle.expression.specs.Laws.Bytes.{Bytes}
 use Rattle.deck.specs.Deck.{Deck, R, M, N, ruleAt}
 use Rattle.deck.specs.Reader.{times, value}
-use Rattle.deck.specs.Layout.{Layout, expression, ownOnly, taskScope, action, valueOf, read}
+use Rattle.deck.specs.Layout.{truths, Layout, expression, ownOnly, taskScope, action, valueOf, read}
 use Rattle.deck.specs.Encoding.{inRange, goodRule, goodPart, wellFormed}
 use Rattle.deck.specs.Marks.{rulesAt, RulesFit, MarkedTask, Marked, markedSections, unmarked, ruleOf, ruleRow, partRow}
 use Rattle.deck.specs.declared.Deck as Counted
@@ -160,10 +159,10 @@ module _ (s : List ℕ) (m : Marked) (e : markedSections s 0 ≡ accepted (recor
               (subst (λ at. ReadsAt s (action (ownOnly (R d))) at (getD (m .front .rules) r noRule .default)) (sym (rule-column 4 r (omega arith) refl))
               (rule-at r k .default));
           condition = λ r k.
-              subst (λ a. ReadsAt s (expression (wholeTruth (taskScope (R d) (a .everywhere)))) (getD rules (8 * r + 5) 0) (a .condition))
+              subst (λ a. ReadsAt s (expression (truths (taskScope (R d) (a .everywhere)))) (getD rules (8 * r + 5) 0) (a .condition))
               (sym (rule-read m r))
               (subst
-              (λ at. ReadsAt s (expression (wholeTruth (taskScope (R d) (task r .everywhere)))) at (task r .condition))
+              (λ at. ReadsAt s (expression (truths (taskScope (R d) (task r .everywhere)))) at (task r .condition))
               (sym (rule-column 5 r (omega arith) refl))
               (rule-at r k .task .condition));
           action = λ r k.
@@ -185,8 +184,8 @@ module _ (s : List ℕ) (m : Marked) (e : markedSections s 0 ≡ accepted (recor
               (subst (λ at. ReadsAt s (times (R d) value) at (getD (m .parts) p noPart .part .opening)) (sym (part-column 1 p (omega arith) refl))
               (part-at p k .opening));
           limit = λ p k.
-              subst (λ a. ReadsAt s (expression (wholeTruth (ownOnly (R d)))) (getD parts (4 * p + 2) 0) (a .limit)) (sym (part-read m p))
-              (subst (λ at. ReadsAt s (expression (wholeTruth (ownOnly (R d)))) at (getD (m .parts) p noPart .part .limit))
+              subst (λ a. ReadsAt s (expression (truths (ownOnly (R d)))) (getD parts (4 * p + 2) 0) (a .limit)) (sym (part-read m p))
+              (subst (λ at. ReadsAt s (expression (truths (ownOnly (R d)))) at (getD (m .parts) p noPart .part .limit))
               (sym (part-column 2 p (omega arith) refl))
               (part-at p k .limit));
         }
@@ -237,7 +236,9 @@ tabled-kept {s} {rules₀} {rules} {parts} {l} o t =
             subst (λ at. ReadsAt s (action (ownOnly (R (l .deck)))) at (ruleAt (l .deck) r .default)) (kept 4 r (omega arith)) (t .ruleTable .default r h);
         condition = λ r h.
             subst
-            (λ at. ReadsAt s (expression (wholeTruth (taskScope (R (l .deck)) (ruleAt (l .deck) r .everywhere)))) at (ruleAt (l .deck) r .condition))
+            (λ at.
+            let sc = taskScope (R (l .deck)) (ruleAt (l .deck) r .everywhere) in
+            ReadsAt s (expression (truths sc)) at (ruleAt (l .deck) r .condition))
             (kept 5 r (omega arith))
             (t .ruleTable .condition r h);
         action = λ r h.

@@ -18,7 +18,7 @@ use Rattle.expression.specs.Answers.{scope, valueIn, numIn}
 use Rattle.expression.specs.Encoding.{goodNum, goodTruth}
 use Rattle.expression.specs.Laws.Agreement.{num-agree, truth-agree}
 use Rattle.deck.specs.Deck.{Deck, Action, Assignment, Rule, R, M, ruleAt}
-use Rattle.deck.specs.Layout.{expression, action, ownOnly, ownAndFar, taskScope}
+use Rattle.deck.specs.Layout.{truths, expression, action, ownOnly, ownAndFar, taskScope}
 use Rattle.deck.specs.Encoding.{kindByte}
 use Rattle.deck.specs.declared.Deck as Counted
 use Rattle.deck.specs.Laws.Points.{ReadsAt}
@@ -114,11 +114,11 @@ module _ {sc : Scope} {values : List ℤ} {p q : ℕ} {own far : List ℤ} (l : 
         subst (λ us. Offered d C us held₀ q₀ m held q′) (sent-agree a h) (o a there)
 
   -- and a condition can be evaluated
-  module _ (s : List ℕ) (at : ℕ) (t : Truth) (r : ReadsAt s (expression (wholeTruth sc)) at t) where
+  module _ (s : List ℕ) (at : ℕ) (t : Truth) (r : ReadsAt s (expression (truths sc)) at t) where
     truth-stands : Stands (wholeTruth (scope (length own) (length far))) s at t
     truth-stands =
-        stands (wholeTruth (scope (length own) (length far))) s at t
-        (subst (λ c. ReadsAt s (expression (wholeTruth c)) at t) (sym scope-is) r)
+        stands (truths (scope (length own) (length far))) s at t
+        (subst (λ c. ReadsAt s (expression (truths c)) at t) (sym scope-is) r)
 
     truth-known : HasTruth s at (length own) (length far)
     truth-known = (t, truth-stands)

@@ -1,6 +1,7 @@
-//! The pass over a deck's bytes into tables, with refusals 1 to 6.
+//! The pass over a deck's bytes into tables, with refusals 1 to 6, 18 and 19.
 
 use super::expression::{is_number, is_truth, truth, Scope, Values};
+use super::faults::{first_fault, Fault, Type};
 use reaction::Refusal;
 
 pub const CHANNELS: usize = 32;
@@ -74,7 +75,8 @@ impl Tables {
         }
     }
 
-    /// Reads a deck, first fault first (1 to 5), then tests the limits on the opening values (6).
+    /// Reads a deck, first fault first (1 to 4, 18 and 19), then tests that nothing follows (5), and the limits on the
+    /// opening values (6).
     pub fn read(&mut self, deck: &[u8]) -> Result<(), Refusal> {
         let mut reader = Reader { deck, at: 0 };
         self.channels = reader.number(1, CHANNELS)?;
@@ -191,16 +193,31 @@ impl Reader<'_> {
         Ok(set)
     }
 
-    /// The offset of an expression's first byte.
-    fn expression(&mut self, keeps_rules: impl Fn(&[u8]) -> bool) -> Result<usize, Refusal> {
+    /// The offset of an expression's first byte. It is tested when all its bytes are there.
+    fn expression(
+        &mut self,
+        wanted: Type,
+        scope: Scope,
+        keeps_rules: impl Fn(&[u8]) -> bool,
+    ) -> Result<usize, Refusal> {
         let length = self.number(1, 64)?;
         let start = self.at;
         self.skip(length)?;
-        if keeps_rules(&self.deck[start..self.at]) {
+        let bytes = &self.deck[start..self.at];
+        if keeps_rules(bytes) {
             Ok(start)
         } else {
-            Err(Refusal { number: 3, place: start as u32 })
+            let Fault { number, offset } = first_fault(bytes, wanted, scope);
+            Err(Refusal { number, place: (start + offset) as u32 })
         }
+    }
+
+    fn number_expression(&mut self, scope: Scope) -> Result<usize, Refusal> {
+        self.expression(Type::Number, scope, |bytes| is_number(bytes, scope))
+    }
+
+    fn truth_expression(&mut self, scope: Scope) -> Result<usize, Refusal> {
+        self.expression(Type::Truth, scope, |bytes| is_truth(bytes, scope))
     }
 
     /// The set of an action's targets.
@@ -212,7 +229,7 @@ impl Reader<'_> {
                 return Err(Refusal { number: 4, place: self.at as u32 - 1 });
             }
             targets |= 1 << target;
-            self.expression(|bytes| is_number(bytes, scope))?;
+            self.number_expression(scope)?;
         }
         Ok(targets)
     }
@@ -225,7 +242,7 @@ impl Reader<'_> {
         let default_targets = self.action(scope)?;
         let everywhere = self.number(0, 1)? == 1;
         let scope = Scope { far: if everywhere { scope.own } else { 0 }, ..scope };
-        let condition_at = self.expression(|bytes| is_truth(bytes, scope))?;
+        let condition_at = self.truth_expression(scope)?;
         let action_at = self.at;
         let targets = self.action(scope)?;
         Ok(Rule { events, default_targets, targets, everywhere, default_at, condition_at, action_at })
@@ -237,7 +254,7 @@ impl Reader<'_> {
         let count = self.number(0, rules)?;
         let carried = self.rising(count, rules)?;
         let scope = Scope { own: channels as u16, far: 0 };
-        let limit_at = self.expression(|bytes| is_truth(bytes, scope))?;
+        let limit_at = self.truth_expression(scope)?;
         Ok(Part { carried, opening_at, limit_at })
     }
 }

@@ -3,20 +3,20 @@
 /// The values of a part.
 pub type Values = [i32; 32];
 
-const LITERAL: u8 = 0;
-const OWN: u8 = 1;
-const FAR: u8 = 2;
-const SUM: u8 = 3;
-const DIFFERENCE: u8 = 4;
-const PRODUCT: u8 = 5;
-const NEGATION: u8 = 6;
-const FALSE: u8 = 16;
-const TRUE: u8 = 17;
-const NOT: u8 = 18;
-const AND: u8 = 19;
-const OR: u8 = 20;
-const LESS: u8 = 21;
-const EQUAL: u8 = 22;
+pub const LITERAL: u8 = 0;
+pub const OWN: u8 = 1;
+pub const FAR: u8 = 2;
+pub const SUM: u8 = 3;
+pub const DIFFERENCE: u8 = 4;
+pub const PRODUCT: u8 = 5;
+pub const NEGATION: u8 = 6;
+pub const FALSE: u8 = 16;
+pub const TRUE: u8 = 17;
+pub const NOT: u8 = 18;
+pub const AND: u8 = 19;
+pub const OR: u8 = 20;
+pub const LESS: u8 = 21;
+pub const EQUAL: u8 = 22;
 
 /// Which channels an expression may name: own and far ones below these.
 #[derive(Clone, Copy)]

@@ -7,6 +7,7 @@
 mod charge;
 mod deck;
 mod expression;
+mod faults;
 mod firing;
 mod state;
 
@@ -45,13 +46,13 @@ impl Engine {
         Engine { tables: Tables::new(), charges: Charges::new(), memo: Memo::new(), seen: Seen::new() }
     }
 
-    /// Tests a deck: 1 to 8.
+    /// Tests a deck: 1 to 8, 18 and 19.
     fn pass(&mut self, deck: &[u8]) -> Result<(), Refusal> {
         self.tables.read(deck)?;
         self.charges.measure(&self.tables)
     }
 
-    /// Tests a deck and the pool's length: 1 to 9.
+    /// Tests a deck, then the pool's length (9).
     fn pass_with_pool(&mut self, deck: &[u8], memory: &Memory) -> Result<(), Refusal> {
         self.pass(deck)?;
         let length = memory.pool.len();
@@ -61,7 +62,7 @@ impl Engine {
         Ok(())
     }
 
-    /// Tests a deck, the pool's length and the state: 1 to 10. The answer is the state's charge.
+    /// Tests a deck and the pool's length, then the state (10). The answer is the state's charge.
     fn pass_with_state(&mut self, deck: &[u8], memory: &Memory) -> Result<u32, Refusal> {
         self.pass_with_pool(deck, memory)?;
         state::judge(&self.tables, &self.charges, &mut self.memo, &mut self.seen, memory).ok_or(refuse(10))

@@ -1,8 +1,8 @@
--- `fields::judged` meets its contract: each of the two tests answers for its kind. Assumes nothing.
+-- `fields::is_whole` meets its contract: each of the two tests answers for its kind. Assumes nothing.
 use borrow.Author.Needs.{needs}
 use Rattle.deck.specs.Marks.{scopeOf}
-use Rattle.fields.proofs.judged.Statement.{statement}
-use Rattle.fields.proofs.judged.Tie as tie
+use Rattle.fields.proofs.is_whole.Statement.{statement}
+use Rattle.fields.proofs.is_whole.Tie as tie
 
 is-truth-requires : tie.Need-is-truth-requires
 is-truth-requires c κs = search needs
@@ -18,5 +18,5 @@ returns-2 : tie.Need-returns-2
 unfolding scopeOf
 returns-2 c = rw (c .before .if1 .left) (c .is-num .ensures)
 
-pub judged-spec : {M : Type 1} → statement M
-judged-spec = tie.close (tie.spec is-truth-requires is-num-requires returns returns-2)
+pub is-whole-spec : {M : Type 1} → statement M
+is-whole-spec = tie.close (tie.spec is-truth-requires is-num-requires returns returns-2)
