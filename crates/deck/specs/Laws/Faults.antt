@@ -65,23 +65,39 @@ not-both n (inr e) (inr (inr f)) = omega arith
 abbrev Again : {A : Type 0} → From A → ℕ → ℕ → ℕ → ℕ → List ℕ → Type 0
 Again r at n p k s = (r s ≡ refused n p) ⊎ ((r s ≡ refused deckEnds (at + length s)) × (length s < k))
 
--- n at p is the first fault of one expression: its bytes stand among s, which begins at the offset `at`
+-- n at an offset is the first fault of an expression's bytes alone: they are to be a truth or a number, and an own channel is known
+pub record FirstFaultOf (content : List ℕ) (n offset : ℕ) : Type 0 where
+  pub truth : Bool
+  pub scope : Scope
+  pub known : 0 < scope .owns
+  pub found : firstFault scope (awaitedFor truth ∷ []) content 0 ≡ faulty n offset
+
+-- n at p is the first fault of one expression, which stands with its length byte among s; s begins at the offset `at`
 pub record FoundIn (s : List ℕ) (at n p : ℕ) : Type 0 where
   pub before : List ℕ
   pub content : List ℕ
   pub rest : List ℕ
-  pub bytes : s ≡ before ++ (content ++ rest)
-  -- a truth or a number, and the channels that are known there: an own one is
-  pub truth : Bool
-  pub scope : Scope
-  pub known : 0 < scope .owns
-  -- what is found of the bytes alone
+  pub bytes : s ≡ before ++ (length content ∷ (content ++ rest))
   pub offset : ℕ
-  pub found : firstFault scope (awaitedFor truth ∷ []) content 0 ≡ faulty n offset
-  pub place : p ≡ at + length before + offset
+  pub first : FirstFaultOf content n offset
+  pub place : p ≡ at + length before + 1 + offset
+
+-- where a fault in an expression comes from
+abbrev Origin : Type 1
+Origin = List ℕ → ℕ → ℕ → ℕ → Type 0
+
+-- the expression is the first k bytes of s
+record FoundFirst (k : ℕ) (s : List ℕ) (at n p : ℕ) : Type 0 where
+  pub content : List ℕ
+  pub rest : List ℕ
+  pub bytes : s ≡ content ++ rest
+  pub size : length content ≡ k
+  pub offset : ℕ
+  pub first : FirstFaultOf content n offset
+  pub place : p ≡ at + offset
 
 -- a word shows the fault, whatever follows; of 2 and 4 the place is the word's last byte. And so does what stands up to the place
-record Shows {A : Type 0} (r : From A) (at : ℕ) (s : List ℕ) (n p : ℕ) : Type 0 where
+record Shows {A : Type 0} (O : Origin) (r : From A) (at : ℕ) (s : List ℕ) (n p : ℕ) : Type 0 where
   pub word : List ℕ
   pub rest : List ℕ
   pub bytes : s ≡ word ++ rest
@@ -92,16 +108,16 @@ record Shows {A : Type 0} (r : From A) (at : ℕ) (s : List ℕ) (n p : ℕ) : T
   pub last : AtOnce n → suc p ≡ at + length word
   pub always : (t : List ℕ) → r (word ++ t) ≡ refused n p
   pub again : (t : List ℕ) → Again r at n p (length word) (take (suc p - at) word ++ t)
-  pub origin : InExpression n → FoundIn s at n p
+  pub origin : InExpression n → O s at n p
 
-data Sees {A : Type 0} (r : From A) (at : ℕ) (s : List ℕ) : Outcome (Got A) → Type 0 where
-  takes : {g : Got A} → Takes r at s g → Sees r at s (accepted g)
-  ends : {n p : ℕ} → n ≡ deckEnds → p ≡ at + length s → Sees r at s (refused n p)
-  shows : {n p : ℕ} → Shows r at s n p → Sees r at s (refused n p)
+data Sees {A : Type 0} (O : Origin) (r : From A) (at : ℕ) (s : List ℕ) : Outcome (Got A) → Type 0 where
+  takes : {g : Got A} → Takes r at s g → Sees O r at s (accepted g)
+  ends : {n p : ℕ} → n ≡ deckEnds → p ≡ at + length s → Sees O r at s (refused n p)
+  shows : {n p : ℕ} → Shows O r at s n p → Sees O r at s (refused n p)
 
 -- wherever it begins
 abbrev Looks : {A : Type 0} → Reader A → Type 0
-Looks r = (s : List ℕ) (at : ℕ) → Sees (λ t. r t at) at s (r s at)
+Looks r = (s : List ℕ) (at : ℕ) → Sees FoundIn (λ t. r t at) at s (r s at)
 
 -- ---- one reader after the other
 
@@ -124,8 +140,20 @@ module _ {A B : Type 0} (r : From A) (f : A → Reader B) (at : ℕ) (s : List �
     further : (v : List ℕ) → g .at + length v ≡ at + length (w .word ++ v)
     further v = omega (arith, w .place, length-append (w .word) v)
 
-    second : (o : Outcome (Got B)) → Sees (λ t. f (g .value) t (g .at)) (g .at) (g .rest) o → Sees both at s o
-    second (accepted h) (takes x) =
+    further-in : (n p : ℕ) → FoundIn (g .rest) (g .at) n p → FoundIn s at n p
+    further-in n p x = record {
+      before = w .word ++ x .before;
+      content = x .content;
+      rest = x .rest;
+      bytes = joined (x .before) (length (x .content) ∷ (x .content ++ x .rest)) (x .bytes);
+      offset = x .offset;
+      first = x .first;
+      place = omega (arith, x .place, further (x .before));
+    }
+
+    second : (O : Origin) → ((n p : ℕ) → O (g .rest) (g .at) n p → FoundIn s at n p) → (o : Outcome (Got B))
+        → Sees O (λ t. f (g .value) t (g .at)) (g .at) (g .rest) o → Sees FoundIn both at s o
+    second O move (accepted h) (takes x) =
         takes (record {
           word = w .word ++ x .word;
           bytes = joined (x .word) (h .rest) (x .bytes);
@@ -133,9 +161,9 @@ module _ {A B : Type 0} (r : From A) (f : A → Reader B) (at : ℕ) (s : List �
           always = λ t. behind (x .word) t ∙ x .always t
               ∙ ap (λ k. accepted (record { value = h .value; rest = t; at = k })) (further (x .word));
         })
-    second (refused n p) (ends e i) =
+    second O move (refused n p) (ends e i) =
         ends {p = p} e (omega (arith, i, w .place, length-append (w .word) (g .rest), ap length (w .bytes)))
-    second (refused n p) (shows x) =
+    second O move (refused n p) (shows x) =
         shows {p = p} (record {
           word = w .word ++ x .word;
           rest = x .rest;
@@ -149,10 +177,10 @@ module _ {A B : Type 0} (r : From A) (f : A → Reader B) (at : ℕ) (s : List �
           again = λ t.
               subst (λ u. Again both at n p (length (w .word ++ x .word)) (u ++ t)) (sym (up-to n p x))
               (so-far n p (x .word) (take (suc p - g .at) (x .word)) t (x .again t));
-          origin = λ h. further-in n p (x .origin h);
+          origin = λ h. move n p (x .origin h);
         })
       where
-        up-to : (n p : ℕ) (x : Shows (λ t. f (g .value) t (g .at)) (g .at) (g .rest) n p)
+        up-to : (n p : ℕ) (x : Shows O (λ t. f (g .value) t (g .at)) (g .at) (g .rest) n p)
             → take (suc p - at) (w .word ++ x .word) ≡ w .word ++ take (suc p - g .at) (x .word)
         up-to n p x =
             let k : suc p - at ≡ length (w .word) + (suc p - g .at) = omega (arith, x .from, w .place) in
@@ -167,27 +195,15 @@ module _ {A B : Type 0} (r : From A) (f : A → Reader B) (at : ℕ) (s : List �
             let size : g .at + length (v ++ t) ≡ at + length ((w .word ++ v) ++ t) = omega (arith, w .place, longer) in
             inr (behind v t ∙ e ∙ ap (λ k. refused deckEnds k) size, omega (arith, l, longer, length-append (w .word) all))
 
-        further-in : (n p : ℕ) → FoundIn (g .rest) (g .at) n p → FoundIn s at n p
-        further-in n p x = record {
-          before = w .word ++ x .before;
-          content = x .content;
-          rest = x .rest;
-          bytes = joined (x .before) (x .content ++ x .rest) (x .bytes);
-          truth = x .truth;
-          scope = x .scope;
-          known = x .known;
-          offset = x .offset;
-          found = x .found;
-          place = omega (arith, x .place, further (x .before));
-        }
-
-  then-sees : (o : Outcome (Got A)) → Sees r at s o
-      → ((g : Got A) → o ≡ accepted g → Sees (λ t. f (g .value) t (g .at)) (g .at) (g .rest) (f (g .value) (g .rest) (g .at)))
-      → Sees both at s (andThen o f)
+  -- faults in an expression that the second reader finds are moved
+  then-moves : (O : Got A → Origin) (o : Outcome (Got A)) → Sees FoundIn r at s o
+      → ((g : Got A) → o ≡ accepted g → Sees (O g) (λ t. f (g .value) t (g .at)) (g .at) (g .rest) (f (g .value) (g .rest) (g .at)))
+      → ((g : Got A) → o ≡ accepted g → Takes r at s g → (n p : ℕ) → O g (g .rest) (g .at) n p → FoundIn s at n p)
+      → Sees FoundIn both at s (andThen o f)
   unfolding andThen
-  then-sees (accepted g) (takes w) k = second g w (f (g .value) (g .rest) (g .at)) (k g refl)
-  then-sees (refused n p) (ends e i) k = ends e i
-  then-sees (refused n p) (shows x) k =
+  then-moves O (accepted g) (takes w) k move = second g w (O g) (move g refl w) (f (g .value) (g .rest) (g .at)) (k g refl)
+  then-moves O (refused n p) (ends e i) k move = ends e i
+  then-moves O (refused n p) (shows x) k move =
       shows (record {
         word = x .word;
         rest = x .rest;
@@ -201,6 +217,11 @@ module _ {A B : Type 0} (r : From A) (f : A → Reader B) (at : ℕ) (s : List �
         again = λ t. ⊎-elim (λ e. inl (ap (λ o. andThen o f) e)) (λ e. inr (ap (λ o. andThen o f) (e .0), e .1)) (x .again t);
         origin = x .origin;
       })
+
+  then-sees : (o : Outcome (Got A)) → Sees FoundIn r at s o
+      → ((g : Got A) → o ≡ accepted g → Sees FoundIn (λ t. f (g .value) t (g .at)) (g .at) (g .rest) (f (g .value) (g .rest) (g .at)))
+      → Sees FoundIn both at s (andThen o f)
+  then-sees o x k = then-moves (λ _. FoundIn) o x k (λ g _ w. further-in g w)
 
 then-looks : {A B : Type 0} (r : Reader A) (f : A → Reader B) → Looks r → ((a : A) → Looks (f a)) → Looks (λ s at. andThen (r s at) f)
 then-looks r f x y s at = then-sees (λ t. r t at) f at s (r s at) (x s at) (λ g _. y (g .value) (g .rest) (g .at))
@@ -219,7 +240,7 @@ give-looks a s at =
 
 -- a fault of the last byte that was read
 fault-sees : {A : Type 0} (n p : ℕ) → AtOnce n → (s : List ℕ) (at : ℕ) → suc p ≡ at
-    → Sees {A = A} (λ t. fault n p t at) at s (fault n p s at)
+    → Sees {A = A} FoundIn (λ t. fault n p t at) at s (fault n p s at)
 unfolding fault
 fault-sees n p shown s at e =
     shows {p = p} (record {
@@ -238,7 +259,7 @@ fault-sees n p shown s at e =
 
 -- a test of the last byte that was read
 require-sees : {A : Type 0} (b : Bool) (n p : ℕ) → AtOnce n → (q : Reader A) (s : List ℕ) (at : ℕ) → suc p ≡ at
-    → Sees (λ t. q t at) at s (q s at) → Sees (λ t. (require b n p >> q) t at) at s ((require b n p >> q) s at)
+    → Sees FoundIn (λ t. q t at) at s (q s at) → Sees FoundIn (λ t. (require b n p >> q) t at) at s ((require b n p >> q) s at)
 unfolding require _>>_ andThen give fault
 require-sees true n p shown q s at e x = x
 require-sees false n p shown q s at e x = fault-sees n p shown s at e
@@ -255,16 +276,20 @@ byte-looks (b ∷ s) at =
     })
 
 -- a byte that was read as a number is one byte, in its range
-number-took : (lo hi : ℕ) (s : List ℕ) (at : ℕ) (g : Got ℕ) → number lo hi s at ≡ accepted g → (lo ≤ g .value) × (suc at ≡ g .at)
+number-took : (lo hi : ℕ) (s : List ℕ) (at : ℕ) (g : Got ℕ) → number lo hi s at ≡ accepted g
+    → (lo ≤ g .value) × (suc at ≡ g .at) × (s ≡ g .value ∷ g .rest)
 unfolding readers
 number-took lo hi [] at g e = refused≢accepted e
 number-took lo hi (b ∷ s) at g e = go (leb lo b && ltb b hi) refl e
   where
     go : (t : Bool) → (leb lo b && ltb b hi) ≡ t → (require t outOfRange at >> give b) s (suc at) ≡ accepted g
-        → (lo ≤ g .value) × (suc at ≡ g .at)
+        → (lo ≤ g .value) × (suc at ≡ g .at) × (b ∷ s ≡ g .value ∷ g .rest)
     go true h f =
-        let same = accepted-inj f in
-        (subst (λ (k : Got ℕ). lo ≤ k .value) same (leb-true lo b (and-left (leb lo b) (ltb b hi) h)), ap (λ (k : Got ℕ). k .at) same)
+        let same = accepted-inj f in (
+          subst (λ (k : Got ℕ). lo ≤ k .value) same (leb-true lo b (and-left (leb lo b) (ltb b hi) h)),
+          ap (λ (k : Got ℕ). k .at) same,
+          ap (λ (k : Got ℕ). k .value ∷ k .rest) same,
+        )
     go false h f = refused≢accepted f
 
 number-looks : (lo hi : ℕ) → Looks (number lo hi)
@@ -295,35 +320,25 @@ value-looks =
 
 -- ---- expressions
 
--- what is found of an expression's bytes: where it stands, that they are not read, and that it is their first fault
+-- what is found of an expression's bytes: where it stands, that they are not read, and that it is the first fault of these bytes alone
 record Finds {A : Type 0} (j : Expected A) : Type 0 where
-  pub truth : Bool
-  pub scope : Scope
-  pub known : 0 < scope .owns
   pub shown : (s : List ℕ) (at : ℕ) {n p : ℕ} → j .find s at ≡ faulty n p → ShownAt (j .find) s at n p
   pub none : (s : List ℕ) (at : ℕ) {n p : ℕ} → j .find s at ≡ faulty n p → isGot (j .whole s) ≡ false
-  pub alone : (s : List ℕ) (at : ℕ) {n p : ℕ} → j .find s at ≡ faulty n p
-      → firstFault scope (awaitedFor truth ∷ []) s 0 ≡ faulty n (p - at)
+  pub first : (s : List ℕ) (at : ℕ) {n p : ℕ} → j .find s at ≡ faulty n p → FirstFaultOf s n (p - at)
 
 module _ (sc : Scope) (own : 0 < sc .owns) where
   numbers-find : Finds (numbers sc)
   numbers-find = record {
-    truth = false;
-    scope = sc;
-    known = own;
     shown = shown-at sc (aNumber ∷ []);
     none = λ s at. nothing-if-faulty (wholeNum sc s) (numFault sc s at) (num-agrees sc s at);
-    alone = fault-at-0 sc (aNumber ∷ []);
+    first = λ s at e. record { truth = false; scope = sc; known = own; found = fault-at-0 sc (aNumber ∷ []) s at e };
   }
 
   truths-find : Finds (truths sc)
   truths-find = record {
-    truth = true;
-    scope = sc;
-    known = own;
     shown = shown-at sc (aTruth ∷ []);
     none = λ s at. nothing-if-faulty (wholeTruth sc s) (truthFault sc s at) (truth-agrees sc s at);
-    alone = fault-at-0 sc (aTruth ∷ []);
+    first = λ s at e. record { truth = true; scope = sc; known = own; found = fault-at-0 sc (aTruth ∷ []) s at e };
   }
 
 -- the bytes behind a length byte
@@ -385,7 +400,7 @@ module _ {A : Type 0} (j : Expected A) (x : Finds j) (n at : ℕ) where
         go true e = inl (there (leb-true n (length (v ++ t)) e) (ltb p (at + length u)) refl)
         go false e = let l = leb-false n (length (v ++ t)) e in inr (content-short (v ++ t) l, omega arith)
 
-    content-shows : (t : List ℕ) {m p : ℕ} → j .find u at ≡ faulty m p → Shows content at (u ++ t) m p
+    content-shows : (t : List ℕ) {m p : ℕ} → j .find u at ≡ faulty m p → Shows (FoundFirst n) content at (u ++ t) m p
     content-shows t {m} {p} k =
         let f = x .shown u at k in
         record {
@@ -400,22 +415,19 @@ module _ {A : Type 0} (j : Expected A) (x : Finds j) (n at : ℕ) where
           always = λ t. content-refused u t size k;
           again = content-again k;
           origin = λ _. record {
-            before = [];
             content = u;
             rest = t;
             bytes = refl;
-            truth = x .truth;
-            scope = x .scope;
-            known = x .known;
+            size = size;
             offset = p - at;
-            found = x .alone u at k;
+            first = x .first u at k;
             place = omega (arith, f .from);
           };
         }
 
-    content-takes : (t : List ℕ) {a : A} {m : ℕ} → j .whole u ≡ got a m → Sees content at (u ++ t) (content (u ++ t))
+    content-takes : (t : List ℕ) {a : A} {m : ℕ} → j .whole u ≡ got a m → Sees (FoundFirst n) content at (u ++ t) (content (u ++ t))
     content-takes t {a} e =
-        subst (λ o. Sees content at (u ++ t) o) (sym (read t))
+        subst (λ o. Sees (FoundFirst n) content at (u ++ t) o) (sym (read t))
         (takes {g = record { value = a; rest = t; at = at + n }} (record {
           word = u;
           bytes = refl;
@@ -426,28 +438,45 @@ module _ {A : Type 0} (j : Expected A) (x : Finds j) (n at : ℕ) where
         read : (r : List ℕ) → content (u ++ r) ≡ accepted (record { value = a; rest = r; at = at + n })
         read r = content-there u r size ∙ judged-read (j .whole u) (j .find u at) (j .has-fault u at) r (at + n) e
 
-    content-sees : (t : List ℕ) → Sees content at (u ++ t) (content (u ++ t))
+    content-sees : (t : List ℕ) → Sees (FoundFirst n) content at (u ++ t) (content (u ++ t))
     content-sees t = go (j .whole u) refl (j .find u at) refl
       where
-        go : (r : Read A) → j .whole u ≡ r → (f : Found) → j .find u at ≡ f → Sees content at (u ++ t) (content (u ++ t))
+        go : (r : Read A) → j .whole u ≡ r → (f : Found) → j .find u at ≡ f → Sees (FoundFirst n) content at (u ++ t) (content (u ++ t))
         go (got a m) e f k = content-takes t e
         go nothing e sound k = absurd (j .has-fault u at e k)
-        go nothing e (faulty m p) k = subst (λ o. Sees content at (u ++ t) o) (sym (content-refused u t size k)) (shows (content-shows t k))
+        go nothing e (faulty m p) k =
+            subst (λ o. Sees (FoundFirst n) content at (u ++ t) o) (sym (content-refused u t size k)) (shows (content-shows t k))
 
-  content-looks : (s : List ℕ) → Sees content at s (content s)
+  content-looks : (s : List ℕ) → Sees (FoundFirst n) content at s (content s)
   content-looks s = go (leb n (length s)) refl
     where
-      go : (b : Bool) → leb n (length s) ≡ b → Sees content at s (content s)
+      go : (b : Bool) → leb n (length s) ≡ b → Sees (FoundFirst n) content at s (content s)
       go true e =
-          subst (λ s. Sees content at s (content s)) (take-append-drop n s)
+          subst (λ s. Sees (FoundFirst n) content at s (content s)) (take-append-drop n s)
           (content-sees (take n s) (length-take-le n s (leb-true n (length s) e)) (drop n s))
-      go false e = subst (λ o. Sees content at s o) (sym (content-short s (leb-false n (length s) e))) (ends refl refl)
+      go false e = subst (λ o. Sees (FoundFirst n) content at s o) (sym (content-short s (leb-false n (length s) e))) (ends refl refl)
 
 expression-looks : {A : Type 0} (j : Expected A) → Finds j → Looks (expression j)
 unfolding expression readers
 expression-looks j x s at =
-    then-sees (λ t. number 1 (suc (limits .expression)) t at) _ at s _ (number-looks 1 (suc (limits .expression)) s at)
-    (λ n e. content-looks j x (n .value) (n .at) (n .rest))
+    then-moves (λ t. number 1 (suc (limits .expression)) t at) _ at s (λ n. FoundFirst (n .value)) _
+    (number-looks 1 (suc (limits .expression)) s at)
+    (λ n e. content-looks j x (n .value) (n .at) (n .rest)) (λ n e _. counted n e)
+  where
+    -- with the length byte
+    counted : (n : Got ℕ) → number 1 (suc (limits .expression)) s at ≡ accepted n
+        → (m p : ℕ) → FoundFirst (n .value) (n .rest) (n .at) m p → FoundIn s at m p
+    counted n e m p y =
+        let took = number-took 1 (suc (limits .expression)) s at n e in
+        record {
+          before = [];
+          content = y .content;
+          rest = y .rest;
+          bytes = took .2 ∙ ap₂ (λ k l. k ∷ l) (sym (y .size)) (y .bytes);
+          offset = y .offset;
+          first = y .first;
+          place = omega (arith, y .place, took .1);
+        }
 
 -- ---- rules and parts
 
@@ -573,7 +602,7 @@ read-front : (s : List ℕ) (o : Outcome (Got Layout)) → front s ≡ o → rea
 unfolding read
 read-front s o e = ap valueOf (sections-closed .closes s 0 ∙ ap (λ o. andThen o closing) e)
 
-sees : (s : List ℕ) → Sees front 0 s (front s)
+sees : (s : List ℕ) → Sees FoundIn front 0 s (front s)
 sees s = sections-closed .looks tt s 0
 
 read-refused : (s : List ℕ) (n p : ℕ) → front s ≡ refused n p → read s ≡ refused n p
@@ -607,7 +636,7 @@ pub record FaultAt (bytes : List ℕ) (n p : ℕ) : Type 0 where
   -- nor do 3, 18 and 19, unless the deck is shorter now and ends before all bytes of the expression are there
   pub found : InExpression n → (t : List ℕ)
       → let s = take (suc p) bytes ++ t in (read s ≡ refused n p) ⊎ ((read s ≡ refused deckEnds (length s)) × (length s < length bytes))
-  -- they are the first fault of one expression
+  -- they are the first fault of one expression, behind its length byte
   pub origin : InExpression n → FoundIn bytes 0 n p
 
 -- 1 and 5 are neither 2 nor 4, nor faults in an expression
@@ -636,7 +665,7 @@ module _ (s : List ℕ) (n p : ℕ) where
         origin = λ h. absurd (neither n (inl e) (inr h));
       }
 
-  module _ (x : Shows front 0 s n p) where
+  module _ (x : Shows FoundIn front 0 s n p) where
     whole : length s ≡ length (x .word) + length (x .rest)
     whole = ap length (x .bytes) ∙ length-append (x .word) (x .rest)
 
@@ -723,7 +752,7 @@ read-behind s g e = read-front s (accepted g) e
 pub read-fault : (bytes : List ℕ) (n p : ℕ) → read bytes ≡ refused n p → FaultAt bytes n p
 read-fault s n p h = go (front s) refl (sees s)
   where
-    go : (o : Outcome (Got Layout)) → front s ≡ o → Sees front 0 s o → FaultAt s n p
+    go : (o : Outcome (Got Layout)) → front s ≡ o → Sees FoundIn front 0 s o → FaultAt s n p
     go (accepted g) e (takes w) =
         let f = follows-only (g .value) (g .rest) (g .at) n p (sym (read-behind s g e) ∙ h) in
         let whole = ap length (w .bytes) ∙ length-append (w .word) (g .rest) in
@@ -734,7 +763,8 @@ read-fault s n p h = go (front s) refl (sees s)
     go (refused m q) e (shows x) =
         let same = sym h ∙ read-refused s m q e in
         fault-shows s n p
-        (subst (λ k. Shows front 0 s k p) (sym (number-inj same)) (subst (λ k. Shows front 0 s m k) (sym (place-inj same)) x))
+        (subst (λ k. Shows FoundIn front 0 s k p) (sym (number-inj same))
+        (subst (λ k. Shows FoundIn front 0 s m k) (sym (place-inj same)) x))
 
 -- the bytes before place p are a whole deck, and one follows
 abbrev pub WholeBefore : List ℕ → ℕ → Type 0
@@ -744,7 +774,7 @@ module _ (s : List ℕ) (p : ℕ) where
   five-whole : read s ≡ refused bytesFollow p → WholeBefore s p
   five-whole h = go (front s) refl (sees s)
     where
-      go : (o : Outcome (Got Layout)) → front s ≡ o → Sees front 0 s o → WholeBefore s p
+      go : (o : Outcome (Got Layout)) → front s ≡ o → Sees FoundIn front 0 s o → WholeBefore s p
       go (accepted g) e (takes w) =
           let f = follows-only (g .value) (g .rest) (g .at) bytesFollow p (sym (read-behind s g e) ∙ h) in
           let whole = ap length (w .bytes) ∙ length-append (w .word) (g .rest) in
@@ -764,7 +794,7 @@ module _ (s : List ℕ) (p : ℕ) where
   whole-five : WholeBefore s p → read s ≡ refused bytesFollow p
   whole-five (below, (l, h)) = go (front (take p s)) refl (sees (take p s))
     where
-      go : (o : Outcome (Got Layout)) → front (take p s) ≡ o → Sees front 0 (take p s) o → read s ≡ refused bytesFollow p
+      go : (o : Outcome (Got Layout)) → front (take p s) ≡ o → Sees FoundIn front 0 (take p s) o → read s ≡ refused bytesFollow p
       go (accepted g) e (takes w) =
           let none = closes-empty (g .value) (g .rest) (g .at) l (sym (read-behind (take p s) g e) ∙ h) in
           let word : w .word ≡ take p s = sym (append-nil (w .word)) ∙ ap (λ r. w .word ++ r) (sym none) ∙ sym (w .bytes) in
