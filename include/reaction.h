@@ -1,4 +1,4 @@
-/* The reaction engine: six calls over memory that the host owns.
+/* The reaction engine: seven calls over memory that the host owns.
  *
  * Every call returns the number of its refusal, or 0 when it is accepted. Whatever the numbers behind the pointers are, a call
  * ends with one or the other. A refused call changes nothing but `answer`, with two exceptions: reaction_section makes its stretch
@@ -27,18 +27,25 @@
  *         is not allowed there                                                gives the value
  *     19  an expression ends early or has bytes left over                     offset of the first byte behind
  *                                                                             it, or of the first left over
+ *     20  a default action is not empty                                       offset of its count
+ *     21  the conversion would have more than 64 rules                        0
+ *     22  the buffer is shorter than the new deck                             0
  *
- * Where several hold, one of 1, 2, 3, 4, 18 and 19 goes before all others, the first in reading order; the rest go by rising
+ * Where several hold, one of 1, 2, 3, 4, 18, 19 and 20 goes before all others, the first in reading order; the rest go by rising
  * number, but 17 comes after 12 and before 13. An expression is judged when all bytes that its length counts are there: a deck
  * that ends before them is refused by 1. At one byte of an expression, 19 for a missing byte goes before 3, and 3 before 18. The
  * place of 19 may be the deck's length, where an expression ends early and nothing follows: there is no byte to read there.
+ *
+ * Two forms. The rules of an old deck may have default actions, of one to four assignments; a new deck has none, and the counts
+ * of its default actions are 0. reaction_convert takes old decks and never answers 20. All other calls take new ones: there a
+ * default action's count above 4 is refused by 2, and one from 1 to 4 by 20.
  *
  * Memory. `deck` and its length are the deck's bytes. `pool` and its length are the lent places, ten numbers each: part,
  * assignment count, four pairs of channel and value. `values` (channel c of part p at 32 * p + c) and `*pending` are the state.
  * A length is that of the array behind its pointer: `pool_length` and `pairs_length` count numbers, not places or pairs. What a
  * call is lent must not overlap, and no other thread may write it during the call; a null pointer is allowed only with a length
  * of 0. A call allocates nothing and keeps no pointer. It needs up to 640 KiB of stack, and up to 64 KiB where the pool has at
- * most 2,048 places.
+ * most 2,048 places or the call is lent none.
  *
  * Answer. `answer[0]` is the refusal's place, 0 when the call is accepted. The other four are the call's answer numbers, in the
  * order below, and 0 where it has none or was refused.
@@ -54,12 +61,13 @@ extern "C" {
 #endif
 
 enum {
-    REACTION_VALUES = 512,        /* numbers of a value table */
-    REACTION_CHANNELS = 32,       /* channels of a part in it */
-    REACTION_PLACE = 10,          /* numbers of a place of the pool */
-    REACTION_PLACES = 65535,      /* places of the longest pool */
-    REACTION_ANSWER = 5,          /* numbers of an answer */
-    REACTION_LONGEST_DECK = 42883 /* bytes of the longest deck that can pass */
+    REACTION_VALUES = 512,            /* numbers of a value table */
+    REACTION_CHANNELS = 32,           /* channels of a part in it */
+    REACTION_PLACE = 10,              /* numbers of a place of the pool */
+    REACTION_PLACES = 65535,          /* places of the longest pool */
+    REACTION_ANSWER = 5,              /* numbers of an answer */
+    REACTION_LONGEST_DECK = 25987,    /* bytes of the longest new deck that can pass */
+    REACTION_LONGEST_OLD_DECK = 42883 /* bytes of the longest old one */
 };
 
 /* A stretch of a deck: it points into the deck that the call was given. It is lent to the call as it stands, so that it must be
@@ -99,6 +107,15 @@ uint32_t reaction_commit(const uint8_t *deck, size_t deck_length, int32_t *pool,
 uint32_t reaction_settle(const uint8_t *deck, size_t deck_length, int32_t *pool, size_t pool_length,
                          int32_t values[REACTION_VALUES], uint32_t *pending, uint32_t budget,
                          uint32_t answer[REACTION_ANSWER]);
+
+/* Writes an old deck as a new one to the front of `buffer` and leaves the rest of it as it was. answer[1]: the new deck's length,
+ * at most REACTION_LONGEST_DECK. From a fresh start the new deck answers every input, commit and settle as the old one did, and
+ * leaves the same memory; only what check and section say of it may differ. Each rule with a default action becomes two adjacent
+ * ones, first the default action "here" under the condition true, then the rest; the parts' lists of carried rules follow. A deck
+ * without default actions comes out as it was. Refused by 1 to 8, 18 and 19 as other calls refuse new decks, rules having their
+ * old numbers, then by 21, then by 22; the buffer stays as it was then. */
+uint32_t reaction_convert(const uint8_t *deck, size_t deck_length, uint8_t *buffer, size_t buffer_length,
+                          uint32_t answer[REACTION_ANSWER]);
 
 #ifdef __cplusplus
 }

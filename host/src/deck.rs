@@ -25,7 +25,8 @@ pub enum Section {
 }
 
 impl Deck {
-    /// The deck that these bytes are, or why they do not pass.
+    /// The deck that these bytes are, or why they do not pass. A deck with default actions is refused by 20: see
+    /// [`Deck::convert`].
     ///
     /// ```
     /// use reaction::Deck;
@@ -40,6 +41,31 @@ impl Deck {
         let bytes = bytes.into();
         let [channels, rules, parts, largest_charge] = raw::check(&bytes).result()?;
         Ok(Deck { bytes, channels, rules, parts, largest_charge })
+    }
+
+    /// The new deck that an old one becomes, or why the old one does not pass. Rules of an old deck may have default
+    /// actions, and each of those becomes two rules; from a fresh start the new deck gives every input, commit and
+    /// settle what the old one gave.
+    ///
+    /// ```
+    /// use reaction::Deck;
+    ///
+    /// // Channels a and b; a rule with event a, the default action b = a and no other action; a part that carries it.
+    /// let old = b"\x02ab\x01\x01\x00\x01\x01\x02\x01\x00\x00\x01\x11\x00\x01\0\0\0\0\0\0\0\0\x01\x00\x01\x11";
+    /// assert_eq!(Deck::check(old).unwrap_err().to_string(), "refused 20 6: a default action is not empty");
+    /// let deck = Deck::convert(old)?;
+    /// assert_eq!(deck.rules(), 2);
+    /// // It is done once: a new deck stays as it is.
+    /// assert_eq!(Deck::convert(deck.bytes())?, deck);
+    /// # Ok::<(), reaction::Refusal>(())
+    /// ```
+    pub fn convert(old: &[u8]) -> Result<Deck, Refusal> {
+        // No new deck is longer, so the buffer is never too short.
+        let mut bytes = vec![0; raw::LONGEST_DECK];
+        let [length, ..] = raw::convert(old, &mut bytes).result()?;
+        bytes.truncate(length as usize);
+        bytes.shrink_to_fit();
+        Deck::check(bytes)
     }
 
     /// The deck's bytes.

@@ -5,6 +5,8 @@
 //! declines with a [`Refusal`]; a declined call changes nothing. ([`raw::Memory::start`] alone zeroes the
 //! state where it is declined; where [`Rig::start`] is, there is no rig.)
 //!
+//! Decks whose rules have default actions are old ones: [`Deck::convert`] makes new decks of them.
+//!
 //! ```
 //! use reaction::{Commit, Deck, Rig};
 //!

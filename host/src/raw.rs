@@ -1,7 +1,7 @@
-//! The six calls on memory of any content, as the archive has them.
+//! The seven calls on memory of any content, as the archive has them.
 //!
-//! The functions [`check`] and [`section`] and those of [`Memory`] lend slices to the archive's functions,
-//! whose declarations stand here too. The engine tests everything that it is lent, so a host may put any
+//! The functions [`check`], [`section`] and [`convert`] and those of [`Memory`] lend slices to the archive's
+//! functions, whose declarations stand here too. The engine tests everything that it is lent, so a host may put any
 //! numbers into a `Memory`, a pool of any length included.
 //!
 //! ```
@@ -25,6 +25,10 @@ pub const CHANNELS: usize = 32;
 pub const PLACE: usize = 10;
 /// Numbers of an answer.
 pub const ANSWER: usize = 5;
+/// Bytes of the longest new deck that can pass.
+pub const LONGEST_DECK: usize = 25_987;
+/// Bytes of the longest old deck that can pass the converter's check.
+pub const LONGEST_OLD_DECK: usize = 42_883;
 
 /// A part of a deck's bytes.
 #[repr(C)]
@@ -105,6 +109,16 @@ unsafe extern "C" {
         budget: u32,
         answer: *mut u32,
     ) -> u32;
+
+    /// Writes an old deck as a new one to the front of the buffer, whose rest stays as it was; where refused, all of
+    /// it does. The answer: place; the new deck's length; zeros.
+    pub fn reaction_convert(
+        deck: *const u8,
+        deck_length: usize,
+        buffer: *mut u8,
+        buffer_length: usize,
+        answer: *mut u32,
+    ) -> u32;
 }
 
 /// The form of `reaction_commit` and `reaction_settle`.
@@ -168,6 +182,26 @@ pub fn section(deck: &[u8], number: u32) -> (Returned, &[u8]) {
     let start = (stretch.bytes as usize).wrapping_sub(deck.as_ptr() as usize);
     let bytes = deck.get(start..start.wrapping_add(stretch.length)).unwrap_or_default();
     (Returned { number: refused, answer }, bytes)
+}
+
+/// Writes an old deck as a new one to the front of a buffer, whose rest stays as it was; where refused, all of it does.
+/// [`LONGEST_DECK`] bytes are enough for every deck.
+///
+/// ```
+/// // Deck D has no default actions, so it comes out as it was.
+/// let deck = include_bytes!("../../crates/replay/data/d.deck");
+/// let mut buffer = [7; 80];
+/// assert_eq!(reaction::raw::convert(deck, &mut buffer).answer, [0, 75, 0, 0, 0]);
+/// assert_eq!((&buffer[..75], &buffer[75..]), (&deck[..], &[7; 5][..]));
+/// assert_eq!(reaction::raw::convert(deck, &mut buffer[..74]).number, 22);
+/// ```
+pub fn convert(deck: &[u8], buffer: &mut [u8]) -> Returned {
+    let mut answer = [0; ANSWER];
+    // Safety: slices and array are lent whole and do not overlap.
+    let number = unsafe {
+        reaction_convert(deck.as_ptr(), deck.len(), buffer.as_mut_ptr(), buffer.len(), answer.as_mut_ptr())
+    };
+    Returned { number, answer }
 }
 
 /// What a host lends to a call: the state and a pool, with any numbers in them.

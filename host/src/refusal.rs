@@ -3,7 +3,7 @@
 use std::error::Error;
 use std::fmt;
 
-/// Why a call declined: a number from 1 to 19, and where.
+/// Why a call declined: a number from 1 to 22, and where.
 ///
 /// ```
 /// use reaction::Deck;
@@ -22,7 +22,7 @@ use std::fmt;
 pub struct Refusal {
     /// Which refusal it is.
     pub number: u32,
-    /// For 1 the deck's length; for 2 to 5, 18 and 19 an offset into the deck; for 6 the part; for 7 the channel;
+    /// For 1 the deck's length; for 2 to 5 and 18 to 20 an offset into the deck; for 6 the part; for 7 the channel;
     /// for 8 64 times part + rule; otherwise 0.
     ///
     /// For 19 of an expression that ends early it is the offset of the first byte behind the expression, and so may
@@ -30,8 +30,8 @@ pub struct Refusal {
     pub place: u32,
 }
 
-/// What the refusals 1 to 19 say.
-const NAMES: [&str; 19] = [
+/// What the refusals 1 to 22 say.
+const NAMES: [&str; 22] = [
     "the deck ends inside a field or expression",
     "a number of the deck is out of its range, or a list does not rise",
     "an expression has an unknown operator or channel",
@@ -51,6 +51,9 @@ const NAMES: [&str; 19] = [
     "the input would leave its part outside its limit",
     "a value of an expression is of the wrong type, or a far channel is not allowed there",
     "an expression ends early or has bytes left over",
+    "a default action is not empty",
+    "the conversion would have more than 64 rules",
+    "the buffer is shorter than the new deck",
 ];
 
 impl Refusal {

@@ -1,7 +1,7 @@
 //! A null pointer is allowed where the length is 0.
 
 use reaction::raw::{
-    self, reaction_check, reaction_input, reaction_section, reaction_start, Memory, Stretch,
+    self, reaction_check, reaction_convert, reaction_input, reaction_section, reaction_start, Memory, Stretch,
 };
 use std::ptr::{null, null_mut};
 
@@ -11,13 +11,28 @@ const DECK: &[u8] = include_bytes!("../../crates/replay/data/d.deck");
 fn no_deck() {
     let mut answer = [7; raw::ANSWER];
     let mut stretch = Stretch { bytes: DECK.as_ptr(), length: 3 };
+    let mut buffer = [7; 3];
     // Safety: what has a length is lent whole.
     unsafe {
         assert_eq!((reaction_check(null(), 0, answer.as_mut_ptr()), answer), (1, [0; 5]));
         answer = [7; raw::ANSWER];
         assert_eq!(reaction_section(null(), 0, 0, &mut stretch, answer.as_mut_ptr()), 1);
+        assert_eq!((stretch.length, answer), (0, [0; 5]));
+        answer = [7; raw::ANSWER];
+        assert_eq!(reaction_convert(null(), 0, buffer.as_mut_ptr(), 3, answer.as_mut_ptr()), 1);
     }
-    assert_eq!((stretch.length, answer), (0, [0; 5]));
+    assert_eq!((buffer, answer), ([7; 3], [0; 5]));
+}
+
+#[test]
+fn no_buffer() {
+    for (deck, refused) in [(DECK, 22), (&DECK[..0], 1)] {
+        let mut answer = [7; raw::ANSWER];
+        // Safety: what has a length is lent whole.
+        let number =
+            unsafe { reaction_convert(deck.as_ptr(), deck.len(), null_mut(), 0, answer.as_mut_ptr()) };
+        assert_eq!((number, answer), (refused, [0; 5]));
+    }
 }
 
 /// A stretch as the header asks for it before the call.

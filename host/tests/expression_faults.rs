@@ -179,5 +179,5 @@ fn they_have_words() {
         "a value of an expression is of the wrong type, or a far channel is not allowed there"
     );
     assert_eq!(words(19), "an expression ends early or has bytes left over");
-    assert_eq!(words(20), "no refusal of the engine");
+    assert_eq!(words(23), "no refusal of the engine");
 }

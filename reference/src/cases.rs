@@ -1,8 +1,11 @@
 //! Small cases with what the reference answers, for comparison by slower means.
 
+use crate::conversion::convert;
+use crate::deck::Deck;
 use crate::engine::{check_line, section, start, Answer, Call};
-use crate::generate::calls::{any, bad_length, damage, hand_written, Known};
-use crate::generate::{self, deck, Kind};
+use crate::generate::calls::{any, bad_length, buffer_length, damage, hand_written, Known};
+use crate::generate::defaults::crowded;
+use crate::generate::{self, deck, old_deck, Kind};
 use crate::random::Random;
 use crate::refusal::{self, Refusal};
 use crate::script::Host;
@@ -19,8 +22,8 @@ pub struct Size {
 }
 
 impl Size {
-    /// Only a deck that is refused by 8 may be larger: with so few rules and parts
-    /// no charge would be above 65,535.
+    /// Only a deck that is refused by 8 or 21 may be larger: with so few rules and parts
+    /// no charge would be above 65,535, and no conversion would give 65 rules.
     pub const SMALL: Size = Size {
         deck: generate::Size { channels: 6, rules: 6, parts: 4, expression: 16 },
         places: 12,
@@ -37,6 +40,8 @@ pub enum Case {
     Check { deck: Vec<u8>, line: String },
     /// The stretch that section hands back, or its refusal.
     Section { deck: Vec<u8>, number: u32, answer: Result<Range<usize>, Refusal> },
+    /// What the converter writes to a buffer of this length, or its refusal.
+    Convert { deck: Vec<u8>, length: usize, answer: Result<Vec<u8>, Refusal> },
     /// A start on a pool that holds other numbers before.
     Start {
         deck: Vec<u8>,
@@ -78,6 +83,12 @@ impl Case {
         Case::Section { answer: section(&deck, number), number, deck }
     }
 
+    fn convert(deck: Vec<u8>, length: usize) -> Case {
+        let mut buffer = vec![0; length];
+        let written = convert(&deck, &mut buffer);
+        Case::Convert { answer: written.map(|length| buffer[..length].to_vec()), length, deck }
+    }
+
     fn start(deck: Vec<u8>, pool_before: Vec<i32>) -> Case {
         let mut pool_after = pool_before.clone();
         let (answer, state) = start(&deck, &mut pool_after);
@@ -93,6 +104,7 @@ impl Case {
         match self {
             Case::Check { deck, .. } => crate::check(deck).err().into_iter().collect(),
             Case::Section { answer, .. } => answer.clone().err().into_iter().collect(),
+            Case::Convert { answer, .. } => answer.clone().err().into_iter().collect(),
             Case::Start { answer, .. } => answer.err().into_iter().collect(),
             Case::Run { start, answers, .. } => {
                 start.err().into_iter().chain(answers.iter().filter_map(refused)).collect()
@@ -103,6 +115,11 @@ impl Case {
 
     fn is_accepted(&self) -> bool {
         self.refusals().is_empty()
+    }
+
+    /// Whether the converter split a rule.
+    fn splits(&self) -> bool {
+        matches!(self, Case::Convert { deck, answer: Ok(new), .. } if new != deck)
     }
 
     /// Whether this word is an answer in a list of calls.
@@ -132,16 +149,18 @@ struct Maker {
 impl Maker {
     fn case(&mut self, turn: usize) -> Case {
         match turn {
-            0..=18 => self.aimed(turn as u32 + 1),
-            19..=22 => {
-                let word = ANSWERS[turn - 19];
+            0..=21 => self.aimed(turn as u32 + 1),
+            22..=25 => {
+                let word = ANSWERS[turn - 22];
                 self.until(|maker| maker.run(Kind::Rich), |case| case.run_answers(word))
             }
-            23..=29 => {
+            26..=29 => {
                 let kind = self.random.pick(&[Kind::Rich, Kind::Rich, Kind::Valid]);
                 self.run(kind)
             }
-            30..=35 => self.memory(Kind::Rich),
+            30..=33 => self.memory(Kind::Rich),
+            34 => self.until(|maker| maker.convert(Kind::Rich), Case::splits),
+            35 => self.convert(Kind::Valid),
             36 => self.until(|maker| maker.section(Kind::Valid), Case::is_accepted),
             37 => self.until(|maker| maker.start(Kind::Valid), Case::is_accepted),
             38 => self.check(Kind::Valid),
@@ -172,7 +191,11 @@ impl Maker {
             refusal::DECK_ENDS..=refusal::BYTES_FOLLOW => self.any_call(Kind::Damaged),
             refusal::OPENS_OUTSIDE_LIMIT => self.any_call(Kind::Limit),
             refusal::CYCLE => self.any_call(Kind::Cyclic),
+            refusal::RULE_CHARGE if self.random.chance(20) => self.convert(Kind::Heavy),
             refusal::RULE_CHARGE => self.check(Kind::Heavy),
+            refusal::DEFAULT_ACTION => self.any_call(Kind::Defaults),
+            refusal::RULES_RESULT => self.convert_crowded(),
+            refusal::BUFFER_SHORT => self.convert(Kind::Rich),
             refusal::SECTION => self.section(Kind::Rich),
             refusal::POOL_LENGTH => self.any_call(Kind::Rich),
             refusal::BAD_STATE => self.memory(Kind::Rich),
@@ -183,12 +206,13 @@ impl Maker {
     }
 
     fn any_call(&mut self, kind: Kind) -> Case {
-        match self.random.below(10) {
+        match self.random.below(12) {
             0..=5 => self.check(kind),
             6 => self.section(kind),
             7 => self.start(kind),
             8 => self.memory(kind),
-            _ => self.run(kind),
+            9 => self.run(kind),
+            _ => self.convert(kind),
         }
     }
 
@@ -211,6 +235,23 @@ impl Maker {
     fn section(&mut self, kind: Kind) -> Case {
         let number = self.random.pick(&[0, 1, 2, 3, u32::MAX]);
         Case::section(self.deck(kind), number)
+    }
+
+    fn convert(&mut self, kind: Kind) -> Case {
+        let deck = old_deck(kind, &mut self.random, self.size.deck);
+        let length = buffer_length(&mut self.random, &deck) as usize;
+        Case::convert(deck, length)
+    }
+
+    /// One rule too many, or two; the buffer may be too short as well.
+    fn convert_crowded(&mut self) -> Case {
+        let rules = Deck::RULES / 2 + 1;
+        let resulting = Deck::RULES + self.random.between(1, 2);
+        let mut deck = crowded(&mut self.random, rules, resulting);
+        // A slow comparison is spared large charges.
+        deck.parts.iter_mut().for_each(|part| part.carried.truncate(4));
+        let length = self.random.pick(&[0, Deck::BYTES]);
+        Case::convert(deck.encode().bytes, length)
     }
 
     fn start(&mut self, kind: Kind) -> Case {

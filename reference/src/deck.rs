@@ -1,4 +1,4 @@
-//! The deck: what its bytes say, the reader with faults 1 to 5, 18 and 19, and the encoder.
+//! The deck: what its bytes say, the reader with faults 1 to 5 and 18 to 20, and the encoder.
 
 use crate::expression::{Expression, Number, Scope, Truth};
 use crate::refusal::{self, require, Refusal};
@@ -41,6 +41,13 @@ pub struct Part {
     pub limit: Truth,
 }
 
+/// Which decks are read: new ones have empty default actions, old ones any.
+#[derive(Clone, Copy, Debug, PartialEq, Eq)]
+pub enum Form {
+    Old,
+    New,
+}
+
 /// Each section's stretch of the deck, from its count to its end.
 pub type Sections = [Range<usize>; 3];
 
@@ -61,12 +68,27 @@ impl Deck {
     pub const EVENTS: usize = 8;
     pub const ASSIGNMENTS: usize = 4;
     pub const EXPRESSION: usize = 64;
-    /// The longest deck that can pass.
-    pub const BYTES: usize = 42_883;
+    /// The longest new deck that can pass.
+    pub const BYTES: usize = 25_987;
+    /// The longest old one.
+    pub const OLD_BYTES: usize = 42_883;
 
-    /// Reads a deck, first fault first.
+    /// Reads a new deck.
     pub fn read(bytes: &[u8]) -> Result<(Deck, Sections), Refusal> {
-        let mut reader = Reader { bytes, at: 0 };
+        Form::New.read(bytes)
+    }
+
+    /// The rules that some part carries, in rising order, each once.
+    pub fn carried_rules(&self) -> impl Iterator<Item = &Rule> {
+        let carried = |number: usize| self.parts.iter().any(|part| part.carries(number));
+        self.rules.iter().enumerate().filter(move |(number, _)| carried(*number)).map(|(_, rule)| rule)
+    }
+}
+
+impl Form {
+    /// Reads a deck of this form, first fault first.
+    pub fn read(self, bytes: &[u8]) -> Result<(Deck, Sections), Refusal> {
+        let mut reader = Reader { bytes, at: 0, form: self };
         let labels = reader.labels()?;
         let channels_end = reader.at;
         let rules = reader.rules(labels.len())?;
@@ -75,12 +97,6 @@ impl Deck {
         let end = reader.at;
         require(end == bytes.len(), Refusal::at(refusal::BYTES_FOLLOW, end))?;
         Ok((Deck { labels, rules, parts }, [0..channels_end, channels_end..rules_end, rules_end..end]))
-    }
-
-    /// The rules that some part carries, in rising order, each once.
-    pub fn carried_rules(&self) -> impl Iterator<Item = &Rule> {
-        let carried = |number: usize| self.parts.iter().any(|part| part.carries(number));
-        self.rules.iter().enumerate().filter(move |(number, _)| carried(*number)).map(|(_, rule)| rule)
     }
 }
 
@@ -94,6 +110,7 @@ impl Part {
 struct Reader<'a> {
     bytes: &'a [u8],
     at: usize,
+    form: Form,
 }
 
 impl Reader<'_> {
@@ -150,8 +167,7 @@ impl Reader<'_> {
     fn rule(&mut self, channels: usize) -> Result<Rule, Refusal> {
         let count = self.count(1, Deck::EVENTS)?;
         let events = self.rising(count, channels)?;
-        // Far channels never stand in a default action, whatever the kind.
-        let default_action = self.action(Scope { channels, far: false })?;
+        let default_action = self.default_action(channels)?;
         let kind = if self.number(0..2)? == 0 { Kind::Here } else { Kind::Everywhere };
         let scope = Scope { channels, far: kind == Kind::Everywhere };
         let condition = self.expression(scope)?;
@@ -159,8 +175,21 @@ impl Reader<'_> {
         Ok(Rule { events, default_action, kind, condition, action })
     }
 
+    /// A new deck has none, and shows it by a count of 0.
+    fn default_action(&mut self, channels: usize) -> Result<Action, Refusal> {
+        let retired = Refusal::at(refusal::DEFAULT_ACTION, self.at);
+        let count = self.count(0, Deck::ASSIGNMENTS)?;
+        require(count == 0 || self.form == Form::Old, retired)?;
+        // Far channels never stand in a default action, whatever the kind.
+        self.assignments(count, Scope { channels, far: false })
+    }
+
     fn action(&mut self, scope: Scope) -> Result<Action, Refusal> {
         let count = self.count(0, Deck::ASSIGNMENTS)?;
+        self.assignments(count, scope)
+    }
+
+    fn assignments(&mut self, count: usize, scope: Scope) -> Result<Action, Refusal> {
         let mut action = Action::with_capacity(count);
         for _ in 0..count {
             let twice = Refusal::at(refusal::TARGET_TWICE, self.at);
@@ -198,6 +227,7 @@ pub enum Field {
     RuleCount,
     EventCount,
     Event,
+    DefaultCount,
     ActionCount,
     Target,
     ExpressionLength,
@@ -266,8 +296,8 @@ impl Encoded {
         }
     }
 
-    fn action(&mut self, action: &[Assignment]) {
-        self.count(Field::ActionCount, action.len());
+    fn action(&mut self, count: Field, action: &[Assignment]) {
+        self.count(count, action.len());
         for assignment in action {
             self.field(Field::Target, &[assignment.target]);
             self.expression(&assignment.expression);
@@ -277,10 +307,10 @@ impl Encoded {
     fn rule(&mut self, rule: &Rule) {
         self.count(Field::EventCount, rule.events.len());
         self.list(Field::Event, &rule.events);
-        self.action(&rule.default_action);
+        self.action(Field::DefaultCount, &rule.default_action);
         self.field(Field::Kind, &[(rule.kind == Kind::Everywhere).into()]);
         self.expression(&rule.condition);
-        self.action(&rule.action);
+        self.action(Field::ActionCount, &rule.action);
     }
 
     fn part(&mut self, part: &Part) {

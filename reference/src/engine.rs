@@ -1,7 +1,9 @@
-//! The six calls. Each tests afresh what it is given, in the order of the refusals.
+//! The six calls on new decks. Each tests afresh what it is given, in the order of the refusals.
+//!
+//! Old decks have the same calls behind their own check: a converted deck must do what the old one did.
 
 use crate::charge::Charges;
-use crate::deck::{Assignment, Deck, Kind, Rule, Sections};
+use crate::deck::{Assignment, Deck, Form, Kind, Rule, Sections};
 use crate::graph;
 use crate::refusal::{self, require, Refusal};
 use crate::state::{base, below, places, Machine, State, Update, MOST_PLACES};
@@ -50,12 +52,12 @@ pub enum Answer {
 }
 
 impl Call {
-    /// Makes the call.
-    pub fn perform(&self, deck: &[u8], pool: &mut [i32], state: &mut State) -> Answer {
+    /// Makes the call on a deck of this form.
+    pub fn perform(&self, form: Form, deck: &[u8], pool: &mut [i32], state: &mut State) -> Answer {
         let answer = match self {
-            Call::Input { part, pairs } => input(deck, pool, state, *part, pairs).map(Answer::Added),
-            Call::Commit { place } => commit(deck, pool, state, *place).map(Answer::Committed),
-            Call::Settle { budget } => settle(deck, pool, state, *budget).map(Answer::Settled),
+            Call::Input { part, pairs } => form.input(deck, pool, state, *part, pairs).map(Answer::Added),
+            Call::Commit { place } => form.commit(deck, pool, state, *place).map(Answer::Committed),
+            Call::Settle { budget } => form.settle(deck, pool, state, *budget).map(Answer::Settled),
         };
         answer.unwrap_or_else(Answer::Refused)
     }
@@ -94,14 +96,7 @@ struct Engine {
 }
 
 pub fn check(deck: &[u8]) -> Result<Passed, Refusal> {
-    let engine = Engine::new(deck)?;
-    let largest = engine.charges.of_carried_rules().map(|(_, _, charge)| charge).max();
-    Ok(Passed {
-        channels: engine.deck.labels.len() as u32,
-        rules: engine.deck.rules.len() as u32,
-        parts: engine.deck.parts.len() as u32,
-        charge: largest.unwrap_or(0) as u32,
-    })
+    Form::New.check(deck)
 }
 
 /// The line that the program for checking prints, without its newline.
@@ -111,16 +106,12 @@ pub fn check_line(deck: &[u8]) -> String {
 
 /// The section's stretch of the deck, as offsets.
 pub fn section(deck: &[u8], number: u32) -> Result<Range<usize>, Refusal> {
-    let engine = Engine::new(deck)?;
-    let section = engine.sections.get(number as usize);
-    section.cloned().ok_or(Refusal::new(refusal::SECTION))
+    Form::New.section(deck, number)
 }
 
 /// A refused start hands back a state of zeros and leaves the pool as lent.
 pub fn start(deck: &[u8], pool: &mut [i32]) -> (Result<(), Refusal>, State) {
-    let mut state = State::ZERO;
-    let answer = Engine::for_pool(deck, pool).map(|engine| engine.opening().store(pool, &mut state));
-    (answer, state)
+    Form::New.start(deck, pool)
 }
 
 /// The charge added.
@@ -131,30 +122,88 @@ pub fn input(
     part: u32,
     pairs: &[i32],
 ) -> Result<u32, Refusal> {
-    let (engine, mut machine) = Engine::for_state(deck, pool, state)?;
-    let before = machine.charge();
-    engine.input(&mut machine, part, pairs)?;
-    require(machine.charge() <= capacity(pool), Refusal::new(refusal::INPUT_CHARGE))?;
-    machine.store(pool, state);
-    Ok((machine.charge() - before) as u32)
+    Form::New.input(deck, pool, state, part, pairs)
 }
 
 pub fn commit(deck: &[u8], pool: &mut [i32], state: &mut State, place: u32) -> Result<Committed, Refusal> {
-    let (engine, mut machine) = Engine::for_state(deck, pool, state)?;
-    let applied = engine.commit(&mut machine, place as usize).ok_or(Refusal::new(refusal::PLACE))?;
-    machine.store(pool, state);
-    Ok(Committed { applied, charge: machine.charge() as u32 })
+    Form::New.commit(deck, pool, state, place)
 }
 
 pub fn settle(deck: &[u8], pool: &mut [i32], state: &mut State, budget: u32) -> Result<Settled, Refusal> {
-    let (engine, mut machine) = Engine::for_state(deck, pool, state)?;
-    require(budget <= 65_535, Refusal::new(refusal::BUDGET))?;
-    let mut commits = 0;
-    while commits < budget && engine.commit(&mut machine, 0).is_some() {
-        commits += 1;
+    Form::New.settle(deck, pool, state, budget)
+}
+
+/// The calls on decks of a form.
+impl Form {
+    pub fn check(self, deck: &[u8]) -> Result<Passed, Refusal> {
+        let engine = Engine::new(self, deck)?;
+        let largest = engine.charges.of_carried_rules().map(|(_, _, charge)| charge).max();
+        Ok(Passed {
+            channels: engine.deck.labels.len() as u32,
+            rules: engine.deck.rules.len() as u32,
+            parts: engine.deck.parts.len() as u32,
+            charge: largest.unwrap_or(0) as u32,
+        })
     }
-    machine.store(pool, state);
-    Ok(Settled { settled: machine.pending() == 0, commits })
+
+    pub fn section(self, deck: &[u8], number: u32) -> Result<Range<usize>, Refusal> {
+        let engine = Engine::new(self, deck)?;
+        let section = engine.sections.get(number as usize);
+        section.cloned().ok_or(Refusal::new(refusal::SECTION))
+    }
+
+    pub fn start(self, deck: &[u8], pool: &mut [i32]) -> (Result<(), Refusal>, State) {
+        let mut state = State::ZERO;
+        let engine = Engine::for_pool(self, deck, pool);
+        let answer = engine.map(|engine| engine.opening().store(pool, &mut state));
+        (answer, state)
+    }
+
+    pub fn input(
+        self,
+        deck: &[u8],
+        pool: &mut [i32],
+        state: &mut State,
+        part: u32,
+        pairs: &[i32],
+    ) -> Result<u32, Refusal> {
+        let (engine, mut machine) = Engine::for_state(self, deck, pool, state)?;
+        let before = machine.charge();
+        engine.input(&mut machine, part, pairs)?;
+        require(machine.charge() <= capacity(pool), Refusal::new(refusal::INPUT_CHARGE))?;
+        machine.store(pool, state);
+        Ok((machine.charge() - before) as u32)
+    }
+
+    pub fn commit(
+        self,
+        deck: &[u8],
+        pool: &mut [i32],
+        state: &mut State,
+        place: u32,
+    ) -> Result<Committed, Refusal> {
+        let (engine, mut machine) = Engine::for_state(self, deck, pool, state)?;
+        let applied = engine.commit(&mut machine, place as usize).ok_or(Refusal::new(refusal::PLACE))?;
+        machine.store(pool, state);
+        Ok(Committed { applied, charge: machine.charge() as u32 })
+    }
+
+    pub fn settle(
+        self,
+        deck: &[u8],
+        pool: &mut [i32],
+        state: &mut State,
+        budget: u32,
+    ) -> Result<Settled, Refusal> {
+        let (engine, mut machine) = Engine::for_state(self, deck, pool, state)?;
+        require(budget <= 65_535, Refusal::new(refusal::BUDGET))?;
+        let mut commits = 0;
+        while commits < budget && engine.commit(&mut machine, 0).is_some() {
+            commits += 1;
+        }
+        machine.store(pool, state);
+        Ok(Settled { settled: machine.pending() == 0, commits })
+    }
 }
 
 /// C, the number of places of a pool of legal length.
@@ -163,9 +212,9 @@ fn capacity(pool: &[i32]) -> u64 {
 }
 
 impl Engine {
-    /// Tests a deck: 1 to 8, 18 and 19.
-    fn new(bytes: &[u8]) -> Result<Engine, Refusal> {
-        let (deck, sections) = Deck::read(bytes)?;
+    /// Tests a deck: 1 to 8, 18 and 19, and for a new one 20.
+    fn new(form: Form, bytes: &[u8]) -> Result<Engine, Refusal> {
+        let (deck, sections) = form.read(bytes)?;
         let outside = deck.parts.iter().position(|part| !part.limit.holds(&part.opening, &[]));
         refuse_at(outside, refusal::OPENS_OUTSIDE_LIMIT)?;
         refuse_at(graph::lowest_on_cycle(&deck), refusal::CYCLE)?;
@@ -175,16 +224,21 @@ impl Engine {
         Ok(Engine { deck, sections, charges })
     }
 
-    /// Tests a deck and the pool's length: 1 to 9, 18 and 19.
-    fn for_pool(bytes: &[u8], pool: &[i32]) -> Result<Engine, Refusal> {
-        let engine = Engine::new(bytes)?;
+    /// Tests a deck, then the pool's length: 9.
+    fn for_pool(form: Form, bytes: &[u8], pool: &[i32]) -> Result<Engine, Refusal> {
+        let engine = Engine::new(form, bytes)?;
         require(places(pool.len()).is_some(), Refusal::new(refusal::POOL_LENGTH))?;
         Ok(engine)
     }
 
-    /// Tests a deck, the pool's length and the state: 1 to 10, 18 and 19.
-    fn for_state(bytes: &[u8], pool: &[i32], state: &State) -> Result<(Engine, Machine), Refusal> {
-        let engine = Engine::for_pool(bytes, pool)?;
+    /// Tests a deck and the pool's length, then the state: 10.
+    fn for_state(
+        form: Form,
+        bytes: &[u8],
+        pool: &[i32],
+        state: &State,
+    ) -> Result<(Engine, Machine), Refusal> {
+        let engine = Engine::for_pool(form, bytes, pool)?;
         let machine = Machine::load(&engine.deck, &engine.charges, pool, state);
         Ok((engine, machine.ok_or(Refusal::new(refusal::BAD_STATE))?))
     }

@@ -6,6 +6,7 @@
 pub mod cases;
 pub mod charge;
 pub mod comparison;
+pub mod conversion;
 pub mod deck;
 pub mod engine;
 pub mod expression;
@@ -18,6 +19,7 @@ pub mod state;
 pub mod stored;
 pub mod stored_replays;
 
+pub use conversion::convert;
 pub use engine::{check, commit, input, section, settle, start};
 pub use refusal::Refusal;
 pub use state::State;

@@ -29,6 +29,12 @@ pub const INPUT_OUTSIDE_LIMIT: u32 = 17;
 pub const WRONG_TYPE: u32 = 18;
 /// An expression that ends early or has bytes left over.
 pub const WRONG_END: u32 = 19;
+/// A default action in a new deck.
+pub const DEFAULT_ACTION: u32 = 20;
+/// Converting would give more than 64 rules.
+pub const RULES_RESULT: u32 = 21;
+/// The buffer is too short for the converted deck.
+pub const BUFFER_SHORT: u32 = 22;
 
 impl Refusal {
     /// Places are deck offsets (a fault shows within 42,884 bytes), channels or
@@ -37,7 +43,7 @@ impl Refusal {
         Refusal { number, place: u32::try_from(place).unwrap_or(u32::MAX) }
     }
 
-    /// A refusal whose place is 0: 9 to 17.
+    /// A refusal whose place is 0: 9 to 17, 21 and 22.
     pub fn new(number: u32) -> Refusal {
         Refusal { number, place: 0 }
     }

@@ -7,7 +7,7 @@ use crate::generate::scripts::script;
 use crate::generate::{deck, Kind, Size};
 use crate::random::Random;
 use crate::script::replay;
-use crate::stored::{assign, copy, deck_d, deck_d_with, deck_of};
+use crate::stored::{assign, copy, deck_d, deck_d_with, deck_e, deck_e_with, deck_of, deck_of_33_rules};
 
 /// A deck by its name.
 pub struct NamedDeck {
@@ -25,7 +25,7 @@ pub struct StoredText {
 }
 
 /// Lines of calls, each with ` => ` and its answer where it prints one.
-const BY_HAND: [(&str, &str, &str); 17] = [
+const BY_HAND: [(&str, &str, &str); 25] = [
     ("p8", "d", "start 20 => started\ninput 0 0 4 => added 2\ncommit 0 => applied 1\ncommit 0 => applied 0\n"),
     ("p8-one-place", "d", "start 10 => started\ninput 0 0 4 => refused 13 0\n"),
     ("p9", "d", "start 20 => started\ninput 0 0 9 => added 2\ncommit 0 => applied 1\ncommit 0 => discarded 0\n"),
@@ -52,7 +52,84 @@ const BY_HAND: [(&str, &str, &str); 17] = [
     ("full-pool", "chain", FULL_POOL),
     ("settle", "chain", SETTLE),
     ("sections", "d", "section 0 => section 0 4\nsection 1 => section 4 33\nsection 2 => section 33 75\n"),
+    ("convert", "e", CONVERT),
+    ("convert-to-itself", "d", CONVERT_TO_ITSELF),
+    ("convert-to-65-rules", "rules-65", CONVERT_TO_65_RULES),
+    ("convert-to-64-rules", "rules-64", CONVERT_TO_64_RULES),
+    ("convert-unknown-byte", "e-unknown-byte", CONVERT_UNKNOWN_BYTE),
+    ("convert-longer", "e-longer", "convert 50000 => refused 5 65\nstart 20 => refused 20 7\n"),
+    ("convert-cut", "cut", "convert 50000 => refused 1 74\nconvert 0 => refused 1 74\n"),
+    ("convert-cyclic", "cyclic", "convert 50000 => refused 7 0\nstart 20 => refused 7 0\n"),
 ];
+
+/// Deck E is taken once it is converted; state and pool stay as they are.
+const CONVERT: &str = "\
+start 30 => refused 20 7
+start 15 => refused 20 7
+input 2 0 4 => refused 20 7
+commit 0 => refused 20 7
+settle 65536 => refused 20 7
+section 0 => refused 20 7
+section 3 => refused 20 7
+convert 0 => refused 22 0
+convert 72 => refused 22 0
+start 30 => refused 20 7
+convert 50001 => unreadable
+section 0 => refused 20 7
+convert 80 => converted 73
+section 0 => section 0 4
+section 1 => section 4 38
+section 2 => section 38 73
+start 20 => started
+input 0 0 4 => refused 13 0
+start 30 => started
+input 0 0 4 => added 3
+commit 0 => applied 2
+convert 72 => refused 22 0
+input 0 0 4 => added 0
+convert 73 => converted 73
+commit 2 => refused 14 0
+settle 9 => settled 2
+convert 50000 => converted 73
+";
+
+/// A deck without default actions is converted to its own bytes.
+const CONVERT_TO_ITSELF: &str = "\
+convert 75 => converted 75
+start 20 => started
+input 0 0 4 => added 2
+convert 74 => refused 22 0
+commit 0 => applied 1
+convert 76 => converted 75
+commit 0 => applied 0
+section 2 => section 33 75
+";
+
+const CONVERT_TO_65_RULES: &str = "\
+start 20 => refused 20 6
+convert 0 => refused 21 0
+convert 50000 => refused 21 0
+start 20 => refused 20 6
+";
+
+const CONVERT_TO_64_RULES: &str = "\
+start 20 => refused 20 6
+convert 722 => refused 22 0
+convert 723 => converted 723
+start 20 => started
+input 0 0 1 => added 1
+input 0 0 2 => added 1
+input 0 0 3 => refused 13 0
+settle 9 => settled 2
+";
+
+/// Refused as the old check refuses, however long the buffer is.
+const CONVERT_UNKNOWN_BYTE: &str = "\
+start 20 => refused 20 7
+convert 50000 => refused 3 10
+convert 0 => refused 3 10
+start 20 => refused 20 7
+";
 
 const REFUSED_CALLS: &str = "\
 input 0 0 4 => refused 9 0
@@ -291,13 +368,17 @@ const UNREADABLE: &[&[u8]] = &[
     b"value 512 1", b"pool 1", b"pool 1 2 3", b"pool 20 1", b"pending", b"pending -1", b"pending 1 1",
     b"pending 4294967296", b"jump 1", b"check", b"input 0 \xff 1", b"\xc3\xa9", b"commit \xd9\xa1", b"commit 0\x00",
     b"\x00start 10", b"\x00\x00\x00\x00\x00\x00\x00\x00start 10", b"commits 0", b"startstart 10", b"poo 1 2", b"0", b"-",
+    b"convert", b"convert ", b"convert 50001", b"convert 4294967296", b"convert -1", b"convert 1 2", b"Convert 75",
+    b"converted 75", b"convert  75", b"convert 75 ", b"convert x", b"conver 75",
 ];
 
 /// All decks that the texts are for.
 pub fn decks() -> Vec<NamedDeck> {
     let named = |name: &str, deck| NamedDeck { name: name.to_string(), deck };
     let default = Rule { default_action: vec![assign(2, Number::Own(0))], ..copy(0, 1) };
-    let chain = deck_of(5, vec![default, copy(1, 3), copy(2, 4), copy(3, 4)], &[&[0, 1, 2, 3]]);
+    let others = [copy(1, 3), copy(2, 4), copy(3, 4)];
+    let old_chain = deck_of(5, [&[default][..], &others].concat(), &[&[0, 1, 2, 3]]);
+    let chain = deck_of(5, [&[copy(0, 2), copy(0, 1)][..], &others].concat(), &[&[0, 1, 2, 3, 4]]);
     let mut decks = vec![
         named("d", deck_d()),
         named("cut", deck_d()[..74].to_vec()),
@@ -306,6 +387,12 @@ pub fn decks() -> Vec<NamedDeck> {
         named("wrong-end", deck_d_with(&[(66, 7)])[..74].to_vec()),
         named("cyclic", deck_d_with(&[(12, 0)])),
         named("chain", chain.encode().bytes),
+        named("old-chain", old_chain.encode().bytes),
+        named("e", deck_e()),
+        named("e-unknown-byte", deck_e_with(10, 7)),
+        named("e-longer", [&deck_e()[..], &[0]].concat()),
+        named("rules-65", deck_of_33_rules(32)),
+        named("rules-64", deck_of_33_rules(31)),
         named("limits", limits().encode().bytes),
     ];
     for (name, kind, seed) in GENERATED {
@@ -326,28 +413,39 @@ fn limits() -> Deck {
 }
 
 /// Generated decks; each has a generated text under the same name.
-const GENERATED: [(&str, Kind, u64); 6] = [
+const GENERATED: [(&str, Kind, u64); 8] = [
     ("rich-1", Kind::Rich, 1),
     ("rich-2", Kind::Rich, 2),
     ("rich-3", Kind::Rich, 3),
     ("valid-1", Kind::Valid, 4),
-    ("heavy-1", Kind::Heavy, 5),
+    ("heavy-1", Kind::Heavy, 12),
     ("damaged-1", Kind::Damaged, 6),
+    ("defaults-1", Kind::Defaults, 7),
+    ("defaults-2", Kind::Defaults, 26),
 ];
 
 fn by_hand() -> impl Iterator<Item = StoredText> {
-    BY_HAND.into_iter().map(|(name, deck, lines)| {
-        let halves = || lines.lines().map(|line| line.split_once(" => ").unwrap_or((line, "")));
-        let text: String = halves().map(|(call, _)| format!("{call}\n")).collect();
-        let said = halves().map(|(_, answer)| answer).filter(|answer| !answer.is_empty());
-        let answers = said.map(|answer| format!("{answer}\n")).collect();
-        StoredText {
-            name: name.to_string(),
-            deck: deck.to_string(),
-            text: text.into_bytes(),
-            answers: Some(answers),
-        }
+    BY_HAND.into_iter().map(|(name, deck, lines)| with_answers(name, deck, lines))
+}
+
+/// What is said of the chain of rules holds of the old one that is converted to it.
+fn converted() -> [StoredText; 2] {
+    [("old-full-pool", FULL_POOL), ("old-settle", SETTLE)].map(|(name, lines)| {
+        with_answers(name, "old-chain", &format!("convert 50000 => converted 91\n{lines}"))
     })
+}
+
+fn with_answers(name: &str, deck: &str, lines: &str) -> StoredText {
+    let halves = || lines.lines().map(|line| line.split_once(" => ").unwrap_or((line, "")));
+    let text: String = halves().map(|(call, _)| format!("{call}\n")).collect();
+    let said = halves().map(|(_, answer)| answer).filter(|answer| !answer.is_empty());
+    let answers = said.map(|answer| format!("{answer}\n")).collect();
+    StoredText {
+        name: name.to_string(),
+        deck: deck.to_string(),
+        text: text.into_bytes(),
+        answers: Some(answers),
+    }
 }
 
 /// Lines that can't be read, long lines, empty lines, and texts that end without a newline.
@@ -404,7 +502,7 @@ pub fn texts() -> Vec<StoredText> {
         text: b"start 10\nsection 0\n".to_vec(),
         answers: Some("refused 7 0\nrefused 7 0\n".to_string()),
     };
-    by_hand().chain(odd_texts()).chain([cyclic]).chain(generated()).collect()
+    by_hand().chain(converted()).chain(odd_texts()).chain([cyclic]).chain(generated()).collect()
 }
 
 /// What stands beside the two programs, by paths below the folder `crates`: `replay` goes through

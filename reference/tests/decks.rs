@@ -3,18 +3,18 @@
 mod common;
 
 use common::model::{evaluate, holds};
-use common::{copy, deck_of};
+use common::{copy, deck_of, old_check_line};
 use reference::charge::Charges;
-use reference::deck::{Deck, Kind as RuleKind, Rule};
+use reference::deck::{Deck, Field, Form, Kind as RuleKind, Rule};
 use reference::engine::check_line;
 use reference::expression::{Expression, Number, Scope, Truth};
-use reference::generate::decks::longest;
+use reference::generate::decks::{longest, longest_of};
 use reference::generate::expressions::{number, truth, value};
 use reference::generate::heavy::exact;
-use reference::generate::{deck, Kind, Size};
+use reference::generate::{deck, old_deck, Kind, Size};
 use reference::graph;
 use reference::random::Random;
-use reference::refusal::WRONG_TYPE;
+use reference::refusal::{DEFAULT_ACTION, WRONG_TYPE};
 use reference::{check, section, Refusal};
 
 #[test]
@@ -22,12 +22,52 @@ fn what_is_written_is_read() {
     let random = &mut Random::new(10);
     for round in 0..600 {
         let kind = random.pick(&[Kind::Valid, Kind::Rich, Kind::Cyclic, Kind::Heavy]);
-        let bytes = deck(kind, random, Size::FULL);
-        let (read, sections) = Deck::read(&bytes).unwrap();
+        let (form, bytes) = match round % 2 {
+            0 => (Form::New, deck(kind, random, Size::FULL)),
+            _ => (Form::Old, old_deck(kind, random, Size::FULL)),
+        };
+        let (read, sections) = form.read(&bytes).unwrap();
         assert_eq!(read.encode().bytes, bytes, "round {round}");
         assert_eq!((sections[0].start, sections[2].end), (0, bytes.len()));
         assert!(sections[0].end == sections[1].start && sections[1].end == sections[2].start);
     }
+}
+
+#[test]
+fn a_new_deck_is_an_old_one_without_default_actions() {
+    let random = &mut Random::new(17);
+    let (mut both, mut old_only) = (0, 0);
+    for _ in 0..2000 {
+        let kind = random.pick(&[Kind::Valid, Kind::Rich, Kind::Damaged, Kind::Defaults]);
+        let size = Size { channels: 6, rules: 3, parts: 4, expression: 12 };
+        let bytes = if random.chance(50) { deck(kind, random, size) } else { old_deck(kind, random, size) };
+        match (Form::New.read(&bytes), Form::Old.read(&bytes)) {
+            (Ok(new), Ok(old)) => {
+                assert_eq!(new, old);
+                assert!(new.0.rules.iter().all(|rule| rule.default_action.is_empty()));
+                both += 1;
+            }
+            (Err(refusal), Ok((old, _))) => {
+                // The place is the count of the first default action.
+                let (at, _) = first_default(&old).unwrap();
+                assert_eq!(refusal, Refusal::at(DEFAULT_ACTION, at));
+                old_only += 1;
+            }
+            // Up to the fault both read the same.
+            (Err(new), Err(old)) => {
+                assert!(new == old || new.number == DEFAULT_ACTION && new.place < old.place)
+            }
+            (Ok(_), Err(old)) => panic!("only new: {old}"),
+        }
+    }
+    assert!(both > 400 && old_only > 400, "{both} {old_only}");
+}
+
+/// Offset and kind of the count of the first default action that is not empty.
+fn first_default(deck: &Deck) -> Option<(usize, Field)> {
+    let encoded = deck.encode();
+    let filled = |&(at, field): &(usize, Field)| field == Field::DefaultCount && encoded.bytes[at] > 0;
+    encoded.fields.into_iter().find(filled)
 }
 
 #[test]
@@ -64,15 +104,30 @@ fn the_longest_deck() {
         assert!(check_line(&bytes).starts_with("passed 32 64 16 "));
         assert_eq!(
             [section(&bytes, 0), section(&bytes, 1), section(&bytes, 2)],
-            [Ok(0..33), Ok(33..38_754), Ok(38_754..42_883)]
+            [Ok(0..33), Ok(33..21_858), Ok(21_858..25_987)]
         );
-        assert_eq!(check_line(&bytes[..42_882]), "refused 1 42882");
+        assert_eq!(check_line(&bytes[..25_986]), "refused 1 25986");
         bytes.push(0);
-        assert_eq!(check_line(&bytes), "refused 5 42883");
+        assert_eq!(check_line(&bytes), "refused 5 25987");
         // One byte more shows the fault, however many follow.
         bytes.resize(100_000, 1);
         assert_eq!(check_line(&bytes), check_line(&bytes[..Deck::BYTES + 1]));
     }
+}
+
+#[test]
+fn the_longest_old_deck() {
+    let mut bytes = longest_of(&mut Random::new(13), Form::Old).encode().bytes;
+    assert_eq!(bytes.len(), Deck::OLD_BYTES);
+    assert!(old_check_line(&bytes).starts_with("passed 32 64 16 "));
+    assert_eq!(old_check_line(&bytes[..42_882]), "refused 1 42882");
+    // As a new deck it shows its fault long before its end.
+    assert_eq!(check_line(&bytes), "refused 20 43");
+    assert_eq!(check_line(&bytes[..Deck::BYTES + 1]), "refused 20 43");
+    bytes.push(0);
+    assert_eq!(old_check_line(&bytes), "refused 5 42883");
+    bytes.resize(100_000, 1);
+    assert_eq!(old_check_line(&bytes), old_check_line(&bytes[..Deck::OLD_BYTES + 1]));
 }
 
 /// Whether there is a way from one channel to another, by paths of growing length.
@@ -134,7 +189,9 @@ fn charges_by_hand() {
 fn exact_charges() {
     let random = &mut Random::new(15);
     for charge in (1..40).chain([100, 999, 4096, 65_534, 65_535]) {
-        let passed = check(&exact(random, charge).encode().bytes).unwrap();
+        let passed = check(&exact(random, charge, Form::New).encode().bytes).unwrap();
+        assert_eq!(passed.charge as usize, charge);
+        let passed = Form::Old.check(&exact(random, charge, Form::Old).encode().bytes).unwrap();
         assert_eq!(passed.charge as usize, charge);
     }
 }
@@ -151,7 +208,7 @@ fn charges_beyond_64_bits_saturate() {
     let deck = deck_of(32, rules, &[&all[..]; 16]);
     // An update to channel 0 has a charge of more than 16^31.
     assert_eq!(Charges::new(&deck).of_update(0, 1), u64::MAX);
-    assert_eq!(check_line(&deck.encode().bytes), "refused 8 0");
+    assert_eq!(old_check_line(&deck.encode().bytes), "refused 8 0");
 }
 
 #[test]

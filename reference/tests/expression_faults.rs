@@ -2,8 +2,8 @@
 
 mod common;
 
-use common::{assign, copy, deck_d, deck_d_with, deck_of, deck_with_condition};
-use reference::deck::{Encoded, Field, Kind, Rule};
+use common::{assign, copy, deck_d, deck_d_with, deck_of, deck_with_condition, old_check_line};
+use reference::deck::{Encoded, Field, Form, Kind, Rule};
 use reference::engine::{check_line, Answer, Call};
 use reference::expression::{Expression, Number, Scope, Truth};
 use reference::generate::expression_faults::{broken, spoil};
@@ -12,7 +12,7 @@ use reference::generate::faults::passing;
 use reference::generate::Size;
 use reference::random::Random;
 use reference::script::Host;
-use reference::{check, section, start, Refusal, State};
+use reference::{section, start, Refusal, State};
 use std::collections::BTreeMap;
 
 /// What deck D with these bytes changed is told.
@@ -88,7 +88,7 @@ fn limits_of_deck_d() {
 }
 
 #[test]
-fn default_actions() {
+fn default_actions_of_old_decks() {
     let default = |expression: &[u8]| {
         let rule = Rule {
             default_action: vec![assign(1, Number::Own(0)), assign(0, Number::Own(0))],
@@ -97,7 +97,8 @@ fn default_actions() {
         };
         let mut encoded = deck_of(2, vec![rule], &[&[]]).encode();
         encoded.replace_expression(13, expression);
-        check_line(&encoded.bytes)
+        assert_eq!(check_line(&encoded.bytes), "refused 20 6");
+        old_check_line(&encoded.bytes)
     };
     assert_eq!(default(&[1, 1]), "passed 2 1 1 0");
     // No far channel may stand there, whatever the kind.
@@ -148,20 +149,19 @@ fn in_reading_order_with_numbers_2_and_4() {
         (&[(14, 17), (25, 7)], "refused 18 14"),
         (&[(14, 7), (25, 17)], "refused 3 14"),
     ]);
-    // Three assignments, the last of which has the first one's target at 16.
+    // Three assignments, the last of which has the first one's target at 20, or in a default action at 16.
     let twice = vec![assign(1, Number::Own(0)), assign(2, Number::Own(0)), assign(1, Number::Own(0))];
-    let deck = deck_of(3, vec![Rule { default_action: twice, ..copy(0, 1) }], &[&[0]]).encode().bytes;
-    for (at, byte, line) in [
-        (14, 7, "refused 3 14"),
-        (14, 17, "refused 18 14"),
-        (14, 6, "refused 19 16"),
-        (18, 7, "refused 4 16"),
-        (18, 17, "refused 4 16"),
-        (18, 6, "refused 4 16"),
-    ] {
-        let mut deck = deck.clone();
-        deck[at] = byte;
-        assert_eq!(check_line(&deck), line, "{at} {byte}");
+    let action = Rule { action: twice.clone(), ..copy(0, 1) };
+    let default = Rule { default_action: twice, ..copy(0, 1) };
+    let cases = [(2, 7, 3, 2), (2, 17, 18, 2), (2, 6, 19, 4), (6, 7, 4, 4), (6, 17, 4, 4), (6, 6, 4, 4)];
+    for (after, byte, number, place) in cases {
+        let with = |rule: &Rule, first: usize| {
+            let mut deck = deck_of(3, vec![rule.clone()], &[&[0]]).encode().bytes;
+            deck[first + after] = byte;
+            deck
+        };
+        assert_eq!(check_line(&with(&action, 16)), format!("refused {number} {}", 16 + place));
+        assert_eq!(old_check_line(&with(&default, 12)), format!("refused {number} {}", 12 + place));
     }
 }
 
@@ -192,7 +192,7 @@ fn in_every_call_that_tests_a_deck() {
         let deck = deck_d_with(&changes);
         let refusal = Refusal { number, place };
         // Before 9 and 10, and before what each call tests of its own.
-        let mut host = Host { deck: &deck, pool: vec![7; 11], state: State::ZERO };
+        let mut host = Host { pool: vec![7; 11], ..Host::new(&deck) };
         host.state.pending = 9;
         let before = host.clone();
         let input = Call::Input { part: 9, pairs: Vec::new() };
@@ -368,12 +368,21 @@ fn expressions(encoded: &Encoded) -> Vec<Standing> {
 
 const SMALL: Size = Size { channels: 6, rules: 6, parts: 4, expression: 20 };
 
+/// Roles of expressions, with their kind, times three faults: default actions stand in old decks alone.
+const FORMS: [(Form, usize); 2] = [(Form::New, 15), (Form::Old, 18)];
+
 #[test]
 fn the_deck_has_the_fault_of_its_expression_where_it_stands() {
+    for (form, roles) in FORMS {
+        faults_where_they_stand(form, roles);
+    }
+}
+
+fn faults_where_they_stand(form: Form, roles: usize) {
     let random = &mut Random::new(31);
     let mut counts = BTreeMap::new();
     for round in 0..6000 {
-        let passing = passing(random, SMALL);
+        let passing = passing(random, SMALL, form);
         let mut encoded = passing.encode();
         let Standing { start, role, wanted, far } = random.pick(&expressions(&encoded));
         let scope = Scope { channels: passing.labels.len(), far };
@@ -383,21 +392,27 @@ fn the_deck_has_the_fault_of_its_expression_where_it_stands() {
         spoil(random, &mut expression, scope.channels as u8);
         encoded.replace_expression(start, &expression);
         let Some(Fault { number, at, .. }) = first_fault(&expression, wanted, scope) else { continue };
-        assert_eq!(check_line(&encoded.bytes), format!("refused {number} {}", start + at), "{round}");
+        assert_eq!(form.check(&encoded.bytes), Err(Refusal::at(number, start + at)), "{round}");
         *counts.entry((role, far, number)).or_insert(0) += 1;
     }
     // Conditions and actions stand in rules of both kinds.
-    assert!(counts.len() == 18 && counts.values().all(|&count| count > 20), "{counts:?}");
+    assert!(counts.len() == roles && counts.values().all(|&count| count > 20), "{counts:?}");
 }
 
 #[test]
 fn generated_decks_have_faults_in_all_expressions_and_at_their_end() {
+    for (form, roles) in FORMS {
+        faults_in_all_expressions(form, roles);
+    }
+}
+
+fn faults_in_all_expressions(form: Form, roles: usize) {
     let mut counts = BTreeMap::new();
     let (mut at_the_end, mut cut) = (0, 0);
     for seed in 0..6000 {
-        let whole = passing(&mut Random::new(seed), SMALL).encode();
-        let broken = broken(&mut Random::new(seed), SMALL);
-        let Err(Refusal { number, place }) = check(&broken) else { continue };
+        let whole = passing(&mut Random::new(seed), SMALL, form).encode();
+        let broken = broken(&mut Random::new(seed), SMALL, form);
+        let Err(Refusal { number, place }) = form.check(&broken) else { continue };
         // Up to the broken expression the two decks are mostly the same.
         let standing = expressions(&whole).into_iter().rfind(|standing| standing.start <= place as usize);
         if let Some(Standing { role, far, .. }) = standing.filter(|_| [3, 18, 19].contains(&number)) {
@@ -406,6 +421,6 @@ fn generated_decks_have_faults_in_all_expressions_and_at_their_end() {
         at_the_end += usize::from(number == 19 && place as usize == broken.len());
         cut += usize::from(number == 1);
     }
-    assert!(counts.len() == 18 && counts.values().all(|&count| count > 20), "{counts:?}");
+    assert!(counts.len() == roles && counts.values().all(|&count| count > 20), "{counts:?}");
     assert!(at_the_end > 100 && cut > 200, "{at_the_end} {cut}");
 }

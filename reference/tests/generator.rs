@@ -4,17 +4,18 @@ mod common;
 
 use common::{fresh, is_at_edge, parts_within, with_pairs};
 use reference::cases::{self, Case};
-use reference::deck::{Deck, Field};
+use reference::conversion::{convert_whole, converted};
+use reference::deck::{Deck, Field, Form};
 use reference::engine::{check, check_line, Answer, Call};
 use reference::generate::calls::{any, Known};
 use reference::generate::decks::rich;
 use reference::generate::faults::damage;
 use reference::generate::scripts::script;
-use reference::generate::{any_kind, deck, Kind, Size};
+use reference::generate::{any_kind, any_old_kind, deck, old_deck, Kind, Size};
 use reference::random::Random;
 use reference::refusal::INPUT_OUTSIDE_LIMIT;
 use reference::script::{parse, replay, Host, Line};
-use reference::{commit, input, section, settle, start, State};
+use reference::{commit, convert, input, section, settle, start, State};
 use std::collections::{BTreeMap, BTreeSet, HashSet};
 
 /// Counts lines by their first word, and refusals by their number.
@@ -45,7 +46,21 @@ fn rare(
 
 /// The refusals of check.
 fn of_check() -> impl Iterator<Item = u32> {
-    (1..=8).chain([18, 19])
+    (1..=8).chain(18..=20)
+}
+
+/// The refusals of the converter, lent enough.
+fn of_converter() -> impl Iterator<Item = u32> {
+    (1..=8).chain([18, 19, 21])
+}
+
+/// What the converter answers: whether the deck changed, or the refusal.
+fn conversion_line(deck: &[u8]) -> String {
+    match convert_whole(deck) {
+        Ok(new) if new == deck => "same".to_string(),
+        Ok(new) => format!("converted {}", new.len()),
+        Err(refusal) => refusal.to_string(),
+    }
 }
 
 #[test]
@@ -73,11 +88,44 @@ fn decks_of_a_comparison_have_each_refusal_often() {
 }
 
 #[test]
+fn old_decks_reach_every_answer_of_the_converter() {
+    for (name, kind) in [("valid", Kind::Valid), ("rich", Kind::Rich)] {
+        let random = &mut Random::new(27);
+        for round in 0..500 {
+            let deck = old_deck(kind, random, Size::FULL);
+            assert!(Form::Old.check(&deck).is_ok(), "{name} {round}");
+        }
+    }
+    let mut counts = BTreeMap::new();
+    (0..2000).for_each(|number| count(&mut counts, &conversion_line(&any_old_kind(1, number).1)));
+    let rare = rare(&counts, &["same", "converted"], of_converter(), 40);
+    assert_eq!(rare, Vec::<String>::new(), "{counts:?}");
+}
+
+#[test]
+fn decks_with_default_actions_stand_around_64_rules_and_around_the_count() {
+    let random = &mut Random::new(28);
+    let mut rules = BTreeMap::new();
+    let mut lines = BTreeMap::new();
+    for _ in 0..2000 {
+        let deck = deck(Kind::Defaults, random, Size::FULL);
+        if let Ok((deck, _)) = Form::Old.read(&deck) {
+            *rules.entry(converted(&deck).rules.len()).or_insert(0) += 1;
+        }
+        count(&mut lines, &check_line(&deck));
+    }
+    assert!((64..=65).all(|number| rules[&number] > 100), "{rules:?}");
+    let most = lines["refused 20"];
+    assert!(most > 1500 && lines["refused 1"] > 5 && lines["refused 2"] > 20, "{lines:?}");
+}
+
+#[test]
 fn damage_reaches_every_kind_of_field() {
     let random = &mut Random::new(21);
     let mut faults = HashSet::new();
-    for _ in 0..8000 {
-        let whole = rich(random, Size { channels: 6, rules: 6, parts: 4, expression: 12 }).encode();
+    for _ in 0..20_000 {
+        let whole =
+            rich(random, Size { channels: 6, rules: 6, parts: 4, expression: 12 }, Form::New).encode();
         let mut damaged = whole.clone();
         damage(random, &mut damaged);
         let Err(refusal) = Deck::read(&damaged.bytes) else { continue };
@@ -89,18 +137,19 @@ fn damage_reaches_every_kind_of_field() {
         }
     }
     use Field::{
-        ActionCount, CarriedCount, CarriedRule, ChannelCount, Event, EventCount, Expression, ExpressionLength,
+        ActionCount, CarriedCount, CarriedRule, ChannelCount, DefaultCount, Event, EventCount, Expression,
     };
-    use Field::{Label, OpeningValue, PartCount, RuleCount, Target};
-    let listed = [ChannelCount, Label, RuleCount, EventCount, Event, ActionCount, Target, ExpressionLength];
-    let others = [Field::Kind, PartCount, CarriedCount, CarriedRule];
+    use Field::{ExpressionLength, Label, OpeningValue, PartCount, RuleCount, Target};
+    let listed = [ChannelCount, Label, RuleCount, EventCount, Event, DefaultCount, ActionCount, Target];
+    let others = [ExpressionLength, Field::Kind, PartCount, CarriedCount, CarriedRule];
     for field in listed.into_iter().chain(others) {
         assert!(faults.contains(&(2, Some(field))), "no fault 2 at {field:?}");
         assert!(faults.contains(&(1, Some(field))), "no fault 1 at {field:?}");
     }
     // 19 is left out: its place is not the byte that was changed.
     let inside = [(1, Some(Expression)), (3, Some(Expression)), (18, Some(Expression))];
-    for fault in inside.into_iter().chain([(1, Some(OpeningValue)), (4, Some(Target)), (5, None)]) {
+    let others = [(1, Some(OpeningValue)), (4, Some(Target)), (5, None), (20, Some(DefaultCount))];
+    for fault in inside.into_iter().chain(others) {
         assert!(faults.contains(&fault), "no fault {fault:?}");
     }
 }
@@ -117,7 +166,8 @@ fn scripts_reach_every_answer() {
         }
     }
     let words = ["added", "applied", "discarded", "settled", "spent", "section", "started", "unreadable"];
-    assert_eq!(rare(&counts, &words, 1..=19, 1), Vec::<String>::new(), "{counts:?}");
+    let words = [&words[..], &["converted"]].concat();
+    assert_eq!(rare(&counts, &words, 1..=22, 1), Vec::<String>::new(), "{counts:?}");
 }
 
 /// How inputs of ordinary lists of calls end.
@@ -220,7 +270,7 @@ fn each_forty_cases_have_every_answer() {
     for seed in 0..10 {
         for cases in cases::generate(seed, 120, &cases::Size::SMALL).chunks(40) {
             let refusals = cases.iter().flat_map(Case::refusals).map(|refusal| refusal.number);
-            assert_eq!(refusals.collect::<BTreeSet<u32>>(), (1..=19).collect(), "seed {seed}");
+            assert_eq!(refusals.collect::<BTreeSet<u32>>(), (1..=22).collect(), "seed {seed}");
             for word in ["added", "applied", "discarded", "settled", "spent"] {
                 assert!(cases.iter().any(|case| case.run_answers(word)), "seed {seed}: {word}");
             }
@@ -228,6 +278,9 @@ fn each_forty_cases_have_every_answer() {
             assert!(accepted(|case| matches!(case, Case::Check { line, .. } if line.starts_with("passed"))));
             assert!(accepted(|case| matches!(case, Case::Section { answer: Ok(_), .. })));
             assert!(accepted(|case| matches!(case, Case::Start { answer: Ok(()), .. })));
+            assert!(accepted(
+                |case| matches!(case, Case::Convert { deck, answer: Ok(new), .. } if new != deck)
+            ));
             for case in cases {
                 assert_case(case);
                 if let Case::Run { answers, .. } = case {
@@ -258,6 +311,13 @@ fn assert_case(case: &Case) {
         }
         Case::Check { deck, line } => assert_eq!(check_line(deck), *line),
         Case::Section { deck, number, answer } => assert_eq!(section(deck, *number), *answer),
+        Case::Convert { deck, length, answer } => {
+            let mut buffer = vec![9; *length];
+            let converted = convert(deck, &mut buffer);
+            assert_eq!(converted.map(|length| buffer[..length].to_vec()), *answer);
+            let written = answer.as_ref().map_or(0, Vec::len);
+            assert!(buffer[written..].iter().all(|&byte| byte == 9));
+        }
     }
 }
 
@@ -284,5 +344,6 @@ fn no_content_makes_a_call_panic() {
             && settle(&deck, &mut pool, &mut state, number).is_err();
         assert!(!refused || before == (state, pool.clone()));
         let _ = (start(&deck, &mut pool), section(&deck, number));
+        let _ = convert(&deck, &mut vec![0; length]);
     }
 }

@@ -3,12 +3,12 @@
 mod common;
 
 use common::model::{holds, rule_charge, Model};
-use common::{copy, deck_of, fresh, is_at_edge, parts_within};
-use reference::deck::{Deck, Kind as RuleKind, Rule};
-use reference::engine::{check, Answer, Call, Committed, Settled};
+use common::{copy, deck_of, fresh, fresh_old, is_at_edge, parts_within};
+use reference::deck::{Deck, Form, Kind as RuleKind, Rule};
+use reference::engine::{Answer, Call, Committed, Settled};
 use reference::expression::{Number, Truth};
 use reference::generate::calls::{any, Known};
-use reference::generate::{deck, Kind, Size};
+use reference::generate::{deck, old_deck, Kind, Size};
 use reference::random::Random;
 use reference::refusal::INPUT_OUTSIDE_LIMIT;
 use reference::script::Host;
@@ -41,6 +41,7 @@ fn places(random: &mut Random, charge: u32) -> usize {
 
 /// What a list of generated calls needs: a deck that passes, read and known, and a number of places.
 struct Setup {
+    form: Form,
     bytes: Vec<u8>,
     deck: Deck,
     known: Known,
@@ -51,9 +52,27 @@ impl Setup {
     fn new(random: &mut Random, kinds: &[Kind], size: Size, most_places: usize) -> Setup {
         let kind = random.pick(kinds);
         let bytes = deck(kind, random, size);
-        let (deck, _) = Deck::read(&bytes).unwrap();
-        let places = places(random, check(&bytes).unwrap().charge).min(most_places);
-        Setup { known: Known::of(&bytes), bytes, deck, places }
+        Setup::of(Form::New, random, bytes, most_places)
+    }
+
+    /// Of an old deck.
+    fn old(random: &mut Random, kinds: &[Kind], size: Size, most_places: usize) -> Setup {
+        let kind = random.pick(kinds);
+        let bytes = old_deck(kind, random, size);
+        Setup::of(Form::Old, random, bytes, most_places)
+    }
+
+    fn of(form: Form, random: &mut Random, bytes: Vec<u8>, most_places: usize) -> Setup {
+        let (deck, _) = form.read(&bytes).unwrap();
+        let places = places(random, form.check(&bytes).unwrap().charge).min(most_places);
+        Setup { form, known: Known::of(&bytes), bytes, deck, places }
+    }
+
+    fn fresh(&self) -> Host<'_> {
+        match self.form {
+            Form::Old => fresh_old(&self.bytes, self.places),
+            Form::New => fresh(&self.bytes, self.places),
+        }
     }
 }
 
@@ -64,12 +83,15 @@ const KINDS: [Kind; 3] = [Kind::Rich, Kind::Rich, Kind::Valid];
 fn calls_agree_with_the_model() {
     let random = &mut Random::new(1);
     let (mut within, mut pending, mut refused) = (0, 0, 0);
-    for round in 0..1200 {
-        let Setup { bytes, deck, known, places } = Setup::new(random, &KINDS, SMALL, 400);
-        let mut host = fresh(&bytes, places);
-        let mut model = Model::new(&deck, places);
+    for round in 0..1600 {
+        let setup = match round % 2 {
+            0 => Setup::new(random, &KINDS, SMALL, 400),
+            _ => Setup::old(random, &KINDS, SMALL, 400),
+        };
+        let mut host = setup.fresh();
+        let mut model = Model::new(&setup.deck, setup.places);
         for _ in 0..25 {
-            let call = any(random, &known, &host);
+            let call = any(random, &setup.known, &host);
             let answer = host.call(&call);
             assert_eq!(answer, model.step(&call), "round {round}, {call:?}");
             assert_eq!((host.state.clone(), host.pool.clone()), model.memory(), "round {round}, {call:?}");
@@ -85,21 +107,24 @@ fn calls_agree_with_the_model() {
 #[test]
 fn largest_charge_agrees_with_the_model() {
     let random = &mut Random::new(2);
-    for _ in 0..300 {
-        let bytes = deck(Kind::Rich, random, SMALL);
-        let (deck, _) = Deck::read(&bytes).unwrap();
+    for round in 0..400 {
+        let (form, bytes) = match round % 2 {
+            0 => (Form::New, deck(Kind::Rich, random, SMALL)),
+            _ => (Form::Old, old_deck(Kind::Rich, random, SMALL)),
+        };
+        let (deck, _) = form.read(&bytes).unwrap();
         let carried =
             deck.parts.iter().enumerate().flat_map(|(part, carrier)| {
                 carrier.carried.iter().map(move |&rule| (part, usize::from(rule)))
             });
         let largest = carried.map(|(part, rule)| rule_charge(&deck, part, &deck.rules[rule])).max();
-        assert_eq!(u64::from(check(&bytes).unwrap().charge), largest.unwrap_or(0));
+        assert_eq!(u64::from(form.check(&bytes).unwrap().charge), largest.unwrap_or(0));
     }
 }
 
 /// The charge pending, from the places of the pool.
 fn charge_pending(host: &Host) -> u64 {
-    let (deck, _) = Deck::read(host.deck).unwrap();
+    let (deck, _) = Deck::read(&host.deck).unwrap();
     let charges = reference::charge::Charges::new(&deck);
     let places = host.pool.chunks(10).take(host.state.pending as usize);
     let targets =
@@ -155,7 +180,7 @@ fn after_every_call_every_part_is_within_its_limit() {
     let random = &mut Random::new(5);
     let (mut refused, mut accepted_at_edge, mut discarded) = (0, 0, 0);
     for round in 0..1000 {
-        let Setup { bytes, deck, known, places } = Setup::new(random, &KINDS, SMALL, 400);
+        let Setup { bytes, deck, known, places, .. } = Setup::new(random, &KINDS, SMALL, 400);
         let mut host = fresh(&bytes, places);
         for _ in 0..30 {
             let call = any(random, &known, &host);
@@ -203,7 +228,7 @@ fn settle_is_commit_of_place_0_repeated() {
     let random = &mut Random::new(4);
     let mut total = 0;
     for _ in 0..200 {
-        let Setup { bytes, deck, known, places } = Setup::new(random, &[Kind::Rich], SMALL, 500);
+        let Setup { bytes, deck, known, places, .. } = Setup::new(random, &[Kind::Rich], SMALL, 500);
         let mut host = fresh(&bytes, places);
         for _ in 0..8 {
             let call = any(random, &known, &host);
@@ -250,18 +275,34 @@ fn far_channels_are_read_when_the_rule_fires() {
     assert_eq!(host.state.values[34], 15);
 }
 
+/// The first four numbers of so many places.
+fn written(host: &Host, places: usize) -> Vec<[i32; 4]> {
+    host.pool.chunks(10).take(places).map(|place| [place[0], place[1], place[2], place[3]]).collect()
+}
+
 #[test]
 fn order_of_a_firing() {
+    // Rule 0 everywhere, the others here: here actions first.
+    let everywhere = Rule { kind: RuleKind::Everywhere, ..copy(0, 2) };
+    let never = Rule { condition: Truth::False, ..copy(0, 1) };
+    let rules = vec![everywhere, copy(0, 3), never, copy(0, 1)];
+    let deck = deck_of(4, rules, &[&[0, 1, 2, 3], &[0], &[]]).encode().bytes;
+    let mut host = fresh(&deck, 9);
+    host.call(&Call::Input { part: 0, pairs: vec![0, 7] });
+    assert_eq!(written(&host, 5), [[0, 1, 3, 7], [0, 1, 1, 7], [1, 1, 2, 7], [2, 1, 2, 7], [0, 0, 0, 0]]);
+}
+
+#[test]
+fn order_of_a_firing_in_an_old_deck() {
     // Rule 0 everywhere with a default action, rule 1 here: defaults and here actions first.
     let default_action = vec![common::assign(1, Number::Literal(10))];
     let never = Rule { kind: RuleKind::Everywhere, condition: Truth::False, default_action, ..copy(0, 2) };
     let always = Rule { condition: Truth::True, ..never.clone() };
     let deck = deck_of(4, vec![always, copy(0, 3), never], &[&[0, 1], &[0], &[0], &[2]]).encode().bytes;
-    let mut host = fresh(&deck, 9);
+    let mut host = fresh_old(&deck, 9);
     host.call(&Call::Input { part: 0, pairs: vec![0, 7] });
-    let written: Vec<[i32; 4]> = host.pool.chunks(10).take(6).map(|p| [p[0], p[1], p[2], p[3]]).collect();
     assert_eq!(
-        written,
+        written(&host, 6),
         [[0, 1, 1, 10], [0, 1, 3, 7], [1, 1, 2, 7], [2, 1, 2, 7], [3, 1, 2, 7], [0, 0, 0, 0]]
     );
     // A default action fires whatever the condition says.

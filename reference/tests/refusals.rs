@@ -3,8 +3,8 @@
 
 mod common;
 
-use common::{assign, copy, deck_d, deck_d_with, deck_of, fresh};
-use reference::deck::{Deck, Kind, Rule};
+use common::{assign, copy, deck_d, deck_d_with, deck_e_with, deck_of, fresh, old_check_line};
+use reference::deck::{Deck, Form, Kind, Rule};
 use reference::engine::{check_line, Answer, Call};
 use reference::expression::{Number, Truth};
 use reference::generate::heavy::exact;
@@ -78,21 +78,21 @@ fn number_2_lists_that_do_not_rise() {
 #[test]
 fn number_4_target_twice() {
     let twice = vec![assign(1, Number::Own(0)), assign(2, Number::Own(0)), assign(1, Number::Own(0))];
-    let default = Rule { default_action: twice.clone(), ..copy(0, 1) };
-    let action = Rule { action: twice, ..copy(0, 1) };
-    // One target in both actions of a rule is allowed.
-    let both = Rule { default_action: vec![assign(1, Number::Own(0))], ..copy(0, 1) };
-    assert_lines(&[
-        ("default action", deck_of(3, vec![default.clone()], &[&[0]]), "refused 4 16"),
-        ("action", deck_of(3, vec![action], &[&[]]), "refused 4 20"),
-        ("both", deck_of(3, vec![both], &[&[0]]), "passed 3 1 1 2"),
-    ]);
+    let action = Rule { action: twice.clone(), ..copy(0, 1) };
+    let mut bytes = deck_of(3, vec![action], &[&[]]).encode().bytes;
+    assert_eq!(check_line(&bytes), "refused 4 20");
     // The second target is judged before the expression after it.
-    let mut bytes = deck_of(3, vec![default], &[&[0]]).encode().bytes;
-    bytes[17] = 65;
-    assert_eq!(check_line(&bytes), "refused 4 16");
-    assert_eq!(check_line(&bytes[..17]), "refused 4 16");
-    assert_eq!(check_line(&bytes[..16]), "refused 1 16");
+    bytes[21] = 65;
+    assert_eq!(check_line(&bytes), "refused 4 20");
+    assert_eq!(check_line(&bytes[..21]), "refused 4 20");
+    assert_eq!(check_line(&bytes[..20]), "refused 1 20");
+    // In an old deck the default action is an action like another, and both may have a target.
+    let default = Rule { default_action: twice, ..copy(0, 1) };
+    let both = Rule { default_action: vec![assign(1, Number::Own(0))], ..copy(0, 1) };
+    for (rule, line) in [(default, "refused 4 16"), (both, "passed 3 1 1 2")] {
+        let bytes = deck_of(3, vec![rule], &[&[0]]).encode().bytes;
+        assert_eq!((old_check_line(&bytes), check_line(&bytes)), (line.to_string(), "refused 20 7".into()));
+    }
 }
 
 #[test]
@@ -124,12 +124,10 @@ fn number_6_opening_outside_the_limit() {
 fn number_7_cycles() {
     let two = |first: Rule, second: Rule| vec![first, second];
     let everywhere = Rule { kind: Kind::Everywhere, ..copy(2, 1) };
-    let default = Rule { default_action: vec![assign(2, Number::Own(0))], action: Vec::new(), ..copy(2, 2) };
     let far = vec![copy(3, 1), copy(1, 2), copy(2, 3)];
     let diamond = vec![copy(0, 1), copy(0, 2), copy(1, 3), copy(2, 3)];
     assert_lines(&[
         ("one channel", deck_of(2, vec![copy(1, 1)], &[&[0]]), "refused 7 1"),
-        ("one channel, default action", deck_of(3, vec![default], &[&[0]]), "refused 7 2"),
         ("two parts", deck_of(3, two(copy(1, 2), copy(2, 1)), &[&[0], &[1]]), "refused 7 1"),
         ("everywhere, one part", deck_of(3, two(copy(1, 2), everywhere), &[&[0, 1]]), "refused 7 1"),
         (
@@ -148,13 +146,15 @@ fn number_7_cycles() {
         ("nobody carries one", deck_of(3, two(copy(1, 2), copy(2, 1)), &[&[0], &[0]]), "passed 3 2 2 1"),
         ("diamond", deck_of(4, diamond, &[&[0, 1, 2, 3]]), "passed 4 4 1 2"),
     ]);
+    let default = Rule { default_action: vec![assign(2, Number::Own(0))], action: Vec::new(), ..copy(2, 2) };
+    assert_eq!(old_check_line(&deck_of(3, vec![default], &[&[0]]).encode().bytes), "refused 7 2");
 }
 
 #[test]
 fn number_8_charges() {
     let random = &mut Random::new(8);
     for round in 0..20 {
-        let (passes, mut refused) = (exact(random, 65_535), exact(random, 65_536));
+        let (passes, mut refused) = (exact(random, 65_535, Form::New), exact(random, 65_536, Form::New));
         assert!(check_line(&passes.encode().bytes).ends_with(" 65535"), "round {round}");
         assert!(check_line(&refused.encode().bytes).starts_with("refused 8 "), "round {round}");
         // Rules that nobody carries don't count.
@@ -165,32 +165,69 @@ fn number_8_charges() {
 
 #[test]
 fn number_8_lowest_place() {
-    // Each update to channel c makes two to c + 1: an update to channel 0 has charge 2^17 - 1.
+    // Each update to channel c makes two to c + 1: an update to channel 1 has charge 2^17 - 1.
+    let twice = |event| [copy(event, event + 1), Rule { condition: Truth::False, ..copy(event, event + 1) }];
+    let rules: Vec<Rule> = (0..17).flat_map(twice).collect();
+    let mut cycle = rules.clone();
+    cycle.push(copy(17, 17));
+    let all: Vec<u8> = (0..34).collect();
+    assert_lines(&[
+        ("part 0", deck_of(18, rules.clone(), &[&all]), "refused 8 0"),
+        ("rule 1", deck_of(18, rules.clone(), &[&all[1..]]), "refused 8 1"),
+        ("part 2", deck_of(18, rules.clone(), &[&all[2..], &all[..18], &all]), "refused 8 128"),
+        ("just below", deck_of(18, rules, &[&all[2..]]), "passed 18 34 1 65535"),
+        // Before 8 comes 7.
+        ("cycle", deck_of(18, cycle, &[&all, &[34]]), "refused 7 17"),
+    ]);
+}
+
+#[test]
+fn number_8_in_an_old_deck_has_old_numbers() {
     let double = |event| Rule {
         default_action: vec![assign(event + 1, Number::Own(event))],
         ..copy(event, event + 1)
     };
     let rules: Vec<Rule> = (0..16).map(double).collect();
     let all: Vec<u8> = (0..16).collect();
-    assert_lines(&[
-        ("part 0", deck_of(17, rules.clone(), &[&all]), "refused 8 0"),
-        ("part 2", deck_of(17, rules.clone(), &[&all[1..], &all[..9], &all]), "refused 8 128"),
-        ("just below", deck_of(17, rules.clone(), &[&all[1..]]), "passed 17 16 1 65534"),
-        // Before 8 comes 7.
-        (
-            "cycle",
-            deck_of(
-                17,
-                {
-                    let mut r = rules;
-                    r.push(copy(16, 16));
-                    r
-                },
-                &[&all, &[16]],
-            ),
-            "refused 7 16",
-        ),
-    ]);
+    for (carried, line) in [
+        (&[&all[..]][..], "refused 8 0"),
+        (&[&all[1..], &all[..9], &all], "refused 8 128"),
+        (&[&all[1..]], "passed 17 16 1 65534"),
+    ] {
+        let bytes = deck_of(17, rules.clone(), carried).encode().bytes;
+        assert_eq!((old_check_line(&bytes), check_line(&bytes)), (line.to_string(), "refused 20 21".into()));
+    }
+}
+
+#[test]
+fn number_20_default_actions() {
+    // Deck E has the count of a default action at 7.
+    for (count, line) in [(1, "refused 20 7"), (4, "refused 20 7"), (5, "refused 2 7"), (255, "refused 2 7")]
+    {
+        assert_eq!(check_line(&deck_e_with(7, count)), line);
+        assert_eq!(check_line(&deck_e_with(7, count)[..8]), line);
+        assert_eq!(check_line(&deck_e_with(7, count)[..7]), "refused 1 7");
+    }
+    // In reading order: before whatever stands behind the count, after what stands before it.
+    for (at, byte) in [(8, 3), (9, 0), (10, 7), (10, 2), (12, 2), (48, 16)] {
+        assert_eq!(check_line(&deck_e_with(at, byte)), "refused 20 7", "{at} {byte}");
+    }
+    for (at, line) in [(0, "refused 2 0"), (4, "refused 2 4"), (5, "refused 2 5"), (6, "refused 2 6")] {
+        assert_eq!(check_line(&deck_e_with(at, 99)), line);
+    }
+}
+
+#[test]
+fn number_20_in_every_call_that_tests_a_deck() {
+    let deck = deck_e_with(10, 7);
+    let refusal = Refusal { number: 20, place: 7 };
+    let mut host = Host { pool: vec![7; 11], ..Host::new(&deck) };
+    for call in [input(9, &[]), Call::Commit { place: 9 }, Call::Settle { budget: 65_536 }] {
+        assert_eq!(host.call(&call), Answer::Refused(refusal));
+    }
+    assert_eq!(start(&deck, &mut host.pool), (Err(refusal), State::ZERO));
+    assert_eq!(host.pool, [7; 11]);
+    assert_eq!([section(&deck, 0), section(&deck, 3)], [Err(refusal), Err(refusal)]);
 }
 
 /// Memory before and after a refused call must be the same.
@@ -215,7 +252,7 @@ fn number_9_pool_length() {
         let mut pool = vec![7; length];
         assert_eq!(start(&deck, &mut pool), (Err(Refusal { number: 9, place: 0 }), State::ZERO));
         assert!(pool.iter().all(|&number| number == 7));
-        let mut host = Host { deck: &deck, pool, state: State::ZERO };
+        let mut host = Host { pool, ..Host::new(&deck) };
         for call in one_of_each() {
             assert_refused(&mut host, &call, 9);
         }
@@ -478,14 +515,14 @@ fn numbers_14_to_16_place_section_budget() {
 #[test]
 fn order_of_refusals() {
     let bad_deck = deck_d_with(&[(12, 0)]);
-    let mut host = Host { deck: &bad_deck, pool: vec![7; 11], state: State::ZERO };
+    let mut host = Host { pool: vec![7; 11], ..Host::new(&bad_deck) };
     for call in [input(9, &[]), Call::Commit { place: 9 }, Call::Settle { budget: 65_536 }] {
         assert_eq!(host.call(&call), Answer::Refused(Refusal { number: 7, place: 0 }));
     }
     assert_eq!(start(&bad_deck, &mut host.pool).0, Err(Refusal { number: 7, place: 0 }));
     assert_eq!(section(&bad_deck, 3), Err(Refusal { number: 7, place: 0 }));
     let deck = deck_d();
-    let mut host = Host { deck: &deck, pool: vec![7; 10], state: State::ZERO };
+    let mut host = Host { pool: vec![7; 10], ..Host::new(&deck) };
     for call in [input(9, &[]), Call::Commit { place: 9 }, Call::Settle { budget: 65_536 }] {
         assert_refused(&mut host, &call, 10);
         host.pool.push(7);

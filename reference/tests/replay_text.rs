@@ -2,9 +2,9 @@
 
 mod common;
 
-use common::deck_d;
+use common::{deck_d, deck_e, deck_e_with};
 use reference::engine::Call;
-use reference::script::{parse, replay, Line};
+use reference::script::{parse, replay, replay_old, Line};
 
 #[test]
 fn lines_that_can_be_read() {
@@ -20,6 +20,8 @@ fn lines_that_can_be_read() {
         ("commit 00000000000000000001", Line::Call(Call::Commit { place: 1 })),
         ("settle 4294967295", Line::Call(Call::Settle { budget: u32::MAX })),
         ("section 9", Line::Section { number: 9 }),
+        ("convert 0", Line::Convert { length: 0 }),
+        ("convert 050000", Line::Convert { length: 50_000 }),
         ("value 511 -1", Line::Value { index: 511, value: -1 }),
         ("pool 9 8", Line::Pool { index: 9, value: 8 }),
         ("pending 3", Line::Pending { number: 3 }),
@@ -39,7 +41,8 @@ const UNREADABLE: &[&[u8]] = &[
     b"commit x", b"settle", b"settle 1 1", b"section", b"section -1", b"section 0 1", b"value 1",
     b"value 1 2 3", b"value -1 2", b"pool 1", b"pool 1 2 3", b"pending", b"pending -1", b"pending 1 1",
     b"pending 4294967296", b"jump 1", b"check", b"input 0 \xff 1", b"\xc3\xa9", b"commit \xd9\xa1",
-    b"commit 0\x00",
+    b"commit 0\x00", b"convert", b"convert ", b"convert 50001", b"convert 4294967346", b"convert -1",
+    b"convert 1 2", b"converted 1", b"conver 1",
 ];
 
 #[test]
@@ -91,6 +94,22 @@ fn a_refused_start_leaves_zeros_and_the_pool_as_lent() {
 }
 
 #[test]
+fn a_deck_is_converted_under_state_and_pool_as_they_are() {
+    let text = b"convert 72\nstart 30\nconvert 73\nstart 30\ninput 0 0 4\nconvert 80\nsettle 1\n";
+    let memory = "pending 2\nvalue 0 4\nvalue 1 4\n\
+        pool 0 1\npool 1 1\npool 2 2\npool 3 4\npool 11 1\npool 12 2\npool 13 4\n";
+    let said = "refused 22 0\nrefused 20 7\nconverted 73\nstarted\nadded 3\nconverted 73\nspent 1\n";
+    assert_eq!(replay(&deck_e(), text), format!("{said}{memory}"));
+    assert_eq!(
+        replay(&deck_e_with(10, 7), b"convert 73\nsettle 0\n"),
+        "refused 3 10\nrefused 20 7\npending 0\n"
+    );
+    // The old deck itself, where the calls take old decks.
+    let said = "started\nadded 3\nspent 1\n";
+    assert_eq!(replay_old(&deck_e(), b"start 30\ninput 0 0 4\nsettle 1\n"), format!("{said}{memory}"));
+}
+
+#[test]
 fn what_a_line_prints_is_what_is_read() {
     for text in [
         "start 30",
@@ -99,6 +118,7 @@ fn what_a_line_prints_is_what_is_read() {
         "commit 8",
         "settle 9",
         "section 2",
+        "convert 73",
         "value 3 -4",
         "pool 5 6",
         "pending 7",

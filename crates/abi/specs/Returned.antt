@@ -1,11 +1,12 @@
--- The replies of the six calls as a host in C sees them. Assumes nothing.
+-- The replies of the seven calls as a host in C sees them. Assumes nothing.
 use Prim.Native.Nat.{ℕ}
 use mathlib.Core.Bool.{Bool, true, false}
 use mathlib.Core.List.{List, [], _∷_}
-use Rattle.refusals.specs.Outcome.{Outcome}
+use Rattle.refusals.specs.Outcome.{Outcome, refused, accepted}
 use Rattle.pool.specs.States.{Memory}
 use Rattle.calls.specs.Calls.{Answer, Reply, Section}
 use Rattle.calls.specs.Answers.{Numbers, numbersOf}
+use Rattle.conversion.specs.Conversion as Conversion
 
 -- the number that a function returns, 0 when the call is accepted, and the lent array of five: the place, then the answer numbers
 pub record Answered : Type 0 where
@@ -53,3 +54,18 @@ returnedSectionOf stretch number answer = record { stretch = stretch; answered =
 
 abbrev pub returnedSection : Section → ReturnedSection
 returnedSection s = returnedSectionOf (s .stretch) (s .number) (s .place ∷ 0 ∷ 0 ∷ 0 ∷ 0 ∷ [])
+
+-- convert: the number and the array, whose first answer number is the length, and the buffer
+pub record ReturnedConversion : Type 0 where
+  pub answered : Answered
+  pub buffer : List ℕ
+
+abbrev pub returnedConversionOf : ℕ → List ℕ → List ℕ → ReturnedConversion
+returnedConversionOf number answer buffer = record { answered = answeredOf number answer; buffer = buffer }
+
+abbrev pub convertedNumbers : Outcome ℕ → Answered
+convertedNumbers (refused number place) = answeredOf number (place ∷ 0 ∷ 0 ∷ 0 ∷ 0 ∷ [])
+convertedNumbers (accepted length) = answeredOf 0 (0 ∷ length ∷ 0 ∷ 0 ∷ 0 ∷ [])
+
+abbrev pub returnedConversion : Conversion.Reply → ReturnedConversion
+returnedConversion r = record { answered = convertedNumbers (r .answer); buffer = r .buffer }

@@ -1,4 +1,4 @@
-// The six calls for C, and so for C++ and Rust: `include/reaction.h` describes them. Each returns the refusal's number, 0 when the
+// The seven calls for C, and so for C++ and Rust: `include/reaction.h` describes them. Each returns the refusal's number, 0 when the
 // call is accepted, and writes the place and the answer numbers into a lent array of five.
 ghost use mathlib.Core.Path.{_≡_};
 ghost use mathlib.Core.List.{[], _∷_};
@@ -6,7 +6,9 @@ ghost use Rattle.deck.specs.Stretch.{LiesAt};
 ghost use Rattle.calls.specs.Calls as Calls;
 ghost use Rattle.calls.specs.Answers.{memoryAt, numbersOf};
 ghost use Rattle.calls.specs.Requests.{requested, outcomeTo};
+ghost use Rattle.conversion.specs.Conversion as Conversion;
 ghost use Rattle.abi.specs.Returned.{answeredOf, answered, bit, numbersAt, returnedOf, returned, returnedSectionOf, returnedSection};
+ghost use Rattle.abi.specs.Returned.{returnedConversionOf, returnedConversion};
 use calls::Request;
 use calls::Response;
 use deck::Deck;
@@ -195,4 +197,23 @@ pub extern "C" fn reaction_settle(
 {
     let none = [0i32; 0];
     call(deck, pool, values, pending, Request::Settle(budget), &none, answer)
+}
+
+// The new deck goes to the front of the buffer, and its length is the first answer number.
+#[no_mangle]
+pub extern "C" fn reaction_convert(deck: &[u8], buffer: &mut [u8], answer: &mut [u32; 5]) -> u32
+    ensures { λ r. ⌜ returnedConversionOf r (now (answer .exit)) (now (buffer .exit))
+        ≡ returnedConversion (Conversion.convert (now (deck .entry)) (now (buffer .entry))) ⌝ }
+{
+    let made = engine::convert(deck, buffer);
+    match made {
+        conversion::ConvertAnswer::Converted { length } => {
+            write(answer, 0, length, 0, 0, 0);
+            0
+        }
+        conversion::ConvertAnswer::Refused { number, place } => {
+            write(answer, place, 0, 0, 0, 0);
+            number
+        }
+    }
 }

@@ -13,7 +13,9 @@ pub enum Answer {
     Settled(u32),
     Spent(u32),
     Section(u32, u32),
+    Converted(u32),
     Refused(u32, u32),
+    Buffer(u32, u32),
     Pending(u32),
     Value(u32, i32),
     Pool(u32, i32),
@@ -101,6 +103,7 @@ fn put_pair(answer: Answer, out: &mut [u8; 64]) -> usize
     match answer {
         Answer::Section(from, to) => put_two(out, b"section", from, to),
         Answer::Refused(number, place) => put_two(out, b"refused", number, place),
+        Answer::Buffer(i, v) => put_two(out, b"buffer", i, v),
         Answer::Value(i, v) => put_entry(out, b"value", i, v),
         Answer::Pool(i, v) => put_entry(out, b"pool", i, v),
         _ => 0,
@@ -118,6 +121,7 @@ fn put_numbers(answer: Answer, out: &mut [u8; 64]) -> usize
         Answer::Settled(n) => put_one(out, b"settled", n),
         Answer::Spent(n) => put_one(out, b"spent", n),
         Answer::Pending(n) => put_one(out, b"pending", n),
+        Answer::Converted(n) => put_one(out, b"converted", n),
         _ => put_pair(answer, out),
     }
 }

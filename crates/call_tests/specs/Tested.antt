@@ -51,7 +51,7 @@ TestsState k rules parts memo index pool vs pending (Refused n p) =
     × (goodLength (length pool) ≡ true)
     × (Bad ≡ goodnessOf (shape rules parts k) (memoryAt vs pending pool))))
 
--- the tests 1 to 10: the refusal, or all that the rest of a call needs
+-- the tests 1 to 10 and 18 to 20: the refusal, or all that the rest of a call needs
 pub record Passed (s rules parts memo index : List ℕ) (m : Memory) (k : Counted.Deck) (total : ℕ) : Type 0 where
   pub accepted : tested s m ≡ accepted (deckOf s)
   pub entering : Entering s k rules parts memo index (m .pool) (m .state .values) (m .state .pending) total

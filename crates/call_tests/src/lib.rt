@@ -1,4 +1,4 @@
-// The tests that input, commit and settle begin with, 1 to 10, and the lengths of the indexes that they lend. `calls` has the
+// The tests that input, commit and settle begin with, 1 to 10 and 18 to 20, and the lengths of the indexes that they lend. `calls` has the
 // definitions.
 ghost use mathlib.Core.Path.{_≡_};
 ghost use Prim.Native.Nat.{_≤_};
@@ -7,6 +7,7 @@ ghost use Rattle.call_tests.specs.Tested.{Usable, TestsState, Tests};
 ghost use Rattle.charge.specs.Memo.{Ready};
 ghost use Rattle.passing.specs.Judged.{ZeroRules, ZeroMemo};
 use deck::Deck;
+use deck::Form;
 use passing::Judged;
 
 // The numbers of an index, a third of them for the buckets and two for each place: for pools of up to 64 places, of up to 256, of up to
@@ -78,7 +79,7 @@ fn test_state(
     }
 }
 
-// Every call tests afresh what it is given: 1 to 10.
+// Every call tests afresh what it is given: 1 to 10 and 18 to 20.
 pub fn test_lent(
     deck: &[u8],
     rules: &mut [u64],
@@ -92,7 +93,7 @@ pub fn test_lent(
     requires { ⌜ ZeroRules (now deck) (now rules) × (now parts ≡ replicate 64 0) × ZeroMemo (now deck) (now memo) × Usable (length (now pool)) (now index) ⌝ }
     ensures { λ r. ⌜ Tests (now (deck .entry)) (now (rules .exit)) (now (parts .exit)) (now (memo .exit)) (now (index .exit)) (now (pool .entry)) (now (values .entry)) pending r ⌝ }
 {
-    let found = judging::judge(deck, rules, parts, memo);
+    let found = judging::judge(deck, rules, parts, memo, Form::New);
     match found {
         Judged::Refused { number, place } => Tested::Refused {
             number: number,

@@ -11,6 +11,8 @@ use Rattle.lists.specs.Lists.{all, distinct, isEmpty}
 use Rattle.refusals.specs.Outcome.{Outcome, refused, accepted, _>>=_, _>>_, require}
 use Rattle.refusals.specs.Numbers.{badPool, badState, unknownPart, badInput, inputOutside, overCapacity, placeNotPending}
 use Rattle.refusals.specs.Numbers.{unknownSection, budgetTooLarge}
+use Rattle.deck.specs.declared.Form.{Form}
+use Rattle.deck.specs.declared.Form.the-variants.{New}
 use Rattle.deck.specs.Limits.{limits}
 use Rattle.deck.specs.Deck.{Deck, R, M, N}
 use Rattle.deck.specs.Layout.{Layout}
@@ -44,18 +46,21 @@ unfoldable pub reply : Memory → Outcome Done → Reply
 reply m (refused n p) = record { answer = refused n p; memory = m }
 reply m (accepted a) = record { answer = accepted (a .answer); memory = store (length (m .pool)) (a .machine) }
 
+-- Each call by the form of the decks that it tests (document 02, Req 03). The published calls test new decks and stand behind these;
+-- what an old deck gave, in the theorem of the conversion, is what the same calls give that test old ones.
+
 -- "Every call tests afresh what it is given": deck, pool's length, state
-unfoldable pub tested : List ℕ → Memory → Outcome Deck
-tested bytes m = do
-  l ← passing bytes
+unfoldable pub testedAs : Form → List ℕ → Memory → Outcome Deck
+testedAs f bytes m = do
+  l ← passing f bytes
   require (goodLength (length (m .pool))) badPool 0
   require (good (l .deck) m) badState 0
   accepted (l .deck)
 
 -- "Check: R, M, N and the largest charge of any carried rule (0 if none)"
-unfoldable pub check : List ℕ → Outcome Answer
-check bytes = do
-  l ← passing bytes
+unfoldable pub checkAs : Form → List ℕ → Outcome Answer
+checkAs f bytes = do
+  l ← passing f bytes
   accepted (passed (R (l .deck)) (M (l .deck)) (N (l .deck)) (largestCharge (l .deck)))
 
 -- "Start: the opening values, nothing pending, pool all 0"
@@ -63,9 +68,9 @@ unfoldable pub opened : Deck → Machine
 opened d = record { values = openingValues d; pending = [] }
 
 -- a refused start hands back a state of zeros
-unfoldable pub start : List ℕ → List ℤ → Reply
-start bytes pool = reply (record { state = record { values = zeros (limits .values); pending = 0 }; pool = pool }) do
-  l ← passing bytes
+unfoldable pub startAs : Form → List ℕ → List ℤ → Reply
+startAs f bytes pool = reply (record { state = record { values = zeros (limits .values); pending = 0 }; pool = pool }) do
+  l ← passing f bytes
   require (goodLength (length pool)) badPool 0
   accepted (record { answer = started; machine = opened (l .deck) })
 
@@ -86,9 +91,9 @@ goodInput d l =
 
 -- Input: the values are set and the firing follows. The answer is "charge after less charge before". Document 02, Req 01: an input
 -- that would leave its part outside its limit is not performed
-unfoldable pub input : List ℕ → Memory → ℕ → List ℤ → Reply
-input bytes m p l = reply m do
-  d ← tested bytes m
+unfoldable pub inputAs : Form → List ℕ → Memory → ℕ → List ℤ → Reply
+inputAs f bytes m p l = reply m do
+  d ← testedAs f bytes m
   require (ltb p (N d)) unknownPart 0
   require (goodInput d l) badInput 0
   let before = load m
@@ -98,9 +103,9 @@ input bytes m p l = reply m do
   accepted (record { answer = added (charge d (after .pending) - charge d (before .pending)); machine = after })
 
 -- Commit: "The answer: applied or discarded, and the charge now pending"
-unfoldable pub commit : List ℕ → Memory → ℕ → Reply
-commit bytes m k = reply m do
-  d ← tested bytes m
+unfoldable pub commitAs : Form → List ℕ → Memory → ℕ → Reply
+commitAs f bytes m k = reply m do
+  d ← testedAs f bytes m
   require (mayTake (load m .pending) k) placeNotPending 0
   let c = committed d k (load m)
   let now = charge d (c .machine .pending)
@@ -122,12 +127,31 @@ settling d (suc budget) x =
     cond (isEmpty (x .pending)) (record { made = 0; machine = x }) later
 
 -- "With nothing pending it is settled, otherwise spent"
-unfoldable pub settle : List ℕ → Memory → ℕ → Reply
-settle bytes m budget = reply m do
-  d ← tested bytes m
+unfoldable pub settleAs : Form → List ℕ → Memory → ℕ → Reply
+settleAs f bytes m budget = reply m do
+  d ← testedAs f bytes m
   require (leb budget 65535) budgetTooLarge 0
   let s = settling d budget (load m)
   accepted (record { answer = cond (isEmpty (s .machine .pending)) (settled (s .made)) (spent (s .made)); machine = s .machine })
+
+-- the published calls
+abbrev pub tested : List ℕ → Memory → Outcome Deck
+tested bytes m = testedAs New bytes m
+
+abbrev pub check : List ℕ → Outcome Answer
+check bytes = checkAs New bytes
+
+abbrev pub start : List ℕ → List ℤ → Reply
+start bytes pool = startAs New bytes pool
+
+abbrev pub input : List ℕ → Memory → ℕ → List ℤ → Reply
+input bytes m p l = inputAs New bytes m p l
+
+abbrev pub commit : List ℕ → Memory → ℕ → Reply
+commit bytes m k = commitAs New bytes m k
+
+abbrev pub settle : List ℕ → Memory → ℕ → Reply
+settle bytes m budget = settleAs New bytes m budget
 
 -- what section hands back: the bytes of a stretch of the deck, and the two lent numbers
 pub record Section : Type 0 where
@@ -146,7 +170,7 @@ pub record Ends : Type 0 where
 
 unfoldable pub sectionEnds : List ℕ → ℕ → Outcome Ends
 sectionEnds bytes k = do
-  l ← passing bytes
+  l ← passing New bytes
   require (leb k 2) unknownSection 0
   accepted (record { from = sectionAt l bytes k; to = sectionAt l bytes (suc k) })
 
@@ -172,5 +196,5 @@ unfolding sectionAt sectionEnds sectionReply section stretchFrom sectionFrom
 stretches = tt
 
 unfoldable pub calls : Unit {0}
-unfolding reply tested check opened start channelsOf goodInput input commit oneMore settling settle stretches
+unfolding reply testedAs checkAs opened startAs channelsOf goodInput inputAs commitAs oneMore settling settleAs stretches
 calls = tt

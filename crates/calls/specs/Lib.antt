@@ -1,4 +1,4 @@
--- Document 01, "Calls" and "When a call declines": the six calls.
+-- Document 01, "Calls" and "When a call declines": the calls but convert.
 pub mod Calls
 pub mod Answers
 pub mod Requests

@@ -8,9 +8,10 @@ use Rattle.lists.specs.Lists.{all, flatMap, distinct}
 use Rattle.expression.specs.Syntax.{Truth}
 use Rattle.expression.specs.Reading.{Scope}
 use Rattle.expression.specs.Encoding.{encodeValue, encodeNum, encodeTruth, fits, goodNum, goodTruth}
+use Rattle.deck.specs.declared.Form.{Form}
 use Rattle.deck.specs.Limits.{limits}
 use Rattle.deck.specs.Deck.{Assignment, Action, Rule, Part, Deck, R, M, N, targets}
-use Rattle.deck.specs.Layout.{ownOnly, taskScope}
+use Rattle.deck.specs.Layout.{ownOnly, taskScope, allows}
 
 -- ---- the bytes
 
@@ -100,7 +101,14 @@ wellFormed d =
     && inRange 1 (limits .parts) (N d)
     && all (goodPart (R d) (M d)) (d .parts)
 
+-- what a form asks besides: a new deck has no default action
+unfoldable pub suitsRule : Form → Rule → Bool
+suitsRule f r = allows f (length (r .default))
+
+unfoldable pub suits : Form → Deck → Bool
+suits f d = all (suitsRule f) (d .rules)
+
 -- to open all definitions of this file, on an `unfolding` line
 unfoldable pub encodings : Unit {0}
-unfolding encodeExpression encodeAssignment encodeAction encodeRule encodePart encodeChannels encodeRules encodeParts encode inRange isRising goodLength goodAssignment goodAction goodCondition goodRule goodPart wellFormed
+unfolding encodeExpression encodeAssignment encodeAction encodeRule encodePart encodeChannels encodeRules encodeParts encode inRange isRising goodLength goodAssignment goodAction goodCondition goodRule goodPart wellFormed suitsRule suits
 encodings = tt

@@ -9,6 +9,8 @@ pub mod Rules
 pub mod Sections
 pub mod Reading
 pub mod Within
+pub mod Forms
+pub mod EncodedBytes
 pub mod Prefix
 pub mod Faults
 pub mod Scoped

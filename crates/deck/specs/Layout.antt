@@ -1,18 +1,20 @@
--- Document 01, "The deck", and document 02, Req 02: from bytes to the deck, or to the first fault in reading order: 1, 2, 3, 4, 18 and
--- 19, then 5. Assumes nothing.
+-- Document 01, "The deck", and document 02, Req 02 and Req 03: from bytes to the deck, in one of two forms, or to the first fault in
+-- reading order: 1, 2, 3, 4, 18, 19 and 20, then 5. Assumes nothing.
 use Prim.Native.Nat.{ℕ, zero, suc}
 use mathlib.Core.Path.{_≡_, refl}
-use mathlib.Core.Bool.{Bool, not, cond}
+use mathlib.Core.Bool.{Bool, true, not, cond}
 use mathlib.Core.List.{List, [], _∷_}
 use lib.Dec.{eqb}
 use Rattle.lists.specs.Lists.{member}
 use Rattle.refusals.specs.Outcome.{Outcome, refused, accepted}
-use Rattle.refusals.specs.Numbers.{repeatedTarget}
+use Rattle.refusals.specs.Numbers.{repeatedTarget, defaultRetired}
 use Rattle.expression.specs.Syntax.{Num, Truth}
 use Rattle.expression.specs.Reading.{Read, got, nothing, Scope, wholeNum, wholeTruth}
 use Rattle.expression.specs.Faults.{Found, sound, faulty, numFault, truthFault}
 use Rattle.expression.specs.Laws.Sound.{num-has-fault, truth-has-fault}
 use Rattle.deck.specs.Limits.{limits}
+use Rattle.deck.specs.declared.Form.{Form}
+use Rattle.deck.specs.declared.Form.the-variants.{Old, New}
 use Rattle.deck.specs.Deck.{Action, Rule, Part, Deck}
 use Rattle.deck.specs.Reader.{Got, Reader, _>>=_, _>>_, give, fault, here, require, byte, end, number, times, rising, value}
 
@@ -70,12 +72,25 @@ action sc = do
   n ← number 0 (suc (limits .assignments))
   assignments sc n []
 
+-- how many assignments a default action may have
+unfoldable pub allows : Form → ℕ → Bool
+allows Old n = true
+allows New n = eqb n 0
+
+-- an action, in an old deck; 20: in a new deck it has assignments. The place is its count
+unfoldable pub defaultAction : Form → ℕ → Reader Action
+defaultAction f R = do
+  at ← here
+  n ← number 0 (suc (limits .assignments))
+  require (allows f n) defaultRetired at
+  assignments (ownOnly R) n []
+
 -- "event count 1 to 8, then strictly rising channel numbers; a default action; a kind byte; a condition; an action"
-unfoldable pub rule : ℕ → Reader Rule
-rule R = do
+unfoldable pub rule : Form → ℕ → Reader Rule
+rule f R = do
   n ← number 1 (suc (limits .events))
   events ← rising n 0 R
-  default ← action (ownOnly R)
+  default ← defaultAction f R
   kind ← number 0 2
   let everywhere = eqb kind 1
   let scope = taskScope R everywhere
@@ -99,13 +114,13 @@ pub record Layout : Type 0 where
   pub partsAt : ℕ
 
 -- "three sections in this order, each after its one-byte count"; a label is a byte 33 to 126
-unfoldable pub sections : Reader Layout
-sections = do
+unfoldable pub sections : Form → Reader Layout
+sections f = do
   R ← number 1 (suc (limits .channels))
   labels ← times R (number 33 127)
   rulesAt ← here
   M ← number 0 (suc (limits .rules))
-  rules ← times M (rule R)
+  rules ← times M (rule f R)
   partsAt ← here
   N ← number 1 (suc (limits .parts))
   parts ← times N (part R M)
@@ -116,11 +131,11 @@ unfoldable pub valueOf : {A : Type 0} → Outcome (Got A) → Outcome A
 valueOf (refused n p) = refused n p
 valueOf (accepted g) = accepted (g .value)
 
--- the deck that the bytes hold
-unfoldable pub read : List ℕ → Outcome Layout
-read bytes = valueOf (sections bytes 0)
+-- the deck that the bytes hold, in one of the two forms
+unfoldable pub read : Form → List ℕ → Outcome Layout
+read f bytes = valueOf (sections f bytes 0)
 
 -- to open all definitions of this file, on an `unfolding` line
 unfoldable pub layouts : Unit {0}
-unfolding judged expression ownOnly ownAndFar taskScope assignments action rule part sections valueOf read
+unfolding judged expression ownOnly ownAndFar taskScope assignments action allows defaultAction rule part sections valueOf read
 layouts = tt

@@ -13,10 +13,11 @@ use Rattle.refusals.specs.Numbers.{repeatedTarget}
 use Rattle.expression.specs.Syntax.{Num, Truth}
 use Rattle.expression.specs.Reading.{Scope, wholeNum, wholeTruth}
 use Rattle.expression.specs.Answers.{isGot}
+use Rattle.deck.specs.declared.Form.{Form}
 use Rattle.deck.specs.Limits.{limits}
 use Rattle.deck.specs.Deck.{Assignment, Action, Rule, Part, targets}
 use Rattle.deck.specs.Reader.{Got, Reader, _>>=_, _>>_, give, here, require, end, number, times, rising, value}
-use Rattle.deck.specs.Layout.{numbers, truths, expression, ownOnly, taskScope, action, Layout}
+use Rattle.deck.specs.Layout.{numbers, truths, expression, ownOnly, taskScope, action, Layout, defaultAction}
 use Rattle.deck.specs.Encoding.{kindByte}
 use Rattle.deck.specs.declared.Step.{Step}
 use Rattle.deck.specs.declared.Step.the-variants.{Next, Fault}
@@ -77,12 +78,12 @@ pub record MarkedRule : Type 0 where
   pub defaultAt : ℕ
   pub task : MarkedTask
 
-unfoldable pub markedRule : ℕ → Reader MarkedRule
-markedRule R = do
+unfoldable pub markedRule : Form → ℕ → Reader MarkedRule
+markedRule f R = do
   n ← number 1 (suc (limits .events))
   events ← rising n 0 R
   defaultAt ← here
-  default ← action (ownOnly R)
+  default ← defaultAction f R
   task ← markedTask R
   give (record { events = events; default = default; defaultAt = defaultAt; task = task })
 
@@ -121,13 +122,13 @@ pub record MarkedFront : Type 0 where
   pub count : ℕ
   pub rules : List MarkedRule
 
-unfoldable pub markedFront : Reader MarkedFront
-markedFront = do
+unfoldable pub markedFront : Form → Reader MarkedFront
+markedFront f = do
   R ← number 1 (suc (limits .channels))
   labels ← times R (number 33 127)
   rulesAt ← here
   M ← number 0 (suc (limits .rules))
-  rules ← times M (markedRule R)
+  rules ← times M (markedRule f R)
   give (record { channels = R; labels = labels; rulesAt = rulesAt; count = M; rules = rules })
 
 -- all three sections: the count of the last one, and its offset
@@ -137,9 +138,9 @@ pub record Marked : Type 0 where
   pub count : ℕ
   pub parts : List MarkedPart
 
-unfoldable pub markedSections : Reader Marked
-markedSections = do
-  front ← markedFront
+unfoldable pub markedSections : Form → Reader Marked
+markedSections f = do
+  front ← markedFront f
   partsAt ← here
   N ← number 1 (suc (limits .parts))
   parts ← times N (markedPart (front .channels) (front .count))
@@ -192,9 +193,9 @@ ReadsAssignment sc s at mask target step =
     → Reads s (assignment sc ts (drop at s) at) (λ a. (target ≡ a .target) × (a .target < sc .owns)) step
 
 -- the first two sections, with the counts and the offset that the code keeps and the table of the rules after and before
-abbrev pub ReadsFront : List ℕ → Front → List ℕ → List ℕ → Type 0
-ReadsFront s r after before =
-    Reads s (markedFront s 0)
+abbrev pub ReadsFront : Form → List ℕ → Front → List ℕ → List ℕ → Type 0
+ReadsFront f s r after before =
+    Reads s (markedFront f s 0)
     (λ m.
     (r .channels ≡ m .channels)
     × (r .rules ≡ m .count)
@@ -205,10 +206,10 @@ ReadsFront s r after before =
     (r .step)
 
 -- the whole deck, with both tables after and before
-abbrev pub Loads : List ℕ → List ℕ → List ℕ → List ℕ → List ℕ → Loaded → Type 0
-Loads s rules rules₀ parts parts₀ (Whole d) =
+abbrev pub Loads : Form → List ℕ → List ℕ → List ℕ → List ℕ → List ℕ → Loaded → Type 0
+Loads f s rules rules₀ parts parts₀ (Whole d) =
     (m : Marked)
-    × (markedSections s 0 ≡ accepted (record { value = m; rest = []; at = length s }))
+    × (markedSections f s 0 ≡ accepted (record { value = m; rest = []; at = length s }))
     × (d ≡ record {
       channels = m .front .channels;
       rules = m .front .count;
@@ -218,7 +219,7 @@ Loads s rules rules₀ parts parts₀ (Whole d) =
     })
     × (rules ≡ flatMap ruleRow (m .front .rules) ++ drop (8 * m .front .count) rules₀)
     × (parts ≡ flatMap partRow (m .parts) ++ drop (4 * m .count) parts₀)
-Loads s rules rules₀ parts parts₀ (Wrong number place) = markedSections s 0 ≡ refused number place
+Loads f s rules rules₀ parts parts₀ (Wrong number place) = markedSections f s 0 ≡ refused number place
 
 -- the byte where the number of rules stands, behind the labels; and room for so many in a table, if a deck may have them
 abbrev pub rulesAt : List ℕ → ℕ
@@ -229,7 +230,7 @@ RulesFit s n = rulesAt s ≤ 64 → 8 * rulesAt s ≤ n
 
 -- b tells of bytes that are read as a deck whether it has at most 16 rules; and of other bytes too, if it is true
 pub record FewRules (s : List ℕ) (b : Bool) : Type 0 where
-  pub right : (g : Got Marked) → markedSections s 0 ≡ accepted g → b ≡ leb (g .value .front .count) 16
+  pub right : (f : Form) (g : Got Marked) → markedSections f s 0 ≡ accepted g → b ≡ leb (g .value .front .count) 16
   pub low : b ≡ true → rulesAt s ≤ 16
 
 -- a fault of the pass, as the whole pass answers it

@@ -3,6 +3,12 @@
 ghost use mathlib.Core.Path.{_≡_};
 ghost use Rattle.deck.specs.Limits.{limits};
 
+// The two forms of a deck: rules of an old one may have default actions.
+pub enum Form {
+    Old,
+    New,
+}
+
 // The counts R, M and N of a deck, and the offsets of its second and third section's counts.
 pub struct Deck {
     pub channels: usize,
@@ -43,6 +49,7 @@ pub struct Limits {
     pub values: usize,
     pub place: usize,
     pub deck: usize,
+    pub old: usize,
 }
 
 impl Deck {
@@ -78,9 +85,12 @@ impl Deck {
     // The bytes of the longest action, rule, part and deck.
     pub const ACTION_BYTES: usize = 1 + Deck::ASSIGNMENTS * (2 + Deck::EXPRESSION);
 
+    // A new deck's rule has one byte for its default action, the count 0.
+    pub const NO_ACTION_BYTES: usize = 1;
+
     pub const RULE_BYTES: usize = 1
         + Deck::EVENTS
-        + Deck::ACTION_BYTES
+        + Deck::NO_ACTION_BYTES
         + 1
         + (1 + Deck::EXPRESSION)
         + Deck::ACTION_BYTES;
@@ -93,6 +103,9 @@ impl Deck {
         + Deck::RULES * Deck::RULE_BYTES
         + 1
         + Deck::PARTS * Deck::PART_BYTES;
+
+    // An old deck's rules have default actions.
+    pub const OLD_BYTES: usize = Deck::BYTES + Deck::RULES * (Deck::ACTION_BYTES - Deck::NO_ACTION_BYTES);
 
     // The constants and the definitions agree.
     pub fn limits() -> Limits
@@ -108,6 +121,7 @@ impl Deck {
             values: Deck::VALUES,
             place: Deck::PLACE,
             deck: Deck::BYTES,
+            old: Deck::OLD_BYTES,
         }
     }
 }

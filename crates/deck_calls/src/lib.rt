@@ -12,6 +12,7 @@ use calls::CheckAnswer;
 use calls::StartAnswer;
 use calls::Started;
 use deck::Deck;
+use deck::Form;
 use passing::Judged;
 use pool::State;
 
@@ -21,7 +22,7 @@ pub fn check_with(deck: &[u8], rules: &mut [u64], memo: &mut [u32]) -> CheckAnsw
     ensures { λ r. ⌜ checkOutcome r ≡ Calls.check (now (deck .entry)) ⌝ }
 {
     let mut parts = [0u64; passing::PARTS];
-    let verdict = judging::judge(deck, rules, &mut parts, memo);
+    let verdict = judging::judge(deck, rules, &mut parts, memo, Form::New);
     match verdict {
         Judged::Passing { counts, charge } => {
             let r = counts.channels as u32;
@@ -52,7 +53,7 @@ pub fn section_with<'a>(
         × LiesAt (deck .entry .ptr) (r .ptr) (Calls.sectionFrom (now (deck .entry)) number) ⌝ }
 {
     let mut parts = [0u64; passing::PARTS];
-    let judged = judging::judge(deck, rules, &mut parts, memo);
+    let judged = judging::judge(deck, rules, &mut parts, memo, Form::New);
     match judged {
         Judged::Refused {
             number: n,
@@ -115,7 +116,7 @@ pub fn start_with(deck: &[u8], pool: &mut [i32], rules: &mut [u64], memo: &mut [
 {
     let mut parts = [0u64; passing::PARTS];
     let mut values = [0i32; Deck::VALUES];
-    let found = judging::judge(deck, rules, &mut parts, memo);
+    let found = judging::judge(deck, rules, &mut parts, memo, Form::New);
     match found {
         Judged::Refused { number, place } => start_refused(number, place),
         Judged::Passing { counts, charge: _ } => {

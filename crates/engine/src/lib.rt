@@ -1,5 +1,5 @@
-// The six published calls. Types of their answers and definitions are in `calls`; behind check, section and start is `deck_calls`,
-// behind the others `lent_calls`.
+// The seven published calls. Types of their answers and definitions are in `calls` and, for convert, in `conversion`; behind check,
+// section and start is `deck_calls`, behind convert `convert_call`, behind the others `lent_calls`.
 ghost use Prim.Native.Nat.{ℕ};
 ghost use mathlib.Core.Path.{_≡_};
 ghost use Rattle.deck.specs.Stretch.{LiesAt};
@@ -7,6 +7,7 @@ ghost use Rattle.calls.specs.Calls as Calls;
 ghost use Rattle.calls.specs.Answers.{checkOutcome, sectionOf, startOutcome, inputOutcome, commitOutcome, settleOutcome, memoryOf, replyOf};
 ghost use Rattle.calls.specs.Requests.{outcomeTo};
 ghost use Rattle.calls.specs.declared.Request.the-variants as Asked;
+ghost use Rattle.conversion.specs.Conversion as Conversion;
 use calls::CheckAnswer;
 use calls::CommitAnswer;
 use calls::Committed;
@@ -17,6 +18,7 @@ use calls::Response;
 use calls::SettleAnswer;
 use calls::Settled;
 use calls::Started;
+use conversion::ConvertAnswer;
 use pool::State;
 
 // R, M, N and the largest charge of any carried rule; or why the deck does not pass.
@@ -162,4 +164,20 @@ pub fn settle(deck: &[u8], pool: &mut [i32], state: State, budget: u32) -> Settl
         answer: answer,
         state: later,
     }
+}
+
+// The new deck that an old one becomes, at the front of the buffer; where it is refused, the buffer stays as it is. The answer is the
+// new deck's length.
+pub fn convert(deck: &[u8], buffer: &mut [u8]) -> ConvertAnswer
+    ensures { λ r. ⌜ Conversion.replyOf (Conversion.convertOutcome r) (now (buffer .exit))
+        ≡ Conversion.convert (now (deck .entry)) (now (buffer .entry)) ⌝ }
+{
+    if reading::few_rules(deck) {
+        let mut short = [0u64; passing::SHORT_RULES];
+        let mut small = [0u32; passing::SHORT_MEMO];
+        return convert_call::convert_with(deck, buffer, &mut short, &mut small);
+    }
+    let mut rules = [0u64; passing::RULES];
+    let mut memo = [0u32; passing::MEMO];
+    convert_call::convert_with(deck, buffer, &mut rules, &mut memo)
 }

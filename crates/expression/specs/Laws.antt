@@ -1,6 +1,7 @@
 -- Laws of expressions: reading and encoding are inverse to each other; what evaluator, type check and the search for a fault
 -- answer follows from their operands; the first fault is at the exact byte.
 pub mod Bytes
+pub mod EncodedBytes
 pub mod Value
 pub mod Spans
 pub mod Operators

@@ -25,7 +25,7 @@ use Rattle.call_tests.specs.Tested.{Left}
 abbrev pub GoodInput : ℕ → List ℤ → Bool → Type 0
 GoodInput channels pairs r = (d : Deck) → R d ≡ channels → r ≡ goodInput d pairs
 
--- what is left of an input behind the tests 1 to 10, on values and pending updates, with C places
+-- what is left of an input behind the tests 1 to 10 and 18 to 20, on values and pending updates, with C places
 unfoldable pub entered : Deck → ℕ → Machine → ℕ → List ℤ → Outcome Done
 entered d C x p l =
     require (ltb p (N d)) unknownPart 0

@@ -11,9 +11,10 @@ ghost use Rattle.passing.specs.Check.{openingValues, outside};
 ghost use Rattle.passing.specs.Check as Check;
 ghost use Rattle.passing.specs.Stands.{HasTruth, TruthIs, stretch, valuesFrom};
 ghost use Rattle.passing.specs.Tabled.{deckOf, PartsKnown};
-ghost use Rattle.passing.specs.Judged.{RulesKnown, JudgesRules, ZeroRules, ZeroMemo, WholeKnown, Judges};
+ghost use Rattle.passing.specs.Judged.{RulesKnown, JudgesRules, ZeroRules, ZeroMemo, WholeKnown, Judges, JudgesRead};
 ghost use Rattle.passing.specs.declared.Judged.the-variants.{Refused};
 use deck::Deck;
+use deck::Form;
 use passing::Judged;
 
 // The value of the truth that stands at an offset of the deck. Own and far channels are stretches of the values, lent by where they
@@ -160,7 +161,7 @@ fn judge_whole(
     memo: &mut [u32],
 ) -> Judged
     requires { ⌜ WholeKnown (now deck) counts (now rules) (now parts) × (now memo ≡ replicate (memoSize (counts .rules)) 0) ⌝ }
-    ensures { λ r. ⌜ Judges (now (deck .entry)) (now (rules .exit)) (now (parts .entry)) (now (memo .exit)) r ⌝ }
+    ensures { λ r. ⌜ JudgesRead (now (deck .entry)) (now (rules .exit)) (now (parts .entry)) (now (memo .exit)) r ⌝ }
 {
     let p = first_outside(deck, counts, parts);
     if p < counts.parts {
@@ -170,13 +171,19 @@ fn judge_whole(
     judge_rules(rules, parts, memo, counts)
 }
 
-// 1 to 8, 18 and 19: the deck's tables are filled, and the tests follow in their order. The memo keeps the charges of a deck that
+// 1 to 8 and 18 to 20: the deck's tables are filled, and the tests follow in their order. The memo keeps the charges of a deck that
 // passes.
-pub fn judge(deck: &[u8], rules: &mut [u64], parts: &mut [u64], memo: &mut [u32]) -> Judged
+pub fn judge(
+    deck: &[u8],
+    rules: &mut [u64],
+    parts: &mut [u64],
+    memo: &mut [u32],
+    form: Form,
+) -> Judged
     requires { ⌜ ZeroRules (now deck) (now rules) × (now parts ≡ replicate 64 0) × ZeroMemo (now deck) (now memo) ⌝ }
-    ensures { λ r. ⌜ Judges (now (deck .entry)) (now (rules .exit)) (now (parts .exit)) (now (memo .exit)) r ⌝ }
+    ensures { λ r. ⌜ Judges form (now (deck .entry)) (now (rules .exit)) (now (parts .exit)) (now (memo .exit)) r ⌝ }
 {
-    let loaded = reading::read(deck, rules, parts);
+    let loaded = reading::read(deck, rules, parts, form);
     match loaded {
         deck::Loaded::Wrong { number, place } => refused(number, place),
         deck::Loaded::Whole(counts) => judge_whole(deck, counts, rules, parts, memo),

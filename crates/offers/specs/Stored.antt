@@ -8,6 +8,7 @@ use lib.IntN.{ℤ}
 use Rattle.deck.specs.Deck.{Deck}
 use Rattle.deck.specs.declared.Deck as Counted
 use Rattle.graph.specs.Laws.Cycles.{Acyclic}
+use Rattle.deck.specs.Laws.Forms.{NoDefaults}
 use Rattle.charge.specs.Memo.{Ready}
 use Rattle.pool.specs.Updates.{charge}
 use Rattle.pool.specs.States.{Machine}
@@ -29,6 +30,7 @@ pub record Stored (d : Deck) (C : ℕ) (slots : List Slot) (x : Machine) (vs : L
 pub record Committing (s : List ℕ) (k : Counted.Deck) (rules parts memo : List ℕ) (held : Held) (C : ℕ) (values : List ℤ)
     (used total : ℕ) : Type 0 where
   pub tabled : Tabled s k rules parts
+  pub none : NoDefaults (deckOf s)
   pub ready : Ready rules parts (k .channels) (k .rules) (k .parts) memo
   pub acyclic : Acyclic (deckOf s)
   pub slots : List Slot

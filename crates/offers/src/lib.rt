@@ -90,28 +90,3 @@ pub fn offer(
     let row = updates::evaluate(deck, at, part, own, far);
     add(counts, rules, parts, memo, index, pool, capacity, queue, &row)
 }
-
-// The same for a default action. Most of them are empty, and then there is no call.
-pub fn offer_default(
-    deck: &[u8],
-    counts: Deck,
-    rules: &[u64],
-    parts: &[u64],
-    memo: &mut [u32],
-    index: &mut [u16],
-    pool: &mut [i32],
-    capacity: u32,
-    queue: Queue,
-    at: usize,
-    part: usize,
-    own: &[i32],
-    far: &[i32],
-) -> Queue
-    requires { ⌜ Offering (now rules) (now parts) counts capacity (now memo) (heldOf (now index) (now pool)) queue × Sound (now deck) at (length (now own)) (length (now far)) (counts .channels) × (part < counts .parts) ⌝ }
-    ensures { λ r. ⌜ Offers (now (deck .entry)) at (now (own .entry)) (now (far .entry)) part (shape (now (rules .entry)) (now (parts .entry)) counts) capacity (heldOf (now (index .entry)) (now (pool .entry))) queue (now (memo .exit)) (heldOf (now (index .exit)) (now (pool .exit))) r ⌝ }
-{
-    if deck[at] == 0 {
-        return queue;
-    }
-    offer(deck, counts, rules, parts, memo, index, pool, capacity, queue, at, part, own, far)
-}

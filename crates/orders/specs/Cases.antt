@@ -13,6 +13,7 @@ use Rattle.refusals.specs.Outcome.{Outcome, refused, accepted, outcomes}
 use Rattle.expression.specs.Values.{evaluation}
 use Rattle.expression.specs.Reading.{readingExpressions}
 use Rattle.expression.specs.Faults.{faults}
+use Rattle.deck.specs.declared.Form.the-variants.{New}
 use Rattle.deck.specs.Deck.{Deck, decks}
 use Rattle.deck.specs.Reader.{readers}
 use Rattle.deck.specs.Layout.{Layout, layouts}
@@ -95,7 +96,7 @@ calling C cs answers values =
     let r = run D (replicate (10 * C) (pos 7)) cs in
     record {
       called = seen (r .answers) (r .memory);
-      listed = listedFor (passing D) (10 * C) (λ d. listed d (10 * C) cs);
+      listed = listedFor (passing New D) (10 * C) (λ d. listed d (10 * C) cs);
       wanted = record { answers = answers; printed = []; values = values };
     }
 
@@ -167,7 +168,7 @@ callingByHand cs answers values =
     let r = runFrom D byHand cs in
     record {
       called = seen (r .answers) (r .memory);
-      listed = listedFor (passing D) 20 (λ d. listFrom d 2 (load byHand) cs);
+      listed = listedFor (passing New D) 20 (λ d. listFrom d 2 (load byHand) cs);
       wanted = record { answers = answers; printed = []; values = values };
     }
 

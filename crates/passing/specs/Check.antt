@@ -1,4 +1,5 @@
--- Document 01, "When a call declines", and document 02, Req 02: the tests of a deck, 1 to 8, 18 and 19, in their order. Assumes nothing.
+-- Document 01, "When a call declines", and document 02, Req 02 and Req 03: the tests of a deck, 1 to 8 and 18 to 20, in their
+-- order. Assumes nothing.
 use Prim.Native.Nat.{ℕ, _-_, _*_}
 use mathlib.Core.Bool.{Bool, not}
 use mathlib.Core.List.{List, _++_}
@@ -7,6 +8,7 @@ use Rattle.lists.specs.Lists.{filter, flatMap, below}
 use Rattle.refusals.specs.Outcome.{Outcome, accepted, _>>=_, _>>_, requireNone}
 use Rattle.refusals.specs.Numbers.{opensOutside, cyclicGraph, overcharged}
 use Rattle.expression.specs.Values.{truthValue}
+use Rattle.deck.specs.declared.Form.{Form}
 use Rattle.deck.specs.Limits.{limits}
 use Rattle.deck.specs.Deck.{Deck, R, N, partAt}
 use Rattle.deck.specs.Layout.{Layout, read}
@@ -28,10 +30,10 @@ openingValues d =
 unfoldable pub outside : Deck → List ℕ
 outside d = filter (λ p. not (within d p (openingValues d))) (below (N d))
 
--- the deck that the bytes hold, if it passes: 1 to 4, 18 and 19 in reading order, then 5, 6, 7 and 8
-unfoldable pub passing : List ℕ → Outcome Layout
-passing bytes = do
-  l ← read bytes
+-- the deck that the bytes hold, if it passes: 1 to 4, 18, 19 and in a new deck 20 in reading order, then 5, 6, 7 and 8
+unfoldable pub passing : Form → List ℕ → Outcome Layout
+passing f bytes = do
+  l ← read f bytes
   requireNone (outside (l .deck)) opensOutside
   requireNone (cyclic (l .deck)) cyclicGraph
   requireNone (aboveBound (carriedCharges (l .deck))) overcharged

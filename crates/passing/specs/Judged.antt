@@ -7,6 +7,7 @@ use lib.ListN.{length, replicate}
 use Rattle.refusals.specs.Outcome.{refused, accepted}
 use Rattle.refusals.specs.Numbers.{cyclicGraph, overcharged}
 use Rattle.expression.specs.Laws.Bytes.{Bytes}
+use Rattle.deck.specs.declared.Form.{Form}
 use Rattle.deck.specs.Deck.{Deck}
 use Rattle.deck.specs.Layout.{read}
 use Rattle.deck.specs.Shape.{shapeOf}
@@ -58,24 +59,27 @@ pub record ZeroRules (s rules : List ℕ) : Type 0 where
 -- zeros, as many as the deck needs if the bytes are read as one
 abbrev pub ZeroMemo : List ℕ → List ℕ → Type 0
 ZeroMemo s memo =
-    (m : Marked) → markedSections s 0 ≡ accepted (record { value = m; rest = []; at = length s })
+    (f : Form) (m : Marked) → markedSections f s 0 ≡ accepted (record { value = m; rest = []; at = length s })
     → memo ≡ replicate (memoSize (m .front .count)) 0
 
 -- a deck that was read, and its tables
 pub record WholeKnown (s : List ℕ) (k : Counted.Deck) (rules parts : List ℕ) : Type 0 where
   pub tabled : Tabled s k rules parts
-  pub read : read s ≡ accepted (layoutOf s)
   pub bytes : Bytes s
 
 -- a deck that passes, and what its tables and the memo of charges hold
-pub record Passed (s rules parts memo : List ℕ) (k : Counted.Deck) (charge : ℕ) : Type 0 where
-  pub passes : passing s ≡ accepted (layoutOf s)
+pub record Passed (f : Form) (s rules parts memo : List ℕ) (k : Counted.Deck) (charge : ℕ) : Type 0 where
+  pub passes : passing f s ≡ accepted (layoutOf s)
   pub largest : largestCharge (deckOf s) ≡ charge
   pub tabled : Tabled s k rules parts
   pub acyclic : AcyclicTables rules parts (k .channels) (k .rules) (k .parts)
   pub charges : Memo (shape rules parts k) memo
   pub bytes : Bytes s
 
-abbrev pub Judges : List ℕ → List ℕ → List ℕ → List ℕ → Judged → Type 0
-Judges s rules parts memo (Passing k n) = Passed s rules parts memo k n
-Judges s rules parts memo (Refused n p) = passing s ≡ refused n p
+abbrev pub Judges : Form → List ℕ → List ℕ → List ℕ → List ℕ → Judged → Type 0
+Judges f s rules parts memo (Passing k n) = Passed f s rules parts memo k n
+Judges f s rules parts memo (Refused n p) = passing f s ≡ refused n p
+
+-- the same of a deck that was read, in whichever form
+abbrev pub JudgesRead : List ℕ → List ℕ → List ℕ → List ℕ → Judged → Type 0
+JudgesRead s rules parts memo r = (f : Form) → read f s ≡ accepted (layoutOf s) → Judges f s rules parts memo r

@@ -11,6 +11,7 @@ use Rattle.deck.specs.Layout.{truths, Layout, expression, ownOnly, taskScope, a
 use Rattle.deck.specs.Tables.{TablesOf, Ranged}
 use Rattle.deck.specs.declared.Deck as Counted
 use Rattle.deck.specs.Laws.Points.{ReadsAt}
+use Rattle.deck.specs.declared.Form.the-variants.{Old, New}
 use Rattle.deck.specs.Laws.Formed.{Formed}
 use Rattle.deck.specs.Laws.Scoped.{Scoped}
 
@@ -19,8 +20,14 @@ abbrev pub layoutIn : Outcome Layout → Layout
 layoutIn (refused n p) = record { deck = record { labels = []; rules = []; parts = [] }; rulesAt = 0; partsAt = 0 }
 layoutIn (accepted l) = l
 
+-- the first of two readings that is accepted
+abbrev pub firstRead : Outcome Layout → Outcome Layout → Outcome Layout
+firstRead (refused n p) o = o
+firstRead (accepted l) o = accepted l
+
+-- in whichever form the bytes are read: no bytes hold two decks
 unfoldable pub layoutOf : List ℕ → Layout
-layoutOf bytes = layoutIn (read bytes)
+layoutOf bytes = layoutIn (firstRead (read New bytes) (read Old bytes))
 
 -- the deck that the bytes hold
 abbrev pub deckOf : List ℕ → Deck

@@ -278,8 +278,8 @@ fn change(pool: &mut [i32; LONGEST_POOL], host: Host, request: Request, v: i32) 
     }
 }
 
-// Does what a line asks for.
-pub fn perform(
+// Does what a line asks for that leaves the deck as it is.
+fn perform(
     deck: &[u8],
     pool: &mut [i32; LONGEST_POOL],
     host: Host,
@@ -303,4 +303,20 @@ pub fn perform(
         }
         _ => change(pool, host, request, second(numbers)),
     }
+}
+
+// The same with the deck's room and how many of its bytes the deck has.
+pub fn perform_on(
+    deck: &[u8],
+    size: usize,
+    pool: &mut [i32; LONGEST_POOL],
+    host: Host,
+    request: Request,
+    numbers: &[i32; KEPT],
+    count: usize,
+) -> Turn
+    requires { ⌜ (size ≤ length (now deck)) × (host .length ≤ 700000) × (count ≤ 128) ⌝ }
+    ensures { λ r. ⌜ r .host .length ≤ 700000 ⌝ }
+{
+    perform(&deck[..size], pool, host, request, numbers, count)
 }

@@ -1,63 +1,101 @@
 // Goes through a text of calls on the memory of one host, and prints an answer for each and at the end what is left in memory.
 // What is read and written is tested and not proved.
+mod conversion_line;
 mod host;
 mod output;
 
 ghost use Prim.Native.Nat.{_≤_};
-ghost use Rattle.report.specs.Input.{Within};
-use deck::Deck;
+use conversion_line::HELD;
 use host::Host;
 use host::LONGEST_POOL;
 use output::ROOM;
 use report::Input;
 use script::KEPT;
 use script::Line;
+use script::Request;
 
-// A host between two bytes of its text: its memory but for the pool, the line as far as it is read, and how many bytes of output
-// wait to be written.
+// A host between two bytes of its text: its memory but for the deck and the pool, how many bytes the deck has, the line as far as it
+// is read, and how many bytes of output wait to be written.
 pub struct Progress {
     pub host: Host,
+    pub size: usize,
     pub line: Line,
     pub waiting: usize,
 }
 
-// Goes through one line, now that it has ended.
-fn end_line(
-    deck: &[u8],
+// Does what a line asks for that leaves the deck as it is.
+fn end_call(
+    deck: &[u8; HELD],
     pool: &mut [i32; LONGEST_POOL],
     progress: Progress,
-    numbers: &mut [i32; KEPT],
+    request: Request,
+    numbers: &[i32; KEPT],
     out: &mut [u8; ROOM],
 ) -> Progress
-    requires { ⌜ (progress .host .length ≤ 700000) × (progress .waiting ≤ 65536) ⌝ }
-    ensures { λ r. ⌜ (r .host .length ≤ 700000) × (r .waiting ≤ 65536) ⌝ }
+    requires { ⌜ (progress .host .length ≤ 700000) × (progress .waiting ≤ 65536) × (progress .size ≤ 50000) ⌝ }
+    ensures { λ r. ⌜ (r .host .length ≤ 700000) × (r .waiting ≤ 65536) × (r .size ≤ 50000) ⌝ }
 {
+    let size = progress.size;
     let line = progress.line;
     let before = progress.host;
     let count = line.kept();
-    let request = line.request(numbers);
-    let turn = host::perform(deck, pool, before, request, numbers, count);
+    let turn = host::perform_on(deck, size, pool, before, request, numbers, count);
     let answer = turn.answer;
     let after = turn.host;
     let waiting = output::print(answer, out, progress.waiting);
     Progress {
         host: after,
+        size: size,
         line: Line::empty(),
         waiting: waiting,
     }
 }
 
+// A conversion: the calls that follow have the new deck, with state and pool as they are.
+fn end_convert(deck: &mut [u8; HELD], progress: Progress, length: u32, out: &mut [u8; ROOM]) -> Progress
+    requires { ⌜ (progress .host .length ≤ 700000) × (progress .waiting ≤ 65536) × (progress .size ≤ 50000) ⌝ }
+    ensures { λ r. ⌜ (r .host .length ≤ 700000) × (r .waiting ≤ 65536) × (r .size ≤ 50000) ⌝ }
+{
+    let host = progress.host;
+    let after = conversion_line::convert(deck, progress.size, length, out, progress.waiting);
+    Progress {
+        host: host,
+        size: after.size,
+        line: Line::empty(),
+        waiting: after.waiting,
+    }
+}
+
+// Goes through one line, now that it has ended.
+fn end_line(
+    deck: &mut [u8; HELD],
+    pool: &mut [i32; LONGEST_POOL],
+    progress: Progress,
+    numbers: &mut [i32; KEPT],
+    out: &mut [u8; ROOM],
+) -> Progress
+    requires { ⌜ (progress .host .length ≤ 700000) × (progress .waiting ≤ 65536) × (progress .size ≤ 50000) ⌝ }
+    ensures { λ r. ⌜ (r .host .length ≤ 700000) × (r .waiting ≤ 65536) × (r .size ≤ 50000) ⌝ }
+{
+    let line = progress.line;
+    let request = line.request(numbers);
+    match request {
+        Request::Convert(length) => end_convert(deck, progress, length, out),
+        _ => end_call(deck, pool, progress, request, numbers, out),
+    }
+}
+
 // Goes through some bytes of the text.
 fn play_bytes(
-    deck: &[u8],
+    deck: &mut [u8; HELD],
     pool: &mut [i32; LONGEST_POOL],
     progress: Progress,
     numbers: &mut [i32; KEPT],
     out: &mut [u8; ROOM],
     bytes: &[u8],
 ) -> Progress
-    requires { ⌜ (progress .host .length ≤ 700000) × (progress .waiting ≤ 65536) ⌝ }
-    ensures { λ r. ⌜ (r .host .length ≤ 700000) × (r .waiting ≤ 65536) ⌝ }
+    requires { ⌜ (progress .host .length ≤ 700000) × (progress .waiting ≤ 65536) × (progress .size ≤ 50000) ⌝ }
+    ensures { λ r. ⌜ (r .host .length ≤ 700000) × (r .waiting ≤ 65536) × (r .size ≤ 50000) ⌝ }
 {
     let mut now = progress;
     let mut i: usize = 0;
@@ -81,15 +119,15 @@ pub struct Played {
 }
 
 fn play_some(
-    deck: &[u8],
+    deck: &mut [u8; HELD],
     pool: &mut [i32; LONGEST_POOL],
     progress: Progress,
     numbers: &mut [i32; KEPT],
     out: &mut [u8; ROOM],
     fd: i32,
 ) -> Played
-    requires { ⌜ (progress .host .length ≤ 700000) × (progress .waiting ≤ 65536) ⌝ }
-    ensures { λ r. ⌜ (r .progress .host .length ≤ 700000) × (r .progress .waiting ≤ 65536) ⌝ }
+    requires { ⌜ (progress .host .length ≤ 700000) × (progress .waiting ≤ 65536) × (progress .size ≤ 50000) ⌝ }
+    ensures { λ r. ⌜ (r .progress .host .length ≤ 700000) × (r .progress .waiting ≤ 65536) × (r .progress .size ≤ 50000) ⌝ }
 {
     let mut bytes = io::large_buffer();
     let got = libc::read(fd, &mut bytes);
@@ -113,15 +151,15 @@ fn play_some(
 // Goes through the whole text. A proved loop has to end, and nothing says that a text does: so it counts its reads down, from a
 // number that no run uses up.
 fn play_text(
-    deck: &[u8],
+    deck: &mut [u8; HELD],
     pool: &mut [i32; LONGEST_POOL],
     progress: Progress,
     numbers: &mut [i32; KEPT],
     out: &mut [u8; ROOM],
     fd: i32,
 ) -> Progress
-    requires { ⌜ (progress .host .length ≤ 700000) × (progress .waiting ≤ 65536) ⌝ }
-    ensures { λ r. ⌜ (r .host .length ≤ 700000) × (r .waiting ≤ 65536) ⌝ }
+    requires { ⌜ (progress .host .length ≤ 700000) × (progress .waiting ≤ 65536) × (progress .size ≤ 50000) ⌝ }
+    ensures { λ r. ⌜ (r .host .length ≤ 700000) × (r .waiting ≤ 65536) × (r .size ≤ 50000) ⌝ }
 {
     let mut now = progress;
     let mut reads = u64::MAX;
@@ -136,13 +174,16 @@ fn play_text(
     now
 }
 
-// Goes through a text of calls on a deck, and then prints what is left in memory.
-pub fn play(deck: &[u8], fd: i32) {
+// Goes through a text of calls on a deck of so many bytes, and then prints what is left in memory.
+fn play(deck: &mut [u8; HELD], size: usize, fd: i32)
+    requires { ⌜ size ≤ 50000 ⌝ }
+{
     let mut pool = [0i32; LONGEST_POOL];
     let mut numbers = [0i32; KEPT];
     let mut out = [0u8; ROOM];
     let first = Progress {
         host: host::new(),
+        size: size,
         line: Line::empty(),
         waiting: 0,
     };
@@ -152,13 +193,13 @@ pub fn play(deck: &[u8], fd: i32) {
     output::finish(left, &pool, &mut out, last.waiting);
 }
 
-// Reads a deck from one descriptor and goes through the calls that come from another. One byte more than the longest deck that
-// can pass already shows the fault.
+// Reads a deck from one descriptor and goes through the calls that come from another. One byte more than the longest old deck already
+// shows the fault, and there is room for more.
 pub fn replay(deck: i32, calls: i32) {
-    let mut buf = [0u8; Deck::BYTES + 1];
+    let mut buf = [0u8; HELD];
     let Input::Bytes(n) = report::read_all(deck, &mut buf) else {
         os::fail(b"cannot read the deck");
         return;
     };
-    play(&buf[..n], calls);
+    play(&mut buf, n, calls);
 }

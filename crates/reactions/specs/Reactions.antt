@@ -11,7 +11,8 @@ use Rattle.deck.specs.Deck.{Deck, Rule, M, ruleAt, carries, active}
 use Rattle.deck.specs.declared.Deck as Counted
 use Rattle.charge.specs.Memo.{Memo, Ready}
 use Rattle.pool.specs.Updates.{Update, charge}
-use Rattle.passing.specs.Tabled.{Tabled}
+use Rattle.deck.specs.Laws.Forms.{NoDefaults}
+use Rattle.passing.specs.Tabled.{deckOf, Tabled}
 use Rattle.passing.specs.Judged.{shape}
 use Rattle.firing.specs.Firing.{fired}
 use Rattle.holes.specs.Slots.{Slot, standing, holes}
@@ -40,6 +41,7 @@ Fires d values p mask e C held₀ q₀ m held q =
 -- tables, memo and room as for the firing, with so many places used and pending updates of so much charge
 pub record Reacting (s : List ℕ) (k : Counted.Deck) (rules parts memo : List ℕ) (held : Held) (C used total : ℕ) : Type 0 where
   pub tabled : Tabled s k rules parts
+  pub none : NoDefaults (deckOf s)
   pub ready : Ready rules parts (k .channels) (k .rules) (k .parts) memo
   pub slots : List Slot
   pub room : Room C (holes slots) held

@@ -4,6 +4,7 @@ ghost use Prim.Native.Nat.{_<_};
 ghost use lib.ListN.{length};
 ghost use Rattle.lists.specs.Lists.{flatMap};
 ghost use Rattle.deck.specs.Deck.{ruleAt};
+ghost use Rattle.deck.specs.Laws.Forms.{NoDefaults};
 ghost use Rattle.charge.specs.Charge.{others};
 ghost use Rattle.passing.specs.Tabled.{deckOf, Tabled};
 ghost use Rattle.passing.specs.Judged.{shape};
@@ -13,7 +14,7 @@ ghost use Rattle.reactions.specs.Reactions.{FiresAll, Reacting, Reacts};
 use deck::Deck;
 use offers::Queue;
 
-// What rule r at part p adds to p itself: its default action and, for kind 0 with the condition true, its action.
+// What rule r at part p adds to p itself: its action, for kind 0 with the condition true. A new deck has no default actions.
 fn fire_here(
     deck: &[u8],
     counts: Deck,
@@ -28,23 +29,23 @@ fn fire_here(
     p: usize,
     r: usize,
 ) -> Queue
-    requires { ⌜ Tabled (now deck) counts (now rules) (now parts) × Offering (now rules) (now parts) counts capacity (now memo) (heldOf (now index) (now pool)) queue × (length (now values) ≡ 512) × (p < counts .parts) × (r < counts .rules) ⌝ }
+    requires { ⌜ Tabled (now deck) counts (now rules) (now parts)
+        × Offering (now rules) (now parts) counts capacity (now memo) (heldOf (now index) (now pool)) queue
+        × (length (now values) ≡ 512) × (p < counts .parts) × (r < counts .rules) × NoDefaults (deckOf (now deck)) ⌝ }
     ensures { λ q. ⌜ Offered (shape (now (rules .entry)) (now (parts .entry)) counts) capacity (firedHere (now (values .entry)) p (ruleAt (deckOf (now (deck .entry))) r)) (heldOf (now (index .entry)) (now (pool .entry))) queue (now (memo .exit)) (heldOf (now (index .exit)) (now (pool .exit))) q ⌝ }
 {
+    if rules[Deck::RULE_ROW * r + 3] == 1 {
+        return queue;
+    }
     let from = Deck::CHANNELS * p;
     let to = from + counts.channels;
     let own = &values[from..to];
     let far = &values[0..0];
-    let default = rules[Deck::RULE_ROW * r + 4] as usize;
-    let first = offers::offer_default(deck, counts, rules, parts, memo, index, pool, capacity, queue, default, p, own, far);
-    if rules[Deck::RULE_ROW * r + 3] == 1 {
-        return first;
-    }
     if judging::truth_from(deck, rules[Deck::RULE_ROW * r + 5] as usize, values, from, counts.channels, 0, 0) {
         let action = rules[Deck::RULE_ROW * r + 6] as usize;
-        offers::offer(deck, counts, rules, parts, memo, index, pool, capacity, first, action, p, own, far)
+        offers::offer(deck, counts, rules, parts, memo, index, pool, capacity, queue, action, p, own, far)
     } else {
-        first
+        queue
     }
 }
 
@@ -129,7 +130,9 @@ fn fire_all_here(
     p: usize,
     set: u64,
 ) -> Queue
-    requires { ⌜ Tabled (now deck) counts (now rules) (now parts) × Offering (now rules) (now parts) counts capacity (now memo) (heldOf (now index) (now pool)) queue × (length (now values) ≡ 512) × (p < counts .parts) ⌝ }
+    requires { ⌜ Tabled (now deck) counts (now rules) (now parts)
+        × Offering (now rules) (now parts) counts capacity (now memo) (heldOf (now index) (now pool)) queue
+        × (length (now values) ≡ 512) × (p < counts .parts) × NoDefaults (deckOf (now deck)) ⌝ }
     ensures { λ s. ⌜ FiresAll (deckOf (now (deck .entry))) (λ r. firedHere (now (values .entry)) p r) p set (shape (now (rules .entry)) (now (parts .entry)) counts) capacity (heldOf (now (index .entry)) (now (pool .entry))) queue (now (memo .exit)) (heldOf (now (index .exit)) (now (pool .exit))) s × Offering (now (rules .entry)) (now (parts .entry)) counts capacity (now (memo .exit)) (heldOf (now (index .exit)) (now (pool .exit))) s ⌝ }
 {
     let n = counts.rules;

@@ -1,4 +1,4 @@
-// The pass over a deck's bytes: the faults 1 to 5, 18 and 19, the two tables, and the stretch of a section. The definitions are in
+// The pass over a deck's bytes: the faults 1 to 5 and 18 to 20, the two tables, and the stretch of a section. The definitions are in
 // `deck`.
 ghost use mathlib.Core.Path.{_≡_};
 ghost use Prim.Native.Nat.{_≤_};
@@ -6,6 +6,7 @@ ghost use lib.ListN.{length};
 ghost use Rattle.deck.specs.Stretch.{LiesAt};
 ghost use Rattle.deck.specs.Marks.{RulesFit, FewRules, ReadsFront, Loads, offsetOf, stretchOf};
 use deck::Deck;
+use deck::Form;
 use deck::Front;
 use deck::Loaded;
 use deck::Step;
@@ -22,9 +23,9 @@ fn no_front(step: Step) -> Front
 }
 
 // The channels and the rules.
-fn front_at(s: &[u8], table: &mut [u64]) -> Front
+fn front_at(s: &[u8], table: &mut [u64], form: Form) -> Front
     requires { ⌜ RulesFit (now s) (length (now table)) ⌝ }
-    ensures { λ r. ⌜ ReadsFront (now (s .entry)) r (now (table .exit)) (now (table .entry)) ⌝ }
+    ensures { λ r. ⌜ ReadsFront form (now (s .entry)) r (now (table .exit)) (now (table .entry)) ⌝ }
 {
     let r = fields::number_at(s, 0, 1, Deck::CHANNELS + 1);
     let channels = r.value;
@@ -42,7 +43,7 @@ fn front_at(s: &[u8], table: &mut [u64]) -> Front
     let Step::Next(from) = count else {
         return no_front(count);
     };
-    let last = rule_reading::rules_at(s, from, channels, rules, table);
+    let last = rule_reading::rules_at(s, from, channels, rules, table, form);
     Front {
         channels: channels,
         rules: rules,
@@ -51,12 +52,12 @@ fn front_at(s: &[u8], table: &mut [u64]) -> Front
     }
 }
 
-// One pass over the bytes: the deck, its rules and parts in the tables, or the first fault in reading order, 1 to 5, 18 or 19.
-pub fn read(deck: &[u8], rules: &mut [u64], parts: &mut [u64]) -> Loaded
+// One pass over the bytes: the deck, its rules and parts in the tables, or the first fault in reading order, 1 to 5 or 18 to 20.
+pub fn read(deck: &[u8], rules: &mut [u64], parts: &mut [u64], form: Form) -> Loaded
     requires { ⌜ RulesFit (now deck) (length (now rules)) × (64 ≤ length (now parts)) ⌝ }
-    ensures { λ r. ⌜ Loads (now (deck .entry)) (now (rules .exit)) (now (rules .entry)) (now (parts .exit)) (now (parts .entry)) r ⌝ }
+    ensures { λ r. ⌜ Loads form (now (deck .entry)) (now (rules .exit)) (now (rules .entry)) (now (parts .exit)) (now (parts .entry)) r ⌝ }
 {
-    let f = front_at(deck, rules);
+    let f = front_at(deck, rules, form);
     let first = f.step;
     let Step::Next(third) = first else {
         return fields::wrong(first);

@@ -78,6 +78,18 @@ wrongType = 18
 abbrev pub wrongEnd : ℕ
 wrongEnd = 19
 
+-- 20. A rule of a new deck has a default action
+abbrev pub defaultRetired : ℕ
+defaultRetired = 20
+
+-- 21. More than 64 rules would result from a conversion
+abbrev pub tooManyRules : ℕ
+tooManyRules = 21
+
+-- 22. The buffer is too short for the converted deck
+abbrev pub bufferTooShort : ℕ
+bufferTooShort = 22
+
 -- the last of them
 abbrev pub lastNumber : ℕ
-lastNumber = wrongEnd
+lastNumber = bufferTooShort

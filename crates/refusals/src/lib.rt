@@ -36,3 +36,9 @@ pub const INPUT_OUTSIDE: u32 = 17;
 pub const WRONG_TYPE: u32 = 18;
 
 pub const WRONG_END: u32 = 19;
+
+pub const DEFAULT_RETIRED: u32 = 20;
+
+pub const TOO_MANY_RULES: u32 = 21;
+
+pub const BUFFER_TOO_SHORT: u32 = 22;

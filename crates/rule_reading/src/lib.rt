@@ -7,11 +7,13 @@ ghost use Rattle.lists.specs.Lists.{flatMap};
 ghost use Rattle.lists.specs.Bits.{maskOf};
 ghost use Rattle.deck.specs.Deck.{targets};
 ghost use Rattle.deck.specs.Reader.{times};
-ghost use Rattle.deck.specs.Layout.{action};
+ghost use Rattle.deck.specs.Layout.{action, defaultAction};
+ghost use Rattle.deck.specs.declared.Form.the-variants.{New};
 ghost use Rattle.deck.specs.Encoding.{kindByte};
 ghost use Rattle.deck.specs.Marks.{Reads, scopeOf, ReadsAssignment, markedTask, markedRule, ruleRow};
 use deck::Byte;
 use deck::Deck;
+use deck::Form;
 use deck::Set;
 use deck::Step;
 
@@ -82,6 +84,47 @@ fn action_at(s: &[u8], at: usize, own: usize, far: usize) -> Set
     }
 }
 
+// No default action: a count of 0. A new deck's rule has none.
+fn none_at(s: &[u8], at: usize, own: usize) -> Set
+    ensures { λ r. ⌜ Reads (now (s .entry)) (defaultAction New own (drop at (now (s .entry))) at) (λ a. r .mask ≡ maskOf (targets a))
+        (r .step) ⌝ }
+{
+    let b = fields::number_at(s, at, 0, Deck::ASSIGNMENTS + 1);
+    let count = b.value;
+    let step = b.step;
+    let Step::Next(next) = step else {
+        return Set {
+            mask: 0,
+            step: step,
+        };
+    };
+    if count == 0 {
+        return Set {
+            mask: 0,
+            step: Step::Next(next),
+        };
+    }
+    Set {
+        mask: 0,
+        step: Step::Fault {
+            number: refusals::DEFAULT_RETIRED,
+            place: at,
+        },
+    }
+}
+
+// A default action, by the deck's form.
+fn default_at(s: &[u8], at: usize, own: usize, form: Form) -> Set
+    requires { ⌜ own ≤ 32 ⌝ }
+    ensures { λ r. ⌜ Reads (now (s .entry)) (defaultAction form own (drop at (now (s .entry))) at) (λ a. r .mask ≡ maskOf (targets a))
+        (r .step) ⌝ }
+{
+    match form {
+        Form::Old => action_at(s, at, own, 0),
+        Form::New => none_at(s, at, own),
+    }
+}
+
 // What is kept of a rule's kind, condition and action, and the place after them.
 pub struct Task {
     pub kind: u64,
@@ -146,9 +189,9 @@ fn no_rule(step: Step) -> RuleRead
 }
 
 // A rule.
-fn rule_at(s: &[u8], at: usize, own: usize) -> RuleRead
+fn rule_at(s: &[u8], at: usize, own: usize, form: Form) -> RuleRead
     requires { ⌜ own ≤ 32 ⌝ }
-    ensures { λ r. ⌜ Reads (now (s .entry)) (markedRule own (drop at (now (s .entry))) at) (λ m. r .row ≡ ruleRow m) (r .step) ⌝ }
+    ensures { λ r. ⌜ Reads (now (s .entry)) (markedRule form own (drop at (now (s .entry))) at) (λ m. r .row ≡ ruleRow m) (r .step) ⌝ }
 {
     let n = fields::number_at(s, at, 1, Deck::EVENTS + 1);
     let count = n.value;
@@ -158,10 +201,10 @@ fn rule_at(s: &[u8], at: usize, own: usize) -> RuleRead
     };
     let events = fields::rising_at(s, events_at, count, own);
     let second = events.step;
-    let Step::Next(default_at) = second else {
+    let Step::Next(default_from) = second else {
         return no_rule(second);
     };
-    let default = action_at(s, default_at, own, 0);
+    let default = default_at(s, default_from, own, form);
     let third = default.step;
     let Step::Next(task_from) = third else {
         return no_rule(third);
@@ -173,7 +216,7 @@ fn rule_at(s: &[u8], at: usize, own: usize) -> RuleRead
         default.mask,
         t.targets,
         t.kind,
-        default_at as u64,
+        default_from as u64,
         t.condition as u64,
         t.action as u64,
         0,
@@ -185,14 +228,22 @@ fn rule_at(s: &[u8], at: usize, own: usize) -> RuleRead
 }
 
 // So many rules, a row of eight numbers for each.
-pub fn rules_at(s: &[u8], at: usize, own: usize, count: usize, table: &mut [u64]) -> Step
+pub fn rules_at(
+    s: &[u8],
+    at: usize,
+    own: usize,
+    count: usize,
+    table: &mut [u64],
+    form: Form,
+) -> Step
     requires { ⌜ (at ≤ length (now s)) × (own ≤ 32) × (8 * count ≤ length (now table)) ⌝ }
-    ensures { λ r. ⌜ Reads (now (s .entry)) (times count (markedRule own) (drop at (now (s .entry))) at) (λ ms. now (table .exit) ≡ flatMap ruleRow ms ++ drop (8 * count) (now (table .entry))) r ⌝ }
+    ensures { λ r. ⌜ Reads (now (s .entry)) (times count (markedRule form own) (drop at (now (s .entry))) at)
+        (λ ms. now (table .exit) ≡ flatMap ruleRow ms ++ drop (8 * count) (now (table .entry))) r ⌝ }
 {
     let mut place = at;
     let mut i: usize = 0;
     while i < count {
-        let rule = rule_at(s, place, own);
+        let rule = rule_at(s, place, own, form);
         let row = rule.row;
         let step = rule.step;
         let Step::Next(next) = step else {

@@ -33,6 +33,7 @@ pub enum Request {
     Commit(u32),
     Settle(u32),
     Section(u32),
+    Convert(u32),
     Value(u32),
     Pool(u32),
     Pending(u32),
@@ -224,6 +225,9 @@ fn one_field(word: u64, n: u32) -> Request {
     }
     if word == word_of(b"section") {
         return Request::Section(n);
+    }
+    if word == word_of(b"convert") {
+        return Request::Convert(n);
     }
     if word == word_of(b"pending") {
         return Request::Pending(n);

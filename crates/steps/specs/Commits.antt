@@ -9,6 +9,7 @@ use lib.IntN.{ℤ}
 use Rattle.deck.specs.Deck.{Deck}
 use Rattle.deck.specs.declared.Deck as Counted
 use Rattle.graph.specs.Laws.Cycles.{Acyclic}
+use Rattle.deck.specs.Laws.Forms.{NoDefaults}
 use Rattle.charge.specs.Charge.{updateCharge}
 use Rattle.charge.specs.Memo.{Memo, Ready, capped}
 use Rattle.lists.specs.Lists.{all}
@@ -71,6 +72,7 @@ pub record Without (d : Deck) (C j : ℕ) (x : Machine) (left : List Slot) (back
 pub record Finishing (s : List ℕ) (k : Counted.Deck) (rules parts memo : List ℕ) (held : Held) (C : ℕ) (back after : List ℤ)
     (part mask used total : ℕ) : Type 0 where
   pub tabled : Tabled s k rules parts
+  pub none : NoDefaults (deckOf s)
   pub ready : Ready rules parts (k .channels) (k .rules) (k .parts) memo
   pub acyclic : Acyclic (deckOf s)
   pub assignable : Assignable back

@@ -1,11 +1,11 @@
 //! What is measured.
 
-use crate::decks::{bounded, cascade, figure, BOUND, ENTERED, LAST, MOST_BOUNDS};
+use crate::decks::{bounded, cascade, figure, old_figure, BOUND, ENTERED, LAST, MOST_BOUNDS};
 use crate::engines::{Engine, Reference};
-use reaction::raw::{Memory, Returned, PLACE};
+use reaction::raw::{Memory, Returned, LONGEST_DECK, PLACE};
 use reaction::Refusal;
-use reference::deck::Deck;
-use reference::generate::decks::longest;
+use reference::deck::{Deck, Form};
+use reference::generate::decks::{longest, longest_of};
 use reference::random::Random;
 use reference::refusal::{INPUT_OUTSIDE_LIMIT, UNKNOWN_BYTE};
 use reference::stored::deck_d;
@@ -18,29 +18,52 @@ pub enum Call {
     Input { part: u32, pairs: Vec<i32> },
     Commit { place: u32 },
     Settle { budget: u32 },
+    Convert,
+}
+
+/// What a call is lent besides the deck: memory, or a buffer for a conversion.
+#[derive(Clone, PartialEq, Eq)]
+pub struct Lent {
+    pub memory: Memory,
+    pub buffer: Vec<u8>,
+}
+
+impl Lent {
+    /// No memory and no buffer.
+    pub fn nothing() -> Lent {
+        Lent::from(Memory::new(0))
+    }
+}
+
+impl From<Memory> for Lent {
+    fn from(memory: Memory) -> Lent {
+        Lent { memory, buffer: Vec::new() }
+    }
 }
 
 impl Call {
     /// Makes the call.
-    pub fn make(&self, engine: &mut dyn Engine, deck: &[u8], memory: &mut Memory) -> Returned {
+    pub fn make(&self, engine: &mut dyn Engine, deck: &[u8], lent: &mut Lent) -> Returned {
+        let Lent { memory, buffer } = lent;
         match self {
             Call::Check => engine.check(deck),
             Call::Start => engine.start(deck, memory),
             Call::Input { part, pairs } => engine.input(deck, memory, *part, pairs),
             Call::Commit { place } => engine.commit(deck, memory, *place),
             Call::Settle { budget } => engine.settle(deck, memory, *budget),
+            Call::Convert => engine.convert(deck, buffer),
         }
     }
 }
 
-/// A call on a deck and memory.
+/// A call on a deck and what else it is lent.
 pub struct Case {
     /// What it is, for the table.
     pub name: String,
     /// How large it is, in its group's unit.
     pub size: usize,
     pub deck: Vec<u8>,
-    pub memory: Memory,
+    pub lent: Lent,
     pub call: Call,
     /// The refusal that it comes to, none where it is accepted.
     pub refused: Option<Refusal>,
@@ -79,6 +102,7 @@ pub fn groups() -> Vec<Group> {
         },
         Group { name: "settle of updates that nothing follows", unit: "commit", cases: settles() },
         Group { name: "settle of one update that others follow", unit: "commit", cases: cascades() },
+        Group { name: "convert", unit: "byte", cases: conversions() },
     ]
 }
 
@@ -105,10 +129,29 @@ fn checked(name: &str, deck: Vec<u8>) -> Case {
         name: format!("{name}: {} bytes", deck.len()),
         size: deck.len(),
         deck,
-        memory: Memory::new(0),
+        lent: Lent::nothing(),
         call: Call::Check,
         refused: None,
     }
+}
+
+/// Deck D comes out as it was; of all others each rule becomes two.
+fn conversions() -> Vec<Case> {
+    let mut longest = longest_of(&mut Random::new(1), Form::Old);
+    longest.rules.truncate(Deck::RULES / 2);
+    longest.parts.iter_mut().for_each(|part| part.carried.truncate(Deck::RULES / 2));
+    let decks = [
+        ("deck D", deck_d()),
+        ("4 parts, 8 rules", old_figure(4, 8, 1).encode().bytes),
+        ("16 parts, 32 rules", old_figure(16, 32, 1).encode().bytes),
+        ("the longest with 32 rules", longest.encode().bytes),
+    ];
+    decks.into_iter().map(|(name, deck)| converted(name, deck)).collect()
+}
+
+fn converted(name: &str, deck: Vec<u8>) -> Case {
+    let lent = Lent { buffer: vec![0; LONGEST_DECK], ..Lent::nothing() };
+    Case { lent, call: Call::Convert, ..checked(name, deck) }
 }
 
 /// The deck with a last byte that is no operator and no channel, and its refusal: the last limit ends with a channel.
@@ -135,7 +178,7 @@ fn starts() -> Vec<Case> {
     let case = |places: usize| Case {
         name: counted(places, "place"),
         size: places,
-        memory: started(&deck, places),
+        lent: started(&deck, places).into(),
         deck: deck.clone(),
         call: Call::Start,
         refused: None,
@@ -152,7 +195,7 @@ fn enter() -> Call {
 /// An input with so many updates pending, and room for those that follow.
 fn entered(name: String, size: usize, deck: &Deck, count: usize) -> Case {
     let memory = pending(deck, count, count + 1000);
-    Case { name, size, deck: deck.encode().bytes, memory, call: enter(), refused: None }
+    Case { name, size, deck: deck.encode().bytes, lent: memory.into(), call: enter(), refused: None }
 }
 
 fn inputs_by_parts(pending: usize) -> Vec<Case> {
@@ -200,7 +243,7 @@ fn committed(name: String, size: usize, count: usize, places: usize, place: usiz
         memory.pool[PLACE * place + 2] = i32::from(ENTERED);
     }
     let call = Call::Commit { place: place as u32 };
-    Case { name, size, deck: deck.encode().bytes, memory, call, refused: None }
+    Case { name, size, deck: deck.encode().bytes, lent: memory.into(), call, refused: None }
 }
 
 fn commits(place: impl Fn(usize) -> usize) -> Vec<Case> {
@@ -222,7 +265,7 @@ fn settles() -> Vec<Case> {
         name: counted(count, "commit"),
         size: count,
         deck: deck.encode().bytes,
-        memory: pending(&deck, count, count),
+        lent: pending(&deck, count, count).into(),
         call: Call::Settle { budget: 65_535 },
         refused: None,
     };
@@ -241,7 +284,7 @@ fn cascades() -> Vec<Case> {
             name: counted(commits, "commit"),
             size: commits,
             deck,
-            memory,
+            lent: memory.into(),
             call: Call::Settle { budget: 65_535 },
             refused: None,
         }

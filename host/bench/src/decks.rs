@@ -35,6 +35,13 @@ pub fn figure(parts: usize, rules: usize, terms: usize) -> Deck {
     }
 }
 
+/// The same as an old deck: what each rule sets is set by a default action as well.
+pub fn old_figure(parts: usize, rules: usize, terms: usize) -> Deck {
+    let mut deck = figure(parts, rules, terms);
+    deck.rules.iter_mut().for_each(|rule| rule.default_action = rule.action.clone());
+    deck
+}
+
 /// Entered channels stay below this in a figure with bounds, and a limit has room for so many of those.
 pub const BOUND: i32 = 1_000;
 pub const MOST_BOUNDS: u8 = 7;

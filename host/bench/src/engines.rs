@@ -4,7 +4,7 @@ use crate::plain;
 use reaction::raw::{self, Memory, Returned};
 use reference::State;
 
-/// The six calls, on memory of any content.
+/// The seven calls, on memory of any content.
 pub trait Engine {
     /// What it is called in a table.
     fn name(&self) -> &'static str;
@@ -14,6 +14,7 @@ pub trait Engine {
     fn input(&mut self, deck: &[u8], memory: &mut Memory, part: u32, pairs: &[i32]) -> Returned;
     fn commit(&mut self, deck: &[u8], memory: &mut Memory, place: u32) -> Returned;
     fn settle(&mut self, deck: &[u8], memory: &mut Memory, budget: u32) -> Returned;
+    fn convert(&mut self, deck: &[u8], buffer: &mut [u8]) -> Returned;
 }
 
 /// The proved engine, through the archive.
@@ -47,6 +48,10 @@ impl Engine for Archive {
     fn settle(&mut self, deck: &[u8], memory: &mut Memory, budget: u32) -> Returned {
         memory.settle(deck, budget)
     }
+
+    fn convert(&mut self, deck: &[u8], buffer: &mut [u8]) -> Returned {
+        raw::convert(deck, buffer)
+    }
 }
 
 /// What a call that is accepted hands back, filled up with zeros.
@@ -62,7 +67,7 @@ fn refused(number: u32, place: u32) -> Returned {
 
 impl Engine for plain::Engine {
     fn name(&self) -> &'static str {
-        "plain"
+        self.name()
     }
 
     fn check(&mut self, deck: &[u8]) -> Returned {
@@ -88,6 +93,10 @@ impl Engine for plain::Engine {
 
     fn settle(&mut self, deck: &[u8], memory: &mut Memory, budget: u32) -> Returned {
         returned(self.settle(deck, memory, budget).map(|(made, settled)| accepted([made, settled.into()])))
+    }
+
+    fn convert(&mut self, deck: &[u8], buffer: &mut [u8]) -> Returned {
+        returned(self.convert(deck, buffer).map(|length| accepted([length])))
     }
 }
 
@@ -157,5 +166,10 @@ impl Engine for Reference {
             let answer = reference::settle(deck, pool, state, budget);
             answer.map(|done| accepted([done.commits, done.settled.into()]))
         })
+    }
+
+    fn convert(&mut self, deck: &[u8], buffer: &mut [u8]) -> Returned {
+        let answer = reference::convert(deck, buffer);
+        Reference::returned(answer.map(|length| accepted([length as u32])))
     }
 }

@@ -1,8 +1,8 @@
 //! How long a call takes.
 
-use crate::cases::{Call, Case};
+use crate::cases::{Call, Case, Lent};
 use crate::engines::Engine;
-use reaction::raw::{Memory, Returned};
+use reaction::raw::Returned;
 use std::hint::black_box;
 use std::time::Instant;
 
@@ -18,7 +18,7 @@ const LONG: f64 = 1.0;
 /// The engines, and where each works.
 pub struct Measured {
     pub engine: Box<dyn Engine>,
-    batch: Vec<Memory>,
+    batch: Vec<Lent>,
 }
 
 impl Measured {
@@ -26,31 +26,33 @@ impl Measured {
         Measured { engine, batch: Vec::new() }
     }
 
-    /// Makes the call once on a copy of the case's memory.
-    fn try_once(&mut self, case: &Case) -> (Returned, Memory) {
-        let mut memory = case.memory.clone();
-        let returned = case.call.make(self.engine.as_mut(), &case.deck, &mut memory);
-        (returned, memory)
+    /// Makes the call once on a copy of what the case lends.
+    fn try_once(&mut self, case: &Case) -> (Returned, Lent) {
+        let mut lent = case.lent.clone();
+        let returned = case.call.make(self.engine.as_mut(), &case.deck, &mut lent);
+        (returned, lent)
     }
 
     /// Seconds for one call, as the mean over a batch.
     fn sample(&mut self, case: &Case, batch: usize) -> f64 {
-        self.batch.resize_with(batch, || Memory::new(0));
-        for memory in &mut self.batch {
-            memory.clone_from(&case.memory);
+        self.batch.resize_with(batch, Lent::nothing);
+        for lent in &mut self.batch {
+            lent.clone_from(&case.lent);
         }
         let start = Instant::now();
-        for memory in &mut self.batch {
-            black_box(case.call.make(self.engine.as_mut(), black_box(&case.deck), memory));
+        for lent in &mut self.batch {
+            black_box(case.call.make(self.engine.as_mut(), black_box(&case.deck), lent));
         }
         start.elapsed().as_secs_f64() / batch as f64
     }
 }
 
 fn batch(case: &Case) -> usize {
+    let Lent { memory, buffer } = &case.lent;
     let lent = match case.call {
         Call::Check => 0,
-        _ => size_of_val(&case.memory.values) + size_of_val(&case.memory.pool[..]),
+        Call::Convert => buffer.len(),
+        _ => size_of_val(&memory.values) + size_of_val(&memory.pool[..]),
     };
     (BATCH_BYTES / lent.max(1)).clamp(1, MOST_IN_BATCH)
 }

@@ -3,22 +3,25 @@
 use bench::cases::{groups, Call};
 use bench::engines::Reference;
 use reaction::Refusal;
+use reference::check;
 use reference::deck::Deck;
 
 #[test]
 fn all_are_accepted_or_refused_and_as_large_as_they_say() {
     for group in groups() {
         for case in group.cases {
-            let mut memory = case.memory.clone();
-            let returned = case.call.make(&mut Reference, &case.deck, &mut memory);
+            let mut lent = case.lent.clone();
+            let returned = case.call.make(&mut Reference, &case.deck, &mut lent);
+            let (before, after) = (&case.lent.memory, &lent.memory);
             let [place, first, second, ..] = returned.answer;
             let expected = case.refused.map_or((0, 0), |refusal| (refusal.number, refusal.place));
             assert_eq!((returned.number, place), expected, "{}, {}", group.name, case.name);
             match case.call {
-                _ if case.refused.is_some() => assert_eq!(memory, case.memory, "{}", case.name),
-                Call::Input { .. } => assert!(memory.pending > case.memory.pending, "{}", case.name),
+                _ if case.refused.is_some() => assert_eq!(after, before, "{}", case.name),
+                Call::Input { .. } => assert!(after.pending > before.pending, "{}", case.name),
                 Call::Commit { .. } => assert_eq!(first, 1, "{}", case.name),
                 Call::Settle { .. } => assert_eq!((first as usize, second), (case.size, 1), "{}", case.name),
+                Call::Convert => assert!(check(&lent.buffer[..first as usize]).is_ok(), "{}", case.name),
                 Call::Check | Call::Start => {}
             }
         }
@@ -29,12 +32,12 @@ fn all_are_accepted_or_refused_and_as_large_as_they_say() {
 #[test]
 fn commits_fire() {
     for case in groups().into_iter().flat_map(|group| group.cases) {
-        if !matches!(case.call, Call::Commit { .. }) || case.memory.pending == 65_535 {
+        if !matches!(case.call, Call::Commit { .. }) || case.lent.memory.pending == 65_535 {
             continue;
         }
-        let mut memory = case.memory.clone();
-        case.call.make(&mut Reference, &case.deck, &mut memory);
-        assert!(memory.pending >= case.memory.pending, "{}", case.name);
+        let mut lent = case.lent.clone();
+        case.call.make(&mut Reference, &case.deck, &mut lent);
+        assert!(lent.memory.pending >= case.lent.memory.pending, "{}", case.name);
     }
 }
 

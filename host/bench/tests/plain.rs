@@ -1,35 +1,67 @@
-//! The plain engine judges decks, faults in expressions among them, and inputs at a limit, as the reference does. Lists
-//! of calls are compared by the package `fuzz`.
+//! The plain engine judges decks of both forms, faults in expressions among them, converts old ones, and judges inputs at
+//! a limit, as the reference does. Lists of calls are compared by the package `fuzz`.
 
 use bench::engines::{Engine, Reference};
 use bench::plain;
-use reaction::raw::{Memory, CHANNELS, PLACE};
-use reference::generate::{deck, Kind, Size};
+use reaction::raw::{Memory, Returned, CHANNELS, PLACE};
+use reference::deck::{Deck, Form};
+use reference::generate::{deck, old_deck, Kind, Size};
 use reference::random::Random;
 use reference::stored;
 use std::collections::BTreeSet;
 
-fn compare(plain: &mut plain::Engine, deck: &[u8]) {
-    assert_eq!(Engine::check(plain, deck), Reference.check(deck), "{deck:?}");
-    for number in 0..4 {
-        let section = Engine::section(plain, deck, number);
-        assert_eq!(section, Reference.section(deck, number), "section {number} of {deck:?}");
+/// Plain engines for new decks and for old ones.
+struct Engines {
+    new: plain::Engine,
+    old: plain::Engine,
+}
+
+impl Engines {
+    fn new() -> Engines {
+        Engines { new: plain::Engine::new(), old: plain::Engine::for_old_decks() }
+    }
+
+    /// Compares what shows the deck, and what is made of it, with the reference.
+    fn compare(&mut self, deck: &[u8]) {
+        assert_eq!(Engine::check(&mut self.new, deck), Reference.check(deck), "{deck:?}");
+        for number in 0..4 {
+            let section = Engine::section(&mut self.new, deck, number);
+            assert_eq!(section, Reference.section(deck, number), "section {number} of {deck:?}");
+        }
+        let passed = self.old.check(deck).map_err(|refusal| (refusal.number, refusal.place));
+        let expected = Form::Old.check(deck).map_err(|refusal| (refusal.number, refusal.place));
+        let expected = expected.map(|passed| [passed.channels, passed.rules, passed.parts, passed.charge]);
+        assert_eq!(passed, expected, "{deck:?}");
+        let [_, length, ..] = self.convert(deck, Deck::BYTES).answer;
+        for length in [0, length.saturating_sub(1), length, length + 1] {
+            self.convert(deck, length as usize);
+        }
+    }
+
+    /// What both converters return; their buffers of so many sevens must be the same after it.
+    fn convert(&mut self, deck: &[u8], length: usize) -> Returned {
+        let (mut one, mut two) = (vec![7; length], vec![7; length]);
+        let returned = Engine::convert(&mut self.new, deck, &mut one);
+        assert_eq!(returned, Reference.convert(deck, &mut two), "{deck:?}, {length} bytes");
+        assert!(one == two, "{deck:?}, {length} bytes");
+        returned
     }
 }
 
 #[test]
 fn agrees_on_generated_decks() {
-    let mut plain = plain::Engine::new();
+    let mut engines = Engines::new();
     for (number, (_, kind)) in (0..800).zip(Kind::ALL.iter().cycle()) {
-        compare(&mut plain, &deck(*kind, &mut Random::new(number), Size::FULL));
+        engines.compare(&deck(*kind, &mut Random::new(number), Size::FULL));
+        engines.compare(&old_deck(*kind, &mut Random::new(number), Size::FULL));
     }
 }
 
 #[test]
 fn agrees_on_stored_decks() {
-    let mut plain = plain::Engine::new();
+    let mut engines = Engines::new();
     for stored in stored::all() {
-        compare(&mut plain, &stored.deck);
+        engines.compare(&stored.deck);
     }
 }
 
@@ -48,30 +80,33 @@ fn expressions() -> impl Iterator<Item = Vec<u8>> {
         .flat_map(move |length| (0..count.pow(length)).map(move |number| bytes(length, number)))
 }
 
-/// A deck with a rule of this kind and a part. The expression stands in the default action, the condition, the action or
-/// the limit, by number; the others are sound.
+/// A deck with a rule of this kind and a part. The expression stands in the condition, the action, the limit or a default
+/// action, by number; the others are sound, and there is no default action for them.
 fn with_expression(kind: u8, number: usize, expression: &[u8]) -> Vec<u8> {
-    let mut all: [&[u8]; 4] = [&[0x01, 0], &[0x11], &[0x01, 0], &[0x11]];
+    let mut all: [&[u8]; 4] = [&[0x11], &[0x01, 0], &[0x11], &[0x01, 0]];
     all[number] = expression;
-    let [default_action, condition, action, limit] = all.map(|bytes| [&[bytes.len() as u8], bytes].concat());
-    let rule = [&[1, 0, 1, 1], &default_action[..], &[kind], &condition, &[1, 1], &action].concat();
+    let [condition, action, limit, default] = all.map(|bytes| [&[bytes.len() as u8], bytes].concat());
+    let default_action = if number == 3 { [&[1, 1], &default[..]].concat() } else { vec![0] };
+    let rule = [&[1, 0], &default_action[..], &[kind], &condition, &[1, 1], &action].concat();
     let part = [&[0; 8][..], &[1, 0], &limit].concat();
     [b"\x02ab\x01", &rule[..], &[1], &part].concat()
 }
 
 #[test]
 fn agrees_on_short_expressions() {
-    let mut plain = plain::Engine::new();
-    let mut numbers = BTreeSet::new();
+    let mut engines = Engines::new();
+    let (mut checked, mut converted) = (BTreeSet::new(), BTreeSet::new());
     for expression in expressions() {
         for (kind, number) in [0, 1].into_iter().flat_map(|kind| (0..4).map(move |number| (kind, number))) {
             let deck = with_expression(kind, number, &expression);
-            let returned = Engine::check(&mut plain, &deck);
+            let returned = Engine::check(&mut engines.new, &deck);
             assert_eq!(returned, Reference.check(&deck), "{deck:02x?}");
-            numbers.insert(returned.number);
+            checked.insert(returned.number);
+            converted.insert(engines.convert(&deck, 64).number);
         }
     }
-    assert_eq!(numbers, BTreeSet::from([0, 3, 6, 18, 19]));
+    assert_eq!(checked, BTreeSet::from([0, 3, 6, 18, 19, 20]));
+    assert_eq!(converted, BTreeSet::from([0, 3, 6, 18, 19]));
 }
 
 /// Channels of deck D, whose part 1 keeps `C` below 10.

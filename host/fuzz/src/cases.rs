@@ -5,12 +5,14 @@ use crate::step::Step;
 use reaction::raw::{CHANNELS, PLACE};
 use reference::deck::{Deck, Encoded, Field};
 use reference::engine::Call;
-use reference::generate::calls::{any, bad_length, damage, hand_written, restored, Known};
+use reference::generate::calls::{any, bad_length, buffer_length, damage, hand_written, restored, Known};
 use reference::generate::limits::Edge;
-use reference::generate::{deck, Kind, Size};
+use reference::generate::{deck, old_deck, Kind, Size};
 use reference::random::Random;
+use reference::refusal::DEFAULT_ACTION;
 use reference::script::Line;
 use reference::stored::deck_d;
+use reference::Refusal;
 
 /// Small decks come most often, since the reference takes long to read large ones.
 const SMALL: Size = Size { channels: 6, rules: 8, parts: 4, expression: 16 };
@@ -36,13 +38,31 @@ pub fn case(comparison: &mut Comparison, seed: u64, number: u64) -> Result<(), D
     case.run()
 }
 
+/// Of a hundred decks so many are old ones of any kind, and so many are made for the converter: their charges are near the
+/// largest, or their rules become about 64.
+const OLD: usize = 12;
+const HEAVY: usize = 3;
+const CROWDED: usize = 12;
+
 fn any_deck(random: &mut Random) -> Vec<u8> {
     let size = match random.below(40) {
         0 => Size::FULL,
         1..=5 => MEDIUM,
         _ => SMALL,
     };
-    let kind = match random.below(440) {
+    match random.below(100) {
+        choice if choice < OLD => old_deck(any_kind(random), random, size),
+        choice if choice < OLD + HEAVY => old_deck(Kind::Heavy, random, size),
+        choice if choice < OLD + HEAVY + CROWDED => {
+            let rules = random.pick(&[size.rules, Deck::RULES]);
+            old_deck(Kind::Defaults, random, Size { rules, ..size })
+        }
+        _ => deck(any_kind(random), random, size),
+    }
+}
+
+fn any_kind(random: &mut Random) -> Kind {
+    match random.below(440) {
         0 => Kind::Longest,
         1..=16 => Kind::Heavy,
         17..=180 => Kind::Rich,
@@ -52,8 +72,7 @@ fn any_deck(random: &mut Random) -> Vec<u8> {
         361..=390 => Kind::Cyclic,
         391..=420 => Kind::Limit,
         _ => Kind::Noise,
-    };
-    deck(kind, random, size)
+    }
 }
 
 struct Case<'a> {
@@ -68,11 +87,20 @@ struct Case<'a> {
 impl Case<'_> {
     fn run(&mut self) -> Result<(), Difference> {
         self.step(Step::Check)?;
-        let passed = reference::check(&self.deck);
-        self.charge = passed.map_or(0, |passed| passed.charge as usize);
         if self.random.chance(10) {
             self.call()?;
         }
+        let mut passed = reference::check(&self.deck);
+        let conversions = match passed {
+            Err(Refusal { number: DEFAULT_ACTION, .. }) => 90,
+            Err(_) => 25,
+            Ok(_) => 5,
+        };
+        if self.random.chance(conversions) {
+            self.conversions()?;
+            passed = reference::check(&self.deck);
+        }
+        self.charge = passed.map_or(0, |passed| passed.charge as usize);
         self.start()?;
         // A deck that does not pass has one refusal for every call.
         let steps = if passed.is_ok() { self.random.between(5, 60) } else { self.random.between(0, 6) };
@@ -103,8 +131,22 @@ impl Case<'_> {
             18..=20 => self.other_deck(),
             21..=22 => self.other_length(),
             23..=26 => self.outside_limit(),
+            27 => self.convert(),
             _ => self.call(),
         }
+    }
+
+    /// A few conversions: from the first that finds room the deck is the new one, which stays as it is.
+    fn conversions(&mut self) -> Result<(), Difference> {
+        (0..self.random.between(1, 4)).try_for_each(|_| self.convert())
+    }
+
+    /// A conversion into a buffer that is long enough or not.
+    fn convert(&mut self) -> Result<(), Difference> {
+        let length = buffer_length(&mut self.random, &self.deck);
+        self.line(Line::Convert { length })?;
+        self.deck.clone_from(&self.comparison.deck);
+        Ok(())
     }
 
     fn call(&mut self) -> Result<(), Difference> {
@@ -205,7 +247,7 @@ impl Case<'_> {
         let at = self.random.below(other.len());
         match self.random.below(7) {
             0 => other.truncate(at),
-            1 => other.clear(),
+            1 => other.truncate(self.random.below(2)),
             2 => other.push(self.random.byte()),
             3 => other = any_deck(&mut self.random),
             4 => other = deck(Kind::Expression, &mut self.random, SMALL),
@@ -214,6 +256,10 @@ impl Case<'_> {
         }
         self.step(Step::Deck(other))?;
         self.call()?;
+        if self.random.chance(40) {
+            let length = buffer_length(&mut self.random, &self.comparison.deck);
+            self.line(Line::Convert { length })?;
+        }
         self.step(Step::Deck(self.deck.clone()))
     }
 

@@ -1,9 +1,10 @@
 //! Generated calls, valid and hostile, through engines and through the reference.
 //!
 //! Cases are decks with lists of calls: decks that pass, damaged and cut ones, decks with a fault in an
-//! expression, states and pools that were written by hand or damaged, parts put outside their limit, extreme
-//! numbers, wrong lengths and empty slices. After each call everything that was handed back is compared: the
-//! returned number, the five answer numbers, the stretch, all values, the pending number and the whole pool.
+//! expression, old decks, states and pools that were written by hand or damaged, parts put outside their limit,
+//! extreme numbers, wrong lengths and empty slices. After each call everything that was handed back is compared:
+//! the returned number, the five answer numbers, the stretch, the whole buffer, all values, the pending number and
+//! the whole pool. Calls on a converted deck are compared with the same calls on the old one as well.
 #![warn(clippy::all)]
 #![forbid(unsafe_code)]
 

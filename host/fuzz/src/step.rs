@@ -3,7 +3,7 @@
 use bench::engines::Engine;
 use reaction::raw::{Memory, Returned, PLACE};
 use reference::engine::Call;
-use reference::script::{Line, LENT};
+use reference::script::{Line, LENT, LENT_BYTE};
 use std::fmt;
 
 /// A call or a write.
@@ -20,11 +20,13 @@ pub enum Step {
     Fill(usize),
 }
 
-/// What a call hands back besides memory: the numbers, and the stretch of a section as offset and length.
-#[derive(Clone, Copy, Debug, PartialEq, Eq)]
+/// What a call hands back besides memory: the numbers, the stretch of a section as offset and length, and the buffer of a
+/// conversion, all of it.
+#[derive(Clone, PartialEq, Eq)]
 pub struct Outcome {
     pub returned: Returned,
     pub stretch: (usize, usize),
+    pub buffer: Vec<u8>,
 }
 
 impl Step {
@@ -37,17 +39,30 @@ impl Step {
             Step::Line(Line::Call(Call::Input { .. })) => Some("input"),
             Step::Line(Line::Call(Call::Commit { .. })) => Some("commit"),
             Step::Line(Line::Call(Call::Settle { .. })) => Some("settle"),
+            Step::Line(Line::Convert { .. }) => Some("convert"),
             _ => None,
         }
     }
 
+    /// Whether it comes to the same on an old deck and on its conversion: all but what shows the deck itself.
+    pub fn hides_the_deck(&self) -> bool {
+        !matches!(self, Step::Deck(_) | Step::Check | Step::Line(Line::Section { .. } | Line::Convert { .. }))
+    }
+
     /// Makes the call, or writes; the outcome is the call's.
     pub fn perform(&self, engine: &mut dyn Engine, deck: &[u8], memory: &mut Memory) -> Option<Outcome> {
+        let mut stretch = (0, 0);
+        let mut buffer = Vec::new();
         let returned = match self {
             Step::Check => engine.check(deck),
             Step::Line(Line::Section { number }) => {
-                let (returned, stretch) = engine.section(deck, *number);
-                return Some(Outcome { returned, stretch: place_in(deck, stretch) });
+                let (returned, section) = engine.section(deck, *number);
+                stretch = place_in(deck, section);
+                returned
+            }
+            Step::Line(Line::Convert { length }) => {
+                buffer = vec![LENT_BYTE; *length as usize];
+                engine.convert(deck, &mut buffer)
             }
             Step::Line(Line::Start { length }) => {
                 memory.pool.clear();
@@ -62,7 +77,7 @@ impl Step {
                 return None;
             }
         };
-        Some(Outcome { returned, stretch: (0, 0) })
+        Some(Outcome { returned, stretch, buffer })
     }
 
     fn write(&self, memory: &mut Memory) {

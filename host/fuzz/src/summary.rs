@@ -5,10 +5,10 @@ use std::collections::BTreeMap;
 use std::fmt;
 
 /// The largest number of a refusal.
-const REFUSALS: usize = 19;
+const REFUSALS: usize = 22;
 
 /// What calls that are accepted come to, by call.
-const ACCEPTED: [&str; 8] = [
+const ACCEPTED: [&str; 9] = [
     "check passed",
     "section found",
     "start started",
@@ -17,7 +17,11 @@ const ACCEPTED: [&str; 8] = [
     "commit discarded",
     "settle settled",
     "settle spent",
+    "convert converted",
 ];
+
+/// Where an old deck and its conversion are compared.
+const BESIDE: &str = "on an old deck beside its conversion";
 
 /// Calls by kind, accepted ones by their answer, refused ones by number.
 #[derive(Default)]
@@ -25,6 +29,8 @@ pub struct Summary {
     calls: BTreeMap<&'static str, u64>,
     accepted: BTreeMap<&'static str, u64>,
     refused: [u64; REFUSALS + 1],
+    /// Calls that were made on an old deck as well, beside its conversion.
+    pub beside: u64,
 }
 
 impl Summary {
@@ -44,9 +50,11 @@ impl Summary {
     pub fn missing(&self) -> Vec<String> {
         let accepted = ACCEPTED.iter().filter(|kind| !self.accepted.contains_key(*kind));
         let refused = (1..=REFUSALS).filter(|&number| self.refused[number] == 0);
+        let beside = (self.beside == 0).then(|| BESIDE.to_string());
         accepted
             .map(|kind| kind.to_string())
             .chain(refused.map(|number| format!("refused {number}")))
+            .chain(beside)
             .collect()
     }
 }
@@ -59,6 +67,7 @@ fn accepted(name: &str, answer: &[u32; 5]) -> &'static str {
         ("input", _) => "input added",
         ("commit", [_, 1, ..]) => "commit applied",
         ("commit", _) => "commit discarded",
+        ("convert", _) => "convert converted",
         (_, [_, _, 1, ..]) => "settle settled",
         _ => "settle spent",
     }
@@ -72,6 +81,7 @@ impl fmt::Display for Summary {
         for (number, count) in self.refused.iter().enumerate().skip(1) {
             writeln!(f, "{count:10}  refused {number}")?;
         }
+        writeln!(f, "{:10}  {BESIDE}", self.beside)?;
         write!(f, "{} calls", self.calls())
     }
 }

@@ -108,6 +108,12 @@ enum Name {
     Input,
     Commit,
     Settle,
+    Convert,
+}
+
+impl Name {
+    const ALL: [Name; 7] =
+        [Name::Check, Name::Section, Name::Start, Name::Input, Name::Commit, Name::Settle, Name::Convert];
 }
 
 /// The reference with one fault, or none, in one call or in all.
@@ -151,6 +157,10 @@ impl Engine for Wrong {
     fn settle(&mut self, deck: &[u8], memory: &mut Memory, budget: u32) -> Returned {
         self.spoil(Name::Settle, deck, Reference.settle(deck, memory, budget))
     }
+
+    fn convert(&mut self, deck: &[u8], buffer: &mut [u8]) -> Returned {
+        self.spoil(Name::Convert, deck, Reference.convert(deck, buffer))
+    }
 }
 
 /// The answers that differ, the wrong one first, where a short run finds a difference.
@@ -170,7 +180,7 @@ fn each_fault_is_found() {
 
 #[test]
 fn a_fault_is_found_in_each_call() {
-    for name in [Name::Check, Name::Section, Name::Start, Name::Input, Name::Commit, Name::Settle] {
+    for name in Name::ALL {
         assert!(found(Fault::OneNumber, Some(name)).is_some(), "not found in {name:?}");
     }
 }

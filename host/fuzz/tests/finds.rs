@@ -35,6 +35,7 @@ enum Fault {
     Pending,
     Pool,
     Stretch,
+    Buffer,
 }
 
 /// The plain engine with one fault in what it hands back.
@@ -49,7 +50,7 @@ impl Wrong {
             Fault::Value => memory.values[511] += 1,
             Fault::Pending => memory.pending += 1,
             Fault::Pool => memory.pool.iter_mut().last().into_iter().for_each(|number| *number += 1),
-            Fault::Stretch => {}
+            Fault::Stretch | Fault::Buffer => {}
         }
         returned
     }
@@ -88,11 +89,22 @@ impl Engine for Wrong {
     fn settle(&mut self, deck: &[u8], memory: &mut Memory, budget: u32) -> Returned {
         Engine::settle(&mut self.0, deck, memory, budget)
     }
+
+    fn convert(&mut self, deck: &[u8], buffer: &mut [u8]) -> Returned {
+        let returned = Engine::convert(&mut self.0, deck, buffer);
+        if let (Fault::Buffer, Some(last)) = (self.1, buffer.last_mut()) {
+            *last ^= 1;
+        }
+        returned
+    }
 }
+
+const FAULTS: [Fault; 7] =
+    [Fault::Number, Fault::Answer, Fault::Value, Fault::Pending, Fault::Pool, Fault::Stretch, Fault::Buffer];
 
 #[test]
 fn each_fault_is_found() {
-    for fault in [Fault::Number, Fault::Answer, Fault::Value, Fault::Pending, Fault::Pool, Fault::Stretch] {
+    for fault in FAULTS {
         let wrong = Wrong(plain::Engine::new(), fault);
         let Err(Difference(text)) = run(vec![Box::new(wrong)], 2000, 1) else {
             panic!("{fault:?} not found")

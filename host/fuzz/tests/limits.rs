@@ -141,6 +141,10 @@ impl Engine for Wrong {
     fn settle(&mut self, deck: &[u8], memory: &mut Memory, budget: u32) -> Returned {
         Reference.settle(deck, memory, budget)
     }
+
+    fn convert(&mut self, deck: &[u8], buffer: &mut [u8]) -> Returned {
+        Reference.convert(deck, buffer)
+    }
 }
 
 #[test]

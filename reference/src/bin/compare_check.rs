@@ -3,31 +3,29 @@
 //!
 //! Some decks are fed in pieces with pauses, so that they arrive in several reads.
 
-use reference::comparison;
+use reference::comparison::{self, fed, is_fed_in_pieces, print_counts, said};
 use reference::generate::any_kind;
 use std::collections::BTreeMap;
 use std::fs;
-use std::io::{self, Write};
-use std::process::{Command, ExitCode, Stdio};
-use std::thread::sleep;
-use std::time::Duration;
+use std::io;
+use std::process::{Command, ExitCode};
 
 /// Where decks go that the two programs do not agree on, and how many of them.
 const KEPT: &str = "target/compare_check";
 const MOST_KEPT: usize = 20;
 
 fn main() -> ExitCode {
-    comparison::run("compare_check", compare)
+    comparison::run("compare_check", ["OURS", "OTHER"], compare)
 }
 
 /// The number of decks on which the two differ.
-fn compare(ours: &str, other: &str, count: u64, seed: u64) -> io::Result<usize> {
+fn compare([ours, other]: [&str; 2], count: u64, seed: u64) -> io::Result<usize> {
     let mut outcomes: BTreeMap<String, usize> = BTreeMap::new();
     let mut differences = 0;
     for number in 0..count {
         let (kind, deck) = any_kind(seed, number);
-        let pause = number % 50 == 7;
-        let (one, two) = (run(ours, &deck, pause)?, run(other, &deck, pause)?);
+        let run = |program| fed(&mut Command::new(program), deck.clone(), is_fed_in_pieces(number));
+        let (one, two) = (said(&run(ours)?), said(&run(other)?));
         *outcomes.entry(outcome(&two)).or_default() += 1;
         if one != two {
             differences += 1;
@@ -36,38 +34,9 @@ fn compare(ours: &str, other: &str, count: u64, seed: u64) -> io::Result<usize> 
             keep(&format!("{kind}-{seed}-{number}"), &deck, &one, &two)?;
         }
     }
-    for (outcome, decks) in outcomes {
-        println!("{decks:8}  {outcome}");
-    }
+    print_counts(&outcomes);
     println!("{count} decks, {differences} differences");
     Ok(differences)
-}
-
-/// What a program writes to standard output, and how it ends.
-fn run(program: &str, deck: &[u8], pause: bool) -> io::Result<String> {
-    let mut child =
-        Command::new(program).stdin(Stdio::piped()).stdout(Stdio::piped()).stderr(Stdio::piped()).spawn()?;
-    if let Some(mut input) = child.stdin.take() {
-        let pieces = if pause { 3 } else { 1 };
-        for piece in deck.chunks(deck.len().div_ceil(pieces).max(1)) {
-            // A program may leave off reading where it has seen enough.
-            if let Err(error) = input.write_all(piece) {
-                if error.kind() == io::ErrorKind::BrokenPipe {
-                    break;
-                }
-                return Err(error);
-            }
-            if pause {
-                sleep(Duration::from_millis(2));
-            }
-        }
-    }
-    let output = child.wait_with_output()?;
-    let said = String::from_utf8_lossy(&output.stdout).into_owned();
-    if output.status.success() && output.stderr.is_empty() {
-        return Ok(said);
-    }
-    Ok(format!("{said}{} {}", output.status, String::from_utf8_lossy(&output.stderr)))
 }
 
 /// `passed`, or `refused` and its number.

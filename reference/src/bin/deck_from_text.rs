@@ -6,7 +6,6 @@
 //!     channel LABEL NAME           its label, one character
 //!     rule NAME                    then, indented or not, its lines:
 //!       when CHANNEL ..            the events
-//!       always CHANNEL = NUMBER    an assignment of the default action
 //!       here | everywhere          the kind
 //!       if TRUTH                   the condition
 //!       set CHANNEL = NUMBER       an assignment of the action
@@ -17,6 +16,9 @@
 //!
 //! Expressions have the operator first, in words with spaces between: a whole number, CHANNEL, far.CHANNEL,
 //! + - * neg, false true not and or < =. Nothing is judged here but names: `check_deck` judges the bytes.
+//!
+//! The deck is a new one. A line `always CHANNEL = NUMBER`, once an assignment of the default action, is
+//! refused: what holds whatever the condition says is a rule of its own, with `set` and no `if`.
 
 use std::collections::HashMap;
 use std::io::{self, Read, Write};
@@ -27,8 +29,6 @@ type Fault = String;
 #[derive(Default)]
 struct Rule {
     events: Vec<u8>,
-    default_action: Vec<u8>,
-    defaults: u8,
     kind: u8,
     condition: Vec<u8>,
     action: Vec<u8>,
@@ -113,15 +113,16 @@ impl Text {
                 events.sort_unstable();
                 self.rule()?.events = events;
             }
-            ("always" | "set", [target, "=", words @ ..]) => {
+            ("set", [target, "=", words @ ..]) => {
                 let assignment = [vec![self.channel(target)?], self.expression(words)?].concat();
                 let rule = self.rule()?;
-                let (action, count) = match word {
-                    "set" => (&mut rule.action, &mut rule.actions),
-                    _ => (&mut rule.default_action, &mut rule.defaults),
-                };
-                action.extend(assignment);
-                *count += 1;
+                rule.action.extend(assignment);
+                rule.actions += 1;
+            }
+            ("always", _) => {
+                return Err(
+                    "default actions have retired: write a rule of its own with `set` and no `if`".into()
+                );
             }
             ("here", []) => self.rule()?.kind = 0,
             ("everywhere", []) => self.rule()?.kind = 1,
@@ -186,8 +187,8 @@ impl Text {
         for rule in &self.rules {
             deck.push(rule.events.len() as u8);
             deck.extend(&rule.events);
-            deck.push(rule.defaults);
-            deck.extend(&rule.default_action);
+            // The count of a default action, which a new deck has not.
+            deck.push(0);
             deck.push(rule.kind);
             deck.extend(&rule.condition);
             deck.push(rule.actions);

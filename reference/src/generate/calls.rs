@@ -2,10 +2,11 @@
 
 use super::expressions::value;
 use super::limits::Limit;
-use crate::deck::Deck;
+use crate::conversion::convert_whole;
+use crate::deck::Form;
 use crate::engine::Call;
 use crate::random::Random;
-use crate::script::{Host, Line, LONGEST_POOL};
+use crate::script::{Host, Line, LONGEST_BUFFER, LONGEST_POOL};
 use crate::state::{base, PLACE, VALUES};
 
 /// What a caller knows of a deck, whether it passes or not.
@@ -18,9 +19,9 @@ pub struct Known {
 }
 
 impl Known {
-    /// Counts that can't be read are taken to be small.
+    /// Counts that can't be read are taken to be small. An old deck shows as much as a new one.
     pub fn of(deck: &[u8]) -> Known {
-        match Deck::read(deck) {
+        match Form::New.read(deck).or_else(|_| Form::Old.read(deck)) {
             Ok((deck, _)) => Known {
                 channels: deck.labels.len(),
                 parts: deck.parts.len(),
@@ -246,5 +247,18 @@ pub fn bad_length(random: &mut Random) -> u32 {
         random.pick(&[655_350 + near, 655_360, LONGEST_POOL])
     } else {
         random.pick(&[0, near, small, small])
+    }
+}
+
+/// A length for the converter's buffer: just enough, one byte too few, none, more or any.
+pub fn buffer_length(random: &mut Random, deck: &[u8]) -> u32 {
+    let enough = convert_whole(deck).map_or(0, |new| new.len() as u32);
+    match random.below(10) {
+        0 => 0,
+        1 | 2 => enough.saturating_sub(1),
+        3..=5 => enough,
+        6 => enough + random.below(40) as u32,
+        7 => random.below(LONGEST_BUFFER as usize + 1) as u32,
+        _ => LONGEST_BUFFER,
     }
 }

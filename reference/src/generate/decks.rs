@@ -3,7 +3,7 @@
 use super::expressions::{likely_truth, lively_number, near_limit, number, truth, value};
 use super::Size;
 use crate::charge::Charges;
-use crate::deck::{Action, Assignment, Deck, Kind, Part, Rule};
+use crate::deck::{Action, Assignment, Deck, Form, Kind, Part, Rule};
 use crate::expression::{Number, Scope, Truth};
 use crate::random::Random;
 use crate::state::MOST_PLACES;
@@ -15,12 +15,12 @@ enum Style {
     Lively,
 }
 
-pub fn valid(random: &mut Random, size: Size) -> Deck {
-    layered(random, size, Style::Any)
+pub fn valid(random: &mut Random, size: Size, form: Form) -> Deck {
+    layered(random, size, Style::Any, form)
 }
 
-pub fn rich(random: &mut Random, size: Size) -> Deck {
-    layered(random, size, Style::Lively)
+pub fn rich(random: &mut Random, size: Size, form: Form) -> Deck {
+    layered(random, size, Style::Lively, form)
 }
 
 /// A count that tends to be small.
@@ -30,7 +30,7 @@ fn count(random: &mut Random, low: usize, high: usize) -> usize {
 }
 
 /// A deck whose channels stand in an order that every edge follows.
-fn layered(random: &mut Random, size: Size, style: Style) -> Deck {
+fn layered(random: &mut Random, size: Size, style: Style, form: Form) -> Deck {
     let [channels, rules, parts] = match style {
         Style::Any => {
             [count(random, 1, size.channels), count(random, 0, size.rules), count(random, 1, size.parts)]
@@ -42,7 +42,8 @@ fn layered(random: &mut Random, size: Size, style: Style) -> Deck {
     let mut deck = bare(random, channels, parts);
     let mut order: Vec<u8> = (0..channels as u8).collect();
     random.shuffle(&mut order);
-    deck.rules = (0..rules).map(|_| layered_rule(random, &order, size, style)).collect();
+    let defaults = if form == Form::Old { 40 } else { 0 };
+    deck.rules = (0..rules).map(|_| layered_rule(random, &order, size, style, defaults)).collect();
     for part in &mut deck.parts {
         part.carried = carried(random, rules, style);
         part.limit = limit(random, part, size, style);
@@ -62,7 +63,8 @@ pub fn bare(random: &mut Random, channels: usize, parts: usize) -> Deck {
     Deck { labels, rules: Vec::new(), parts: (0..parts).map(part).collect() }
 }
 
-fn layered_rule(random: &mut Random, order: &[u8], size: Size, style: Style) -> Rule {
+/// Of a hundred rules so many have a default action.
+fn layered_rule(random: &mut Random, order: &[u8], size: Size, style: Style, defaults: usize) -> Rule {
     let (low, high) = order.split_at(random.between(1, order.len()));
     // Links between neighbours make long chains.
     let reach = if style == Style::Lively { 3 } else { order.len() };
@@ -76,7 +78,7 @@ fn layered_rule(random: &mut Random, order: &[u8], size: Size, style: Style) -> 
     let scope = Scope { far: kind == Kind::Everywhere, ..own };
     let event = random.pick(&events);
     Rule {
-        default_action: if random.chance(40) {
+        default_action: if random.chance(defaults) {
             action(random, high, own, size, style, event)
         } else {
             Action::new()
@@ -152,7 +154,7 @@ pub fn met(limit: Truth, part: &Part) -> Truth {
 }
 
 /// Takes rules out of carried lists until every charge is small enough.
-fn lighten(deck: &mut Deck) {
+pub fn lighten(deck: &mut Deck) {
     loop {
         let charges = Charges::new(deck);
         let heavy = charges.of_carried_rules().find(|&(_, _, charge)| charge > MOST_PLACES as u64);
@@ -161,12 +163,17 @@ fn lighten(deck: &mut Deck) {
     }
 }
 
-/// A deck of 42,883 bytes: every count and every length at its most.
+/// The longest new deck that passes.
+pub fn longest(random: &mut Random) -> Deck {
+    longest_of(random, Form::New)
+}
+
+/// The longest deck of a form that passes: every count and every length at its most.
 ///
 /// The channels stand in four blocks of eight, and rules lead from a block to the next.
 /// Only three rules each leave the second and the third block, so that no charge is
 /// above 16 (1 + 3 16 (1 + 3 16)) = 37,648.
-pub fn longest(random: &mut Random) -> Deck {
+pub fn longest_of(random: &mut Random, form: Form) -> Deck {
     let mut deck = bare(random, Deck::CHANNELS, Deck::PARTS);
     let mut order: Vec<u8> = (0..Deck::CHANNELS as u8).collect();
     random.shuffle(&mut order);
@@ -175,7 +182,7 @@ pub fn longest(random: &mut Random) -> Deck {
     sources[..6].copy_from_slice(&[1, 1, 1, 2, 2, 2]);
     random.shuffle(&mut sources);
     deck.rules =
-        sources.iter().map(|&block| longest_rule(random, blocks[block], blocks[block + 1])).collect();
+        sources.iter().map(|&block| longest_rule(random, blocks[block], blocks[block + 1], form)).collect();
     for part in &mut deck.parts {
         part.carried = (0..Deck::RULES as u8).collect();
         part.limit = longest_limit(random, part);
@@ -183,13 +190,16 @@ pub fn longest(random: &mut Random) -> Deck {
     deck
 }
 
-fn longest_rule(random: &mut Random, events: &[u8], targets: &[u8]) -> Rule {
+fn longest_rule(random: &mut Random, events: &[u8], targets: &[u8], form: Form) -> Rule {
     let kind = random.pick(&[Kind::Here, Kind::Everywhere]);
     let own = Scope { channels: Deck::CHANNELS, far: false };
     let scope = Scope { far: kind == Kind::Everywhere, ..own };
     Rule {
         events: random.rising(events, Deck::EVENTS),
-        default_action: longest_action(random, targets, own),
+        default_action: match form {
+            Form::Old => longest_action(random, targets, own),
+            Form::New => Action::new(),
+        },
         kind,
         condition: truth(random, scope, Deck::EXPRESSION),
         action: longest_action(random, targets, scope),

@@ -2,14 +2,14 @@
 
 use super::faults::{damage, passing};
 use super::Size;
-use crate::deck::{Deck, Encoded, Field};
+use crate::deck::{Deck, Encoded, Field, Form};
 use crate::expression::operator::{AND, EQUAL, FALSE, FAR, LITERAL, NEGATION, NOT, OWN, SUM};
 use crate::random::Random;
 
 /// A deck that passes, with a fault inside one expression. Sometimes the deck ends with the
 /// expression or within it, and sometimes there is another fault.
-pub fn broken(random: &mut Random, size: Size) -> Vec<u8> {
-    let mut encoded = passing(random, size).encode();
+pub fn broken(random: &mut Random, size: Size, form: Form) -> Vec<u8> {
+    let mut encoded = passing(random, size, form).encode();
     let end = break_one(random, &mut encoded);
     match random.below(10) {
         0 => encoded.bytes.truncate(end - random.below(2)),
@@ -20,7 +20,7 @@ pub fn broken(random: &mut Random, size: Size) -> Vec<u8> {
 }
 
 /// Breaks one expression of a deck that passes; the answer is the offset behind it.
-fn break_one(random: &mut Random, encoded: &mut Encoded) -> usize {
+pub fn break_one(random: &mut Random, encoded: &mut Encoded) -> usize {
     let is_expression = |&&(_, field): &&(usize, Field)| field == Field::Expression;
     let starts: Vec<usize> = encoded.fields.iter().filter(is_expression).map(|&(at, _)| at).collect();
     // The last one is a limit, and nothing follows it: a deck that passes has a part.

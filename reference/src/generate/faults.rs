@@ -1,24 +1,24 @@
 //! Decks with faults, and decks that only look as if they had one.
 
-use super::decks::{bare, longest, rich, valid};
+use super::decks::{bare, longest_of, rich, valid};
 use super::heavy::{heavy, link};
 use super::Size;
-use crate::deck::{Deck, Encoded, Field, Kind, Rule};
+use crate::deck::{Deck, Encoded, Field, Form, Kind, Rule};
 use crate::expression::Truth;
 use crate::random::Random;
 
 /// A deck that passes.
-pub fn passing(random: &mut Random, size: Size) -> Deck {
+pub fn passing(random: &mut Random, size: Size, form: Form) -> Deck {
     if random.chance(50) {
-        valid(random, size)
+        valid(random, size, form)
     } else {
-        rich(random, size)
+        rich(random, size, form)
     }
 }
 
 /// A deck that passes, damaged once or twice.
-pub fn damaged(random: &mut Random, size: Size) -> Vec<u8> {
-    let mut deck = passing(random, size);
+pub fn damaged(random: &mut Random, size: Size, form: Form) -> Vec<u8> {
+    let mut deck = passing(random, size, form);
     if random.chance(20) {
         break_list(random, &mut deck);
         return deck.encode().bytes;
@@ -140,14 +140,14 @@ fn cut(random: &mut Random, encoded: &Encoded) -> usize {
 }
 
 /// Rings, loops of one channel, rings with a link that nobody carries, and diamonds.
-pub fn cyclic(random: &mut Random, size: Size) -> Deck {
+pub fn cyclic(random: &mut Random, size: Size, form: Form) -> Deck {
     match random.below(6) {
-        0 => passing_with_loop(random, size),
-        1 => ring(random, size, false),
-        2 => ring(random, size, true),
-        3 => diamonds(random, size),
+        0 => passing_with_loop(random, size, form),
+        1 => ring(random, size, form, false),
+        2 => ring(random, size, form, true),
+        3 => diamonds(random, size, form),
         4 => any_graph(random, size),
-        _ => rich_ring(random, size),
+        _ => rich_ring(random, size, form),
     }
 }
 
@@ -167,8 +167,11 @@ fn add_rule(random: &mut Random, deck: &mut Deck, rule: Rule, carriers: &[usize]
 }
 
 /// A link that is carried by one part, or by nobody.
-fn add_link(random: &mut Random, deck: &mut Deck, event: u8, target: u8, carried: bool) {
-    let actions = random.pick(&[[true, false], [false, true], [true, true]]);
+fn add_link(random: &mut Random, deck: &mut Deck, [event, target]: [u8; 2], form: Form, carried: bool) {
+    let actions = match form {
+        Form::Old => random.pick(&[[true, false], [false, true], [true, true]]),
+        Form::New => [false, true],
+    };
     let kind = random.pick(&[Kind::Here, Kind::Everywhere]);
     let rule = link(random, deck.labels.len(), &[event], target, actions, kind);
     let carrier = random.below(deck.parts.len());
@@ -176,11 +179,11 @@ fn add_link(random: &mut Random, deck: &mut Deck, event: u8, target: u8, carried
 }
 
 /// A channel leads to itself; sometimes nobody carries the rule.
-fn passing_with_loop(random: &mut Random, size: Size) -> Deck {
-    let mut deck = passing(random, Size { rules: size.rules - 1, ..size });
+fn passing_with_loop(random: &mut Random, size: Size, form: Form) -> Deck {
+    let mut deck = passing(random, Size { rules: size.rules - 1, ..size }, form);
     let channel = random.below(deck.labels.len()) as u8;
     let carried = random.chance(75);
-    add_link(random, &mut deck, channel, channel, carried);
+    add_link(random, &mut deck, [channel, channel], form, carried);
     deck
 }
 
@@ -193,7 +196,7 @@ fn some_channels(random: &mut Random, channels: usize, count: usize) -> Vec<u8> 
 }
 
 /// A ring of links at different parts; broken if nobody carries one of them.
-fn ring(random: &mut Random, size: Size, broken: bool) -> Deck {
+fn ring(random: &mut Random, size: Size, form: Form, broken: bool) -> Deck {
     let channels = random.between(2, size.channels);
     let parts = random.between(1, size.parts);
     let mut deck = bare(random, channels, parts);
@@ -202,22 +205,22 @@ fn ring(random: &mut Random, size: Size, broken: bool) -> Deck {
     let uncarried = random.below(length);
     for (number, &channel) in ring.iter().enumerate() {
         let carried = !broken || number != uncarried;
-        add_link(random, &mut deck, channel, ring[(number + 1) % length], carried);
+        add_link(random, &mut deck, [channel, ring[(number + 1) % length]], form, carried);
     }
     deck
 }
 
 /// A rich deck with a ring across it.
-fn rich_ring(random: &mut Random, size: Size) -> Deck {
-    let mut deck = rich(random, Size { rules: size.rules - 2, ..size });
+fn rich_ring(random: &mut Random, size: Size, form: Form) -> Deck {
+    let mut deck = rich(random, Size { rules: size.rules - 2, ..size }, form);
     let pair = some_channels(random, deck.labels.len(), 2);
-    add_link(random, &mut deck, pair[0], pair[1], true);
-    add_link(random, &mut deck, pair[1], pair[0], true);
+    add_link(random, &mut deck, [pair[0], pair[1]], form, true);
+    add_link(random, &mut deck, [pair[1], pair[0]], form, true);
     deck
 }
 
 /// Diamonds one below the other: many ways from the first channel to the last, no cycle.
-fn diamonds(random: &mut Random, size: Size) -> Deck {
+fn diamonds(random: &mut Random, size: Size, form: Form) -> Deck {
     let most = ((size.channels - 1) / 3).min(size.rules / 4).max(1);
     let count = random.between(1, most.min(6));
     let parts = random.between(1, size.parts);
@@ -225,7 +228,7 @@ fn diamonds(random: &mut Random, size: Size) -> Deck {
     let order = some_channels(random, 3 * count + 1, 3 * count + 1);
     for diamond in order.windows(4).step_by(3) {
         for (from, to) in [(0, 1), (0, 2), (1, 3), (2, 3)] {
-            add_link(random, &mut deck, diamond[from], diamond[to], true);
+            add_link(random, &mut deck, [diamond[from], diamond[to]], form, true);
         }
     }
     deck
@@ -249,11 +252,11 @@ fn any_graph(random: &mut Random, size: Size) -> Deck {
 }
 
 /// A part, or several, open outside their limit; often a later fault comes with it.
-pub fn limit(random: &mut Random, size: Size) -> Vec<u8> {
+pub fn limit(random: &mut Random, size: Size, form: Form) -> Vec<u8> {
     let mut deck = match random.below(4) {
-        0 => cyclic(random, size),
-        1 => heavy(random, size),
-        _ => passing(random, size),
+        0 => cyclic(random, size, form),
+        1 => heavy(random, size, form),
+        _ => passing(random, size, form),
     };
     for _ in 0..random.between(1, 2) {
         let part = random.below(deck.parts.len());
@@ -280,8 +283,8 @@ fn opposite(limit: &Truth) -> Truth {
 }
 
 /// The longest deck that passes, one byte longer, one shorter, or with its last byte changed.
-pub fn around_longest(random: &mut Random) -> Vec<u8> {
-    let mut bytes = longest(random).encode().bytes;
+pub fn around_longest(random: &mut Random, form: Form) -> Vec<u8> {
+    let mut bytes = longest_of(random, form).encode().bytes;
     match random.below(6) {
         0 => bytes.push(random.byte()),
         1 => {

@@ -3,13 +3,13 @@
 use super::decks::{bare, met};
 use super::expressions::{channel, likely_truth, near_limit};
 use super::Size;
-use crate::deck::{Action, Assignment, Deck, Kind, Rule};
+use crate::deck::{Action, Assignment, Deck, Form, Kind, Rule};
 use crate::expression::Scope;
 use crate::random::Random;
 
 /// Charges near 65,535 (both sides of it), or steep ones, up to far beyond 2^64.
-pub fn heavy(random: &mut Random, size: Size) -> Deck {
-    let mut deck = any_heavy(random, size);
+pub fn heavy(random: &mut Random, size: Size, form: Form) -> Deck {
+    let mut deck = any_heavy(random, size, form);
     // Inputs that find no room and would break a limit as well.
     for part in &mut deck.parts {
         if random.chance(40) {
@@ -19,19 +19,22 @@ pub fn heavy(random: &mut Random, size: Size) -> Deck {
     deck
 }
 
-fn any_heavy(random: &mut Random, size: Size) -> Deck {
+fn any_heavy(random: &mut Random, size: Size, form: Form) -> Deck {
     if random.chance(40) {
         let charge = match random.below(3) {
             0 => 65_535,
             1 => 65_536,
             _ => random.between(65_500, 65_570),
         };
-        return exact(random, charge);
+        return exact(random, charge, form);
     }
-    // Seven channels and six parts are the fewest that reach 65,536 with six rules.
+    // With seven channels and six rules an update must come six times to the next channel to reach
+    // 65,536. Each other part brings one, and a default action one more.
     let channels = random.between(7, size.channels.max(7));
-    let parts = random.between(if channels < 12 { 6 } else { 2 }, size.parts.max(6));
-    let mut deck = steep(random, channels, parts);
+    let times = if channels < 12 { 6 } else { 2 };
+    let least = if form == Form::Old { times } else { times + 1 };
+    let parts = random.between(least, size.parts.max(7));
+    let mut deck = steep(random, channels, parts, form);
     if random.chance(50) {
         drop_some(random, &mut deck);
     }
@@ -66,11 +69,11 @@ pub fn link(
 
 /// Rule j listens to the channels up to j and leads to channel j + 1, at every part:
 /// charges grow by a factor at each channel.
-fn steep(random: &mut Random, channels: usize, parts: usize) -> Deck {
+fn steep(random: &mut Random, channels: usize, parts: usize, form: Form) -> Deck {
     let mut deck = bare(random, channels, parts);
     for rule in 0..channels - 1 {
         let events: Vec<u8> = (rule.saturating_sub(7)..=rule).map(|event| event as u8).collect();
-        let default = random.chance(90);
+        let default = form == Form::Old && random.chance(90);
         let target = rule as u8 + 1;
         deck.rules.push(link(random, channels, &events, target, [default, true], Kind::Everywhere));
     }
@@ -96,7 +99,7 @@ fn drop_some(random: &mut Random, deck: &mut Deck) {
 ///
 /// An update to a channel of the chain has charge 1 + a q + b, where q is the charge of
 /// the next channel's update and b counts actions on a channel that nobody listens to.
-pub fn exact(random: &mut Random, charge: usize) -> Deck {
+pub fn exact(random: &mut Random, charge: usize, form: Form) -> Deck {
     loop {
         let steps = steps(random, charge);
         let parts = random.between(1, 4);
@@ -104,10 +107,12 @@ pub fn exact(random: &mut Random, charge: usize) -> Deck {
         let mut order: Vec<u8> = (0..deck.labels.len() as u8).collect();
         random.shuffle(&mut order);
         let (idle, chain) = (order[0], &order[1..]);
-        repeat(random, &mut deck, chain[0], chain[1], 1);
+        let mut repeat =
+            |event, target, times| repeat(random, &mut deck, [chain[event], target], times, form);
+        repeat(0, chain[1], 1);
         for (step, &(factor, rest)) in steps.iter().enumerate() {
-            repeat(random, &mut deck, chain[step + 1], chain[step + 2], factor);
-            repeat(random, &mut deck, chain[step + 1], idle, rest);
+            repeat(step + 1, chain[step + 2], factor);
+            repeat(step + 1, idle, rest);
         }
         if deck.rules.len() <= Deck::RULES {
             random.shuffle(&mut deck.rules);
@@ -129,12 +134,12 @@ fn steps(random: &mut Random, mut charge: usize) -> Vec<(usize, usize)> {
 }
 
 /// Rules from one channel to another whose actions count so many times in all.
-fn repeat(random: &mut Random, deck: &mut Deck, event: u8, target: u8, mut times: usize) {
+fn repeat(random: &mut Random, deck: &mut Deck, [event, target]: [u8; 2], mut times: usize, form: Form) {
     let (channels, others) = (deck.labels.len(), deck.parts.len() - 1);
     while times > 0 {
         let everywhere = others > 0 && others <= times && random.chance(60);
         let (kind, weight) = if everywhere { (Kind::Everywhere, others) } else { (Kind::Here, 1) };
-        let default = weight < times;
+        let default = form == Form::Old && weight < times;
         deck.rules.push(link(random, channels, &[event], target, [default, true], kind));
         times -= weight + usize::from(default);
     }

@@ -2,6 +2,7 @@
 
 pub mod calls;
 pub mod decks;
+pub mod defaults;
 pub mod expression_faults;
 pub mod expressions;
 pub mod faults;
@@ -9,7 +10,7 @@ pub mod heavy;
 pub mod limits;
 pub mod scripts;
 
-use crate::deck::Deck;
+use crate::deck::{Deck, Form};
 use crate::random::Random;
 
 /// The largest counts of a generated deck.
@@ -31,7 +32,7 @@ impl Size {
     };
 }
 
-/// What a generated deck is like.
+/// What a generated deck is like; whether it passes is said of the check of its form.
 #[derive(Clone, Copy, Debug, PartialEq, Eq, Hash)]
 pub enum Kind {
     /// Passes; any expressions.
@@ -50,12 +51,15 @@ pub enum Kind {
     Limit,
     /// The longest deck that passes, and what is just beyond it.
     Longest,
+    /// Many default actions, and faults around them: as a new deck it is mostly refused with 20, and
+    /// from an old one about 64 rules may result.
+    Defaults,
     /// Random bytes.
     Noise,
 }
 
 impl Kind {
-    pub const ALL: [(&'static str, Kind); 9] = [
+    pub const ALL: [(&'static str, Kind); 10] = [
         ("valid", Kind::Valid),
         ("rich", Kind::Rich),
         ("damaged", Kind::Damaged),
@@ -64,6 +68,7 @@ impl Kind {
         ("heavy", Kind::Heavy),
         ("limit", Kind::Limit),
         ("longest", Kind::Longest),
+        ("defaults", Kind::Defaults),
         ("noise", Kind::Noise),
     ];
 
@@ -72,36 +77,60 @@ impl Kind {
     }
 }
 
-/// A deck of this kind.
+/// A new deck of this kind.
 pub fn deck(kind: Kind, random: &mut Random, size: Size) -> Vec<u8> {
+    deck_of_form(Form::New, kind, random, size)
+}
+
+/// An old deck of this kind.
+pub fn old_deck(kind: Kind, random: &mut Random, size: Size) -> Vec<u8> {
+    deck_of_form(Form::Old, kind, random, size)
+}
+
+fn deck_of_form(form: Form, kind: Kind, random: &mut Random, size: Size) -> Vec<u8> {
     match kind {
-        Kind::Valid => decks::valid(random, size).encode().bytes,
-        Kind::Rich => decks::rich(random, size).encode().bytes,
-        Kind::Damaged => faults::damaged(random, size),
-        Kind::Expression => expression_faults::broken(random, size),
-        Kind::Cyclic => faults::cyclic(random, size).encode().bytes,
-        Kind::Heavy => heavy::heavy(random, size).encode().bytes,
-        Kind::Limit => faults::limit(random, size),
-        Kind::Longest => faults::around_longest(random),
+        Kind::Valid => decks::valid(random, size, form).encode().bytes,
+        Kind::Rich => decks::rich(random, size, form).encode().bytes,
+        Kind::Damaged => faults::damaged(random, size, form),
+        Kind::Expression => expression_faults::broken(random, size, form),
+        Kind::Cyclic => faults::cyclic(random, size, form).encode().bytes,
+        Kind::Heavy => heavy::heavy(random, size, form).encode().bytes,
+        Kind::Limit => faults::limit(random, size, form),
+        Kind::Longest => faults::around_longest(random, form),
+        Kind::Defaults => defaults::defaults(random, size),
         Kind::Noise => faults::noise(random),
     }
 }
 
-/// Deck n of a comparison, and its kind's name; it depends on the seed and n alone. Kinds take
+/// New deck n of a comparison, and its kind's name; it depends on the seed and n alone. Kinds take
 /// turns; the longest decks, which are slow to make, come more seldom. Some decks are cut off
 /// anywhere, or followed by many bytes more.
 pub fn any_kind(seed: u64, number: u64) -> (&'static str, Vec<u8>) {
-    let mut random = Random::new(seed ^ number.wrapping_mul(0xD134_2543_DE82_EF95));
+    any_kind_of_form(Form::New, seed, number)
+}
+
+/// Old deck n of a comparison.
+pub fn any_old_kind(seed: u64, number: u64) -> (&'static str, Vec<u8>) {
+    any_kind_of_form(Form::Old, seed, number)
+}
+
+fn any_kind_of_form(form: Form, seed: u64, number: u64) -> (&'static str, Vec<u8>) {
+    let mut random = numbered(seed, number);
     let (mut name, mut kind) = Kind::ALL[number as usize % Kind::ALL.len()];
     if kind == Kind::Longest && random.chance(80) {
         (name, kind) = ("damaged", Kind::Damaged);
     }
-    let mut deck = deck(kind, &mut random, Size::FULL);
+    let mut deck = deck_of_form(form, kind, &mut random, Size::FULL);
     if random.chance(4) {
         deck.truncate(random.below(deck.len() + 1));
     } else if random.chance(1) {
-        let more = random.pick(&[1, 1000, 42_884, 70_000, 200_000]);
+        let more = random.pick(&[1, 1000, 25_988, 42_884, 70_000, 200_000]);
         deck.extend((0..more).map(|_| random.byte()));
     }
     (name, deck)
+}
+
+/// What case n of a comparison is made from.
+pub fn numbered(seed: u64, number: u64) -> Random {
+    Random::new(seed ^ number.wrapping_mul(0xD134_2543_DE82_EF95))
 }

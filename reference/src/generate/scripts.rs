@@ -1,12 +1,14 @@
 //! Scripts of calls for `replay`.
 
-use super::calls::{any, bad_length, damage, hand_written, restored, Known};
-use crate::engine::{check, Answer, Call};
+use super::calls::{any, bad_length, buffer_length, damage, hand_written, restored, Known};
+use crate::deck::Form;
+use crate::engine::{Answer, Call};
 use crate::random::Random;
+use crate::refusal::DEFAULT_ACTION;
 use crate::script::{Host, Line};
 
 /// Lines that are none of those that `replay` knows.
-const UNREADABLE: [&str; 12] = [
+const UNREADABLE: [&str; 15] = [
     "commit",
     "commit -1",
     "commit 4294967296",
@@ -19,6 +21,9 @@ const UNREADABLE: [&str; 12] = [
     "start",
     "jump 3",
     "pending 1 ",
+    "convert",
+    "convert 50001",
+    "convert 73 0",
 ];
 
 /// Writes lines and goes through them, so that later ones fit what is in memory.
@@ -31,22 +36,45 @@ struct Writer<'a> {
     text: String,
 }
 
-/// A text of about so many calls for a deck.
+/// A text of about so many calls for a deck. One with default actions is mostly converted first.
 pub fn script(random: &mut Random, deck: &[u8], calls: usize) -> String {
-    let charge = check(deck).map_or(0, |passed| passed.charge as usize);
-    let (known, host) = (Known::of(deck), Host::new(deck));
-    let mut writer = Writer { random, known, charge, host, text: String::new() };
+    let mut writer = Writer::new(random, deck, Host::new(deck));
     if writer.random.chance(10) {
         writer.call();
     }
-    writer.start();
-    for _ in 0..calls {
-        writer.step();
+    let retired = crate::check(deck).is_err_and(|refusal| refusal.number == DEFAULT_ACTION);
+    let conversions = if retired { writer.random.below(4) } else { 0 };
+    for _ in 0..conversions {
+        writer.convert();
     }
-    writer.text
+    writer.write(calls)
 }
 
-impl Writer<'_> {
+/// A text of about so many calls on an old deck, and none that shows its bytes.
+pub fn old_script(random: &mut Random, deck: &[u8], calls: usize) -> String {
+    Writer::new(random, deck, Host::old(deck)).write(calls)
+}
+
+impl<'a> Writer<'a> {
+    fn new(random: &'a mut Random, deck: &[u8], host: Host<'a>) -> Writer<'a> {
+        let mut writer = Writer { random, known: Known::of(deck), charge: 0, host, text: String::new() };
+        writer.see_charge();
+        writer
+    }
+
+    fn write(mut self, calls: usize) -> String {
+        self.start();
+        for _ in 0..calls {
+            self.step();
+        }
+        self.text
+    }
+
+    fn see_charge(&mut self) {
+        let passed = self.host.form.check(&self.host.deck);
+        self.charge = passed.map_or(0, |passed| passed.charge as usize);
+    }
+
     fn line(&mut self, line: Line) {
         self.host.perform(&line);
         self.text.push_str(&line.to_string());
@@ -58,6 +86,8 @@ impl Writer<'_> {
             0..=3 => self.start(),
             4..=7 => self.damage(),
             8..=11 => self.hand_write(),
+            // Sections and conversions show a deck's bytes.
+            12..=14 | 17 | 18 if self.host.form == Form::Old => self.call(),
             12..=14 => {
                 let number = self.random.pick(&[0, 1, 2, 3, 4, u32::MAX]);
                 self.line(Line::Section { number });
@@ -68,6 +98,7 @@ impl Writer<'_> {
                 self.text.push('\n');
             }
             16 => self.text.push('\n'),
+            17 | 18 => self.convert(),
             _ => self.call(),
         }
     }
@@ -96,6 +127,12 @@ impl Writer<'_> {
         } else {
             self.call();
         }
+    }
+
+    fn convert(&mut self) {
+        let length = buffer_length(self.random, &self.host.deck);
+        self.line(Line::Convert { length });
+        self.see_charge();
     }
 
     fn call(&mut self) {

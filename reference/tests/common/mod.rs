@@ -4,17 +4,33 @@
 pub mod model;
 
 use model::holds;
-use reference::deck::Deck;
+use reference::deck::{Deck, Form};
 use reference::expression::Truth;
 use reference::script::Host;
 #[allow(unused_imports)]
-pub use reference::stored::{assign, copy, deck_d, deck_d_with, deck_of, deck_with_condition};
+pub use reference::stored::{
+    assign, copy, deck_d, deck_d_with, deck_e, deck_e_converted, deck_e_with, deck_of, deck_of_33_rules,
+    deck_with_condition,
+};
 
 /// A host after an accepted start with so many places.
 pub fn fresh(deck: &[u8], places: usize) -> Host<'_> {
-    let mut host = Host::new(deck);
+    started(Host::new(deck), places)
+}
+
+/// A host that takes old decks, after such a start.
+pub fn fresh_old(deck: &[u8], places: usize) -> Host<'_> {
+    started(Host::old(deck), places)
+}
+
+fn started(mut host: Host, places: usize) -> Host {
     assert_eq!(host.start(10 * places), Ok(()));
     host
+}
+
+/// The line of the old check.
+pub fn old_check_line(deck: &[u8]) -> String {
+    Form::Old.check(deck).map_or_else(|refusal| refusal.to_string(), |passed| passed.to_string())
 }
 
 /// Whether every part is within its limit in this table of values.

@@ -8,7 +8,9 @@ use Rattle.refusals.specs.Outcome.{Outcome, accepted}
 use Rattle.pool.specs.declared.State.{State}
 use Rattle.calls.specs.Calls.{Answer, applied, discarded, settled, spent, Reply, Section}
 use Rattle.calls.specs.Answers.{numbersOf, sectionOf, memoryAt, replyOf, replyAt}
+use Rattle.conversion.specs.Conversion as Conversion
 use Rattle.abi.specs.Returned.{answeredOf, answered, bit, numbersAt, returnedOf, returned, returnedSectionOf, returnedSection}
+use Rattle.abi.specs.Returned.{returnedConversionOf, convertedNumbers, returnedConversion}
 
 -- the array holds the numbers of an outcome
 abbrev Holds : List ℕ → Outcome Answer → Type 0
@@ -59,3 +61,9 @@ pub told : {o : Outcome Answer} {number place first second : ℕ} {values pool :
     → returnedOf number array (memoryAt values pending pool) ≡ returned r
 told {values = values} {pool} {pending} {array} n w e =
     ap (λ x. returnedOf (x .number) array (memoryAt values pending pool)) n ∙ left (w ∙ ap (λ x. x .place ∷ x .values) n) e
+
+-- the array holds the numbers of a conversion
+pub conversion-written : {o : Outcome ℕ} {array buffer : List ℕ} {r : Conversion.Reply} → array ≡ convertedNumbers o .answer
+    → Conversion.replyOf o buffer ≡ r → returnedConversionOf (convertedNumbers o .number) array buffer ≡ returnedConversion r
+conversion-written {o} {buffer = buffer} w e =
+    ap (λ a. returnedConversionOf (convertedNumbers o .number) a buffer) w ∙ ap returnedConversion e

@@ -1,4 +1,4 @@
--- `call_tests::test_lent` meets its contract: 1 to 8, 18 and 19, and then 9 and 10. Assumes nothing.
+-- `call_tests::test_lent` meets its contract: 1 to 8 and 18 to 20, and then 9 and 10. Assumes nothing.
 use borrow.Author.Needs.{needs}
 use Rattle.call_tests.specs.Laws.Tested.{tested-refused, state-ready, state-tests}
 use Rattle.call_tests.proofs.test_lent.Statement.{statement}

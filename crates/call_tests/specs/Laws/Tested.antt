@@ -11,6 +11,8 @@ use Rattle.lists.specs.Lists.{isEmpty}
 use Rattle.lists.specs.Laws.Alls.{all-weaken}
 use Rattle.refusals.specs.Outcome.{refused, accepted, outcomes}
 use Rattle.refusals.specs.Numbers.{badPool, badState}
+use Rattle.deck.specs.declared.Form.the-variants.{New}
+use Rattle.deck.specs.Laws.Forms.{NoDefaults, new-none}
 use Rattle.deck.specs.Deck.{Deck}
 use Rattle.deck.specs.declared.Deck as Counted
 use Rattle.graph.specs.Laws.Cycles.{Acyclic, no-cycle}
@@ -37,7 +39,7 @@ use Rattle.index.specs.Index.{headsOf, Indexed, Roomy}
 use Rattle.offers.specs.Queue.{heldOf}
 use Rattle.offers.specs.Stored.{Stored}
 use Rattle.offers.specs.Laws.Kept.{kept-whole}
-use Rattle.calls.specs.Calls.{tested}
+use Rattle.calls.specs.Calls.{tested, testedAs}
 use Rattle.calls.specs.Answers.{memoryAt}
 use Rattle.call_tests.specs.Tested.{Usable, TestsState, Passed, Tests}
 use Rattle.call_tests.specs.declared.Tested.{Tested}
@@ -88,21 +90,21 @@ usable n g =
 -- ---- the definition's tests, one by one
 
 module _ (s : List ℕ) (m : Memory) where
-  pub tested-refused : (n p : ℕ) → passing s ≡ refused n p → tested s m ≡ refused n p
-  unfolding tested outcomes
+  pub tested-refused : (n p : ℕ) → passing New s ≡ refused n p → tested s m ≡ refused n p
+  unfolding testedAs outcomes
   tested-refused n p e = rw e
 
-  module _ (w : passing s ≡ accepted (layoutOf s)) where
+  module _ (w : passing New s ≡ accepted (layoutOf s)) where
     pub tested-pool : goodLength (length (m .pool)) ≡ false → tested s m ≡ refused badPool 0
-    unfolding tested outcomes
+    unfolding testedAs outcomes
     tested-pool l = rw (w, l)
 
     pub tested-state : goodLength (length (m .pool)) ≡ true → good (deckOf s) m ≡ false → tested s m ≡ refused badState 0
-    unfolding tested outcomes
+    unfolding testedAs outcomes
     tested-state l g = rw (w, l, g)
 
     pub tested-good : goodLength (length (m .pool)) ≡ true → good (deckOf s) m ≡ true → tested s m ≡ accepted (deckOf s)
-    unfolding tested outcomes
+    unfolding testedAs outcomes
     tested-good l g = rw (w, l, g)
 
 -- ---- all that the rest of a call needs
@@ -129,10 +131,14 @@ held-loaded d m index total g t x =
       charged = t;
     }
 
-module _ (s rules parts charges : List ℕ) (k : Counted.Deck) (n : ℕ) (w : Judging.Passed s rules parts charges k n) where
+module _ (s rules parts charges : List ℕ) (k : Counted.Deck) (n : ℕ) (w : Judging.Passed New s rules parts charges k n) where
   pub passed-acyclic : Acyclic (deckOf s)
   passed-acyclic =
-      no-cycle (known-targets (deckOf s) (w .tabled .counts .formed)) .0 (passing-clean s (layoutOf s) (w .passes) .2)
+      no-cycle (known-targets (deckOf s) (w .tabled .counts .formed)) .0 (passing-clean New s (layoutOf s) (w .passes) .2)
+
+  -- a new deck has no default actions
+  passed-none : NoDefaults (deckOf s)
+  passed-none = new-none s (w .bytes) (layoutOf s) (passing-clean New s (layoutOf s) (w .passes) .0)
 
   goodness-same : (m : Memory) → goodnessOf (shape rules parts k) m ≡ goodnessOf (deckOf s) m
   goodness-same m =
@@ -156,6 +162,7 @@ module _ (s rules parts charges : List ℕ) (k : Counted.Deck) (n : ℕ) (w : Ju
           accepted = tested-good s m (w .passes) (t .1) (a .0);
           entering = record {
             tabled = w .tabled;
+            none = passed-none;
             ready = record { tables = w .acyclic; memo = t .3 };
             acyclic = passed-acyclic;
             room = record {

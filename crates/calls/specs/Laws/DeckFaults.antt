@@ -5,12 +5,14 @@ use mathlib.Core.Path.{_≡_, ap}
 use mathlib.Core.List.{List, []}
 use lib.IntN.{ℤ}
 use Rattle.refusals.specs.Outcome.{Outcome, refused, _>>=_}
+use Rattle.deck.specs.declared.Form.the-variants.{New}
 use Rattle.deck.specs.Limits.{limits}
 use Rattle.deck.specs.Layout.{read}
 use Rattle.pool.specs.Places.{zeros}
 use Rattle.pool.specs.States.{Memory}
 use Rattle.passing.specs.Check.{passing}
 use Rattle.calls.specs.Calls.{Done, Reply, reply, tested, check, start, input, commit, settle}
+use Rattle.calls.specs.Calls.{checkAs, commitAs, inputAs, settleAs, startAs, testedAs}
 use Rattle.calls.specs.Calls.{sectionEnds, sectionReply, section}
 
 -- a refused call, and what the host then holds
@@ -38,20 +40,20 @@ module _ {n p : ℕ} where
   unfolding reply
   reply-refused m o e = ap (reply m) e
 
-pub every-call-declines : (bytes : List ℕ) (n p : ℕ) → read bytes ≡ refused n p → EveryCallDeclines bytes n p
-unfolding passing tested check start input commit settle sectionEnds sectionReply section
+pub every-call-declines : (bytes : List ℕ) (n p : ℕ) → read New bytes ≡ refused n p → EveryCallDeclines bytes n p
+unfolding passing testedAs checkAs startAs inputAs commitAs settleAs sectionEnds sectionReply section
 every-call-declines bytes n p e =
     record {
-      checked = then-refused (passing bytes) _ refuses;
-      sectioned = λ k. ap (sectionReply bytes) (then-refused (passing bytes) _ refuses);
-      started = λ pool. reply-refused (notStarted pool) _ (then-refused (passing bytes) _ refuses);
+      checked = then-refused (passing New bytes) _ refuses;
+      sectioned = λ k. ap (sectionReply bytes) (then-refused (passing New bytes) _ refuses);
+      started = λ pool. reply-refused (notStarted pool) _ (then-refused (passing New bytes) _ refuses);
       entered = λ m part pairs. reply-refused m _ (then-refused (tested bytes m) _ (tests m));
       committed = λ m k. reply-refused m _ (then-refused (tested bytes m) _ (tests m));
       settled = λ m budget. reply-refused m _ (then-refused (tested bytes m) _ (tests m));
     }
   where
-    refuses : passing bytes ≡ refused n p
-    refuses = then-refused (read bytes) _ e
+    refuses : passing New bytes ≡ refused n p
+    refuses = then-refused (read New bytes) _ e
 
     tests : (m : Memory) → tested bytes m ≡ refused n p
-    tests m = then-refused (passing bytes) _ refuses
+    tests m = then-refused (passing New bytes) _ refuses

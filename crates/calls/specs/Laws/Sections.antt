@@ -9,20 +9,21 @@ use borrow.Author.Tests.{le-leb, lt-leb}
 use Rattle.refusals.specs.Outcome.{refused, accepted, outcomes}
 use Rattle.refusals.specs.Numbers.{unknownSection}
 use Rattle.expression.specs.Laws.Bytes.{Bytes}
+use Rattle.deck.specs.declared.Form.the-variants.{New}
 use Rattle.deck.specs.Deck.{Deck}
 use Rattle.deck.specs.Layout.{Layout}
 use Rattle.deck.specs.Encoding.{encodeChannels, encodeRules, encodeParts, encode}
 use Rattle.passing.specs.Check.{passing}
 use Rattle.passing.specs.Laws.Passes.{passes-exactly}
-use Rattle.calls.specs.Calls.{Ends, sectionAt, sectionEnds, sectionReply, section, stretchFrom, sectionFrom}
+use Rattle.calls.specs.Calls.{sectionAt, sectionEnds, sectionReply, section, stretchFrom, sectionFrom}
 use Rattle.calls.specs.Answers.{sectionOf}
 
 module _ (bytes : List ℕ) (k : ℕ) where
-  pub ends-refused : (n p : ℕ) → passing bytes ≡ refused n p → sectionEnds bytes k ≡ refused n p
+  pub ends-refused : (n p : ℕ) → passing New bytes ≡ refused n p → sectionEnds bytes k ≡ refused n p
   unfolding sectionEnds outcomes
   ends-refused n p e = rw e
 
-  module _ (l : Layout) (e : passing bytes ≡ accepted l) where
+  module _ (l : Layout) (e : passing New bytes ≡ accepted l) where
     pub ends-unknown : 2 < k → sectionEnds bytes k ≡ refused unknownSection 0
     unfolding sectionEnds outcomes
     ends-unknown h = rw (e, lt-leb k 2 h)
@@ -50,7 +51,7 @@ middle s a b c from to whole e f =
     let size : to - from ≡ length b = omega arith in
     ap₂ take size (ap₂ drop e (whole ∙ append-assoc a b c) ∙ drop-append-seam a (b ++ c)) ∙ take-append-seam b c
 
-module _ (bytes : List ℕ) (b : Bytes bytes) (l : Layout) (e : passing bytes ≡ accepted l) where
+module _ (bytes : List ℕ) (b : Bytes bytes) (l : Layout) (e : passing New bytes ≡ accepted l) where
   abbrev d : Deck
   d = l .deck
 
@@ -67,7 +68,7 @@ module _ (bytes : List ℕ) (b : Bytes bytes) (l : Layout) (e : passing bytes �
   pub sections-encoded : SectionsOf bytes d
   unfolding encode sectionAt
   sections-encoded =
-      let p = passes-exactly bytes b l .0 e in
+      let p = passes-exactly New bytes b l .0 e in
       let A = encodeChannels d in
       let B = encodeRules d in
       let C = encodeParts d in

@@ -1,5 +1,5 @@
 -- Commit answers what the tests come to, and what the definition makes of the place. Assumes nothing.
-use Prim.Native.Nat.{ℕ, _-_, _<_}
+use Prim.Native.Nat.{ℕ, _<_}
 use mathlib.Core.Path.{_≡_, sym, ap, ap₂, _∙_, subst}
 use mathlib.Core.Bool.{Bool, true, false}
 use mathlib.Core.List.{List}
@@ -20,7 +20,7 @@ use Rattle.holes.specs.Laws.Standing.{whole-length}
 use Rattle.deck.specs.declared.Deck as Counted
 use Rattle.offers.specs.Queue.{heldOf}
 use Rattle.offers.specs.Stored.{Stored}
-use Rattle.calls.specs.Calls.{Answer, applied, reply, tested, commit}
+use Rattle.calls.specs.Calls.{Answer, reply, tested, commit, commitAs}
 use Rattle.calls.specs.Answers.{replyAt}
 use Rattle.call_tests.specs.Tested.{Passed, Left}
 use Rattle.turns.specs.Turns.{Turned}
@@ -31,7 +31,7 @@ use Rattle.call_tests.specs.Laws.StoredMemory.{left-memory}
 module _ (s : List ℕ) (m : Memory) (k : ℕ) where
   pub commit-no-place : (d : Deck) → tested s m ≡ accepted d → mayTake (load m .pending) k ≡ false
       → commit s m k ≡ record { answer = refused placeNotPending 0; memory = m }
-  unfolding commit reply outcomes
+  unfolding commitAs reply outcomes
   commit-no-place d e h = rw (e, h)
 
   commit-done : (d : Deck) → tested s m ≡ accepted d → mayTake (load m .pending) k ≡ true
@@ -40,7 +40,7 @@ module _ (s : List ℕ) (m : Memory) (k : ℕ) where
         answer = accepted (committedAs (committed d k (load m) .applied) (charge d (committed d k (load m) .machine .pending)));
         memory = store (length (m .pool)) (committed d k (load m) .machine);
       }
-  unfolding commit reply outcomes
+  unfolding commitAs reply outcomes
   commit-done d e h = rw (e, h)
 
   pub commit-made : {a : Outcome Answer} {index : List ℕ} {total : ℕ} {vs pool : List ℤ} {pending : ℕ}

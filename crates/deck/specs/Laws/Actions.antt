@@ -10,15 +10,16 @@ use Rattle.lists.specs.Lists.{all, flatMap, member, distinct, lists}
 use Rattle.lists.specs.Laws.Booleans.{and-both, and-left, and-right}
 use Rattle.lists.specs.Laws.Alls.{all-every}
 use Rattle.lists.specs.Laws.Equalities.{eqb-sym}
-use Rattle.refusals.specs.Numbers.{repeatedTarget}
+use Rattle.refusals.specs.Numbers.{repeatedTarget, defaultRetired}
 use Rattle.expression.specs.Syntax.{Num}
 use Rattle.expression.specs.Reading.{Scope}
 use Rattle.expression.specs.Encoding.{encodeNum, goodNum}
 use Rattle.expression.specs.Laws.Whole.{whole-num}
+use Rattle.deck.specs.declared.Form.{Form}
 use Rattle.deck.specs.Limits.{limits}
 use Rattle.deck.specs.Deck.{Assignment, Action, targets, decks}
 use Rattle.deck.specs.Reader.{readers}
-use Rattle.deck.specs.Layout.{numbers, assignments, action, layouts}
+use Rattle.deck.specs.Layout.{numbers, assignments, action, layouts, ownOnly, allows, defaultAction}
 use Rattle.deck.specs.Encoding.{encodeExpression, encodeAssignment, encodeAction, goodAssignment, goodAction, encodings}
 use Rattle.deck.specs.Laws.Exact.{Exact, Any, Coded, exact-by, give-exact, here-exact, require-exact, then-exact}
 use Rattle.deck.specs.Laws.Readers.{number-exact, nil-exact, cons-exact}
@@ -125,3 +126,31 @@ module _ (sc : Scope) where
         zero-range (limits .assignments) (length a) ∙ and-left few _ good,
         ((refl, and-right few _ good, and-right (few && all (goodAssignment sc) a) _ (q .0), apart-none a), refl),
       ))
+
+-- a default action: a new deck has the empty one
+pub default-exact : (f : Form) (R : ℕ)
+    → Exact Any (defaultAction f R) (Coded encodeAction (λ a. (goodAction (ownOnly R) a && allows f (length a)) ≡ true))
+unfolding layouts readers lists decks encodings
+default-exact f R =
+    exact-by
+    (here-exact λ p.
+    then-exact (number-exact 0 (suc (limits .assignments))) λ n.
+    require-exact (allows f n) defaultRetired p (assignments-exact (ownOnly R) n []))
+    (λ at a w _ p.
+    let few : leb (length a) (limits .assignments) ≡ true = rw (p .4 .1 .0 .0) (sym (zero-range (limits .assignments) (p .0)) ∙ p .3) in
+    let sound = and-both (and-both few (p .4 .1 .0 .1)) (p .4 .1 .0 .2) in
+    (and-both sound (rw (p .4 .1 .0 .0) (p .4 .0)), p .2 ∙ rw (p .4 .1 .1, p .4 .1 .0 .0)))
+    (λ at a w q.
+    let few : Bool = leb (length a) (limits .assignments) in
+    let tests : Bool = few && all (goodAssignment (ownOnly R)) a in
+    let sound = and-left (goodAction (ownOnly R) a) (allows f (length a)) (q .0) in
+    let good = and-left tests _ sound in (
+      length a,
+      flatMap encodeAssignment a,
+      q .1,
+      zero-range (limits .assignments) (length a) ∙ and-left few _ good,
+      (
+        and-right (goodAction (ownOnly R) a) (allows f (length a)) (q .0),
+        ((refl, and-right few _ good, and-right tests _ sound, apart-none a), refl),
+      ),
+    ))

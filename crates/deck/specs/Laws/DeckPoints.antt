@@ -5,8 +5,9 @@ use mathlib.Core.List.{List, [], _∷_}
 use lib.ListN.{drop}
 use Rattle.refusals.specs.Outcome.{accepted}
 use Rattle.refusals.specs.Laws.Outcomes.{refused≢accepted, accepted-inj}
+use Rattle.deck.specs.declared.Form.{Form}
 use Rattle.deck.specs.Reader.{Got, Reader, _>>=_, _>>_, here, end, number, times, rising, value}
-use Rattle.deck.specs.Layout.{truths, expression, action, ownOnly}
+use Rattle.deck.specs.Layout.{truths, expression, ownOnly, defaultAction}
 use Rattle.deck.specs.Marks.{markedTask, markedRule, MarkedFront, markedFront, markedPart, Marked, markedSections}
 use Rattle.deck.specs.Laws.Points.{
   Tracks,
@@ -17,7 +18,7 @@ use Rattle.deck.specs.Laws.Points.{
   times-tracks,
   rising-tracks,
   expression-tracks,
-  action-tracks,
+  default-tracks,
   task-tracks,
   value-tracks,
   then-at,
@@ -45,16 +46,16 @@ each-read P r t s p (suc n) at g e =
     subst (Each P) (given _ (drop (xs .0 .at) s) (xs .0 .at) g (xs .2))
     (p at (x .0) (x .1), each-read P r t s p n (x .0 .at) (xs .0) (xs .1))
 
-pub rule-tracks : (R : ℕ) → Tracks (markedRule R)
+pub rule-tracks : (f : Form) (R : ℕ) → Tracks (markedRule f R)
 unfolding markedRule _>>=_
-rule-tracks R =
+rule-tracks f R =
     then-tracks (number 1 9) _ (number-tracks 1 9)
     (λ n.
     then-tracks (rising n 0 R) _ (rising-tracks n 0 R)
     (λ events.
     then-tracks here _ here-tracks
     (λ at.
-    then-tracks (action (ownOnly R)) _ (action-tracks (ownOnly R))
+    then-tracks (defaultAction f R) _ (default-tracks f R)
     (λ default. then-tracks (markedTask R) _ (task-tracks R) (λ task. give-tracks _)))))
 
 pub part-tracks : (R M : ℕ) → Tracks (markedPart R M)
@@ -71,9 +72,9 @@ part-tracks R M =
     then-tracks here _ here-tracks
     (λ l. then-tracks (expression (truths (ownOnly R))) _ (expression-tracks (truths (ownOnly R))) (λ limit. give-tracks _))))))
 
-pub front-tracks : Tracks markedFront
+pub front-tracks : (f : Form) → Tracks (markedFront f)
 unfolding markedFront _>>=_
-front-tracks =
+front-tracks f =
     then-tracks (number 1 33) _ (number-tracks 1 33)
     (λ R.
     then-tracks (times R (number 33 127)) _ (times-tracks (number 33 127) (number-tracks 33 127) R)
@@ -81,21 +82,21 @@ front-tracks =
     then-tracks here _ here-tracks
     (λ at.
     then-tracks (number 0 65) _ (number-tracks 0 65)
-    (λ M. then-tracks (times M (markedRule R)) _ (times-tracks (markedRule R) (rule-tracks R) M) (λ rules. give-tracks _)))))
+    (λ M. then-tracks (times M (markedRule f R)) _ (times-tracks (markedRule f R) (rule-tracks f R) M) (λ rules. give-tracks _)))))
 
-front-points : (s : List ℕ) (at : ℕ) (g : Got MarkedFront) → markedFront (drop at s) at ≡ accepted g
+front-points : (f : Form) (s : List ℕ) (at : ℕ) (g : Got MarkedFront) → markedFront f (drop at s) at ≡ accepted g
     → Each (RulePoints (g .value .channels) s) (g .value .rules)
 unfolding markedFront _>>=_
-front-points s at g e =
+front-points f s at g e =
     let i1 = then-at (number 1 33) _ (number-tracks 1 33) s at g e in
     let R = i1 .0 .value in
     let i2 = then-at (times R (number 33 127)) _ (times-tracks (number 33 127) (number-tracks 33 127) R) s (i1 .0 .at) g (i1 .2) in
     let h = here-at _ (drop (i2 .0 .at) s) (i2 .0 .at) g (i2 .2) in
     let i3 = then-at (number 0 65) _ (number-tracks 0 65) s (i2 .0 .at) g h in
     let M = i3 .0 .value in
-    let i4 = then-at (times M (markedRule R)) _ (times-tracks (markedRule R) (rule-tracks R) M) s (i3 .0 .at) g (i3 .2) in
+    let i4 = then-at (times M (markedRule f R)) _ (times-tracks (markedRule f R) (rule-tracks f R) M) s (i3 .0 .at) g (i3 .2) in
     subst (λ (m : MarkedFront). Each (RulePoints (m .channels) s) (m .rules)) (given _ (drop (i4 .0 .at) s) (i4 .0 .at) g (i4 .2))
-    (each-read (RulePoints R s) (markedRule R) (rule-tracks R) s (rule-points R s) M (i3 .0 .at) (i4 .0) (i4 .1))
+    (each-read (RulePoints R s) (markedRule f R) (rule-tracks f R) s (rule-points f R s) M (i3 .0 .at) (i4 .0) (i4 .1))
 
 pub end-tracks : Tracks end
 unfolding end
@@ -106,11 +107,11 @@ end-tracks s at g e = go (drop at s) refl e
     go (b ∷ t) d e = refused≢accepted e
 
 -- reading at a rule's or part's offsets gives that part of the deck that was read
-pub deck-points : (s : List ℕ) (g : Got Marked) → markedSections s 0 ≡ accepted g
+pub deck-points : (f : Form) (s : List ℕ) (g : Got Marked) → markedSections f s 0 ≡ accepted g
     → Each (RulePoints (g .value .front .channels) s) (g .value .front .rules) × Each (PartPoints (g .value .front .channels) s) (g .value .parts)
 unfolding markedSections _>>=_ _>>_
-deck-points s g e =
-    let i1 = then-at markedFront _ front-tracks s 0 g e in
+deck-points f s g e =
+    let i1 = then-at (markedFront f) _ (front-tracks f) s 0 g e in
     let front = i1 .0 .value in
     let h = here-at _ (drop (i1 .0 .at) s) (i1 .0 .at) g (i1 .2) in
     let i2 = then-at (number 1 17) _ (number-tracks 1 17) s (i1 .0 .at) g h in
@@ -120,7 +121,7 @@ deck-points s g e =
     let i4 = then-at end _ end-tracks s (i3 .0 .at) g (i3 .2) in
     subst (λ (m : Marked). Each (RulePoints (m .front .channels) s) (m .front .rules) × Each (PartPoints (m .front .channels) s) (m .parts))
     (given _ (drop (i4 .0 .at) s) (i4 .0 .at) g (i4 .2)) (
-      front-points s 0 (i1 .0) (i1 .1),
+      front-points f s 0 (i1 .0) (i1 .1),
       each-read (PartPoints (front .channels) s) part (part-tracks (front .channels) (front .count)) s (part-points (front .channels) (front .count) s)
           N (i2 .0 .at) (i3 .0) (i3 .1),
     )

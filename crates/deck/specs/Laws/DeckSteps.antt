@@ -5,6 +5,7 @@ use mathlib.Core.List.{List, [], _∷_}
 use lib.ListN.{drop}
 use Rattle.refusals.specs.Outcome.{Outcome, refused, accepted}
 use Rattle.refusals.specs.Numbers.{bytesFollow}
+use Rattle.deck.specs.declared.Form.{Form}
 use Rattle.deck.specs.Reader.{Got, _>>=_, _>>_, andThen, give, end, number, times}
 use Rattle.deck.specs.Marks.{MarkedRule, markedRule, MarkedFront, markedFront, MarkedPart, markedPart, markedSections, Reads}
 use Rattle.deck.specs.Laws.Offsets.{then-next, then-fault, reads-last}
@@ -17,34 +18,34 @@ deckOf R M N second third = record { channels = R; rules = M; parts = N; second 
 
 -- ---- the first two sections
 
-module _ (s : List ℕ) where
-  pub no-channels : {n p : ℕ} → number 1 33 s 0 ≡ refused n p → markedFront s 0 ≡ refused n p
+module _ (form : Form) (s : List ℕ) where
+  pub no-channels : {n p : ℕ} → number 1 33 s 0 ≡ refused n p → markedFront form s 0 ≡ refused n p
   unfolding markedFront _>>=_
   no-channels e = then-fault _ e
 
   module _ (R a : ℕ) (e : number 1 33 s 0 ≡ gotAt s R a) where
-    pub no-labels : {n p : ℕ} → times R (number 33 127) (drop a s) a ≡ refused n p → markedFront s 0 ≡ refused n p
+    pub no-labels : {n p : ℕ} → times R (number 33 127) (drop a s) a ≡ refused n p → markedFront form s 0 ≡ refused n p
     unfolding markedFront _>>=_
     no-labels f = then-next _ e ∙ then-fault _ f
 
     module _ (labels : List ℕ) (second : ℕ) (f : times R (number 33 127) (drop a s) a ≡ gotAt s labels second) where
-      pub no-rules : {n p : ℕ} → number 0 65 (drop second s) second ≡ refused n p → markedFront s 0 ≡ refused n p
+      pub no-rules : {n p : ℕ} → number 0 65 (drop second s) second ≡ refused n p → markedFront form s 0 ≡ refused n p
       unfolding markedFront _>>=_
       no-rules g = then-next _ e ∙ then-next _ f ∙ here-next _ (drop second s) second ∙ then-fault _ g
 
       module _ (M b : ℕ) (g : number 0 65 (drop second s) second ≡ gotAt s M b) where
-        front-last : markedFront s 0
-            ≡ andThen (times M (markedRule R) (drop b s) b)
+        front-last : markedFront form s 0
+            ≡ andThen (times M (markedRule form R) (drop b s) b)
             (λ rules. give (record { channels = R; labels = labels; rulesAt = second; count = M; rules = rules }))
         unfolding markedFront _>>=_
         front-last = then-next _ e ∙ then-next _ f ∙ here-next _ (drop second s) second ∙ then-next _ g
 
         pub front-read : (P : List MarkedRule → Type 0) (Q : MarkedFront → Type 0) (step : Step)
             → ((rules : List MarkedRule) → P rules → Q (record { channels = R; labels = labels; rulesAt = second; count = M; rules = rules }))
-            → Reads s (times M (markedRule R) (drop b s) b) P step → Reads s (markedFront s 0) Q step
+            → Reads s (times M (markedRule form R) (drop b s) b) P step → Reads s (markedFront form s 0) Q step
         front-read P Q step q h =
             subst (λ (o : Outcome (Got MarkedFront)). Reads s o Q step) (sym front-last)
-            (reads-last s (times M (markedRule R) (drop b s) b) P
+            (reads-last s (times M (markedRule form R) (drop b s) b) P
             (λ rules. record { channels = R; labels = labels; rulesAt = second; count = M; rules = rules })
             Q step q h)
 
@@ -55,31 +56,34 @@ module _ (s : List ℕ) where
       → times N (markedPart (front .channels) (front .count)) (drop a s) a ≡ times N (markedPart R M) (drop a s) a
   same-parts front N a e f = ap₂ (λ R M. times N (markedPart R M) (drop a s) a) (sym e) (sym f)
 
-  pub no-front : {n p : ℕ} → markedFront s 0 ≡ refused n p → markedSections s 0 ≡ refused n p
+  pub no-front : {n p : ℕ} → markedFront form s 0 ≡ refused n p → markedSections form s 0 ≡ refused n p
   unfolding markedSections _>>=_
   no-front e = then-fault _ e
 
-  module _ (front : MarkedFront) (third : ℕ) (e : markedFront s 0 ≡ gotAt s front third) where
-    pub no-parts : {n p : ℕ} → number 1 17 (drop third s) third ≡ refused n p → markedSections s 0 ≡ refused n p
+  module _ (front : MarkedFront) (third : ℕ) (e : markedFront form s 0 ≡ gotAt s front third) where
+    pub no-parts : {n p : ℕ} → number 1 17 (drop third s) third ≡ refused n p → markedSections form s 0 ≡ refused n p
     unfolding markedSections _>>=_
     no-parts f = then-next _ e ∙ here-next _ (drop third s) third ∙ then-fault _ f
 
     module _ (N a : ℕ) (f : number 1 17 (drop third s) third ≡ gotAt s N a) where
-      pub bad-part : {n p : ℕ} → times N (markedPart (front .channels) (front .count)) (drop a s) a ≡ refused n p → markedSections s 0 ≡ refused n p
+      pub bad-part : {n p : ℕ} → times N (markedPart (front .channels) (front .count)) (drop a s) a ≡ refused n p
+          → markedSections form s 0 ≡ refused n p
       unfolding markedSections _>>=_
       bad-part g = then-next _ e ∙ here-next _ (drop third s) third ∙ then-next _ f ∙ then-fault _ g
 
       module _ (parts : List MarkedPart) (b : ℕ) (g : times N (markedPart (front .channels) (front .count)) (drop a s) a ≡ gotAt s parts b) where
-        sections-last : markedSections s 0
+        sections-last : markedSections form s 0
             ≡ andThen (end (drop b s) b) (λ _. give (record { front = front; partsAt = third; count = N; parts = parts }))
         unfolding markedSections _>>=_ _>>_
         sections-last = then-next _ e ∙ here-next _ (drop third s) third ∙ then-next _ f ∙ then-next _ g
 
-        pub bytes-follow : (t : List ℕ) (x : ℕ) → drop b s ≡ x ∷ t → markedSections s 0 ≡ refused bytesFollow b
+        pub bytes-follow : (t : List ℕ) (x : ℕ) → drop b s ≡ x ∷ t → markedSections form s 0 ≡ refused bytesFollow b
         unfolding end andThen
         bytes-follow t x h = sections-last ∙ ap (λ l. andThen (end l b) (λ _. give (record { front = front; partsAt = third; count = N; parts = parts }))) h
 
-        pub sections-end : drop b s ≡ [] → markedSections s 0 ≡ accepted (record { value = record { front = front; partsAt = third; count = N; parts = parts }; rest = []; at = b })
+        pub sections-end : drop b s ≡ []
+            → markedSections form s 0
+            ≡ accepted (record { value = record { front = front; partsAt = third; count = N; parts = parts }; rest = []; at = b })
         unfolding end andThen give
         sections-end h = sections-last ∙ ap (λ l. andThen (end l b) (λ _. give (record { front = front; partsAt = third; count = N; parts = parts }))) h
 

@@ -1,13 +1,13 @@
 -- What a well-formed deck has, in the form that the layers above use. Assumes nothing.
-use Prim.Native.Nat.{ℕ, _≤_}
+use Prim.Native.Nat.{ℕ, suc, _≤_, _<_}
 use mathlib.Core.Path.{_≡_, refl, _∙_, subst}
 use mathlib.Core.Bool.{Bool, true, false, _&&_}
-use mathlib.Core.List.{[]}
+use mathlib.Core.List.{List, [], _∷_}
 use lib.Dec.{leb, ltb, eqb}
 use lib.ListN.{length}
-use borrow.Author.Tests.{leb-true}
+use borrow.Author.Tests.{leb-true, le-leb, ltb-true, lt-ltb}
 use Rattle.lists.specs.Lists.{lists, all, distinct}
-use Rattle.lists.specs.Laws.Booleans.{and-left, and-right, five}
+use Rattle.lists.specs.Laws.Booleans.{and-both, and-left, and-right, Five, five, from-five}
 use Rattle.lists.specs.Laws.Alls.{all-map, all-weaken, all-getD}
 use Rattle.expression.specs.Reading.{Scope}
 use Rattle.expression.specs.Encoding.{encodeNum, fits, goodNum}
@@ -28,6 +28,66 @@ pub record Formed (d : Deck) : Type 0 where
   pub openings : all (λ p. eqb (length (p .opening)) (R d)) (d .parts) ≡ true
   pub default : (r : ℕ) → Sound (R d) (ruleAt d r .default)
   pub action : (r : ℕ) → Sound (R d) (ruleAt d r .action)
+
+-- ---- the tests of numbers that rise, of a rule, of a part and of a deck, one by one
+
+module _ (lo hi c : ℕ) (l : List ℕ) where
+  pub rising-head : isRising lo hi (c ∷ l) ≡ true → (lo ≤ c) × (c < hi) × (isRising (suc c) hi l ≡ true)
+  unfolding isRising
+  rising-head h =
+      let both = and-left (leb lo c && ltb c hi) (isRising (suc c) hi l) h in (
+        leb-true lo c (and-left (leb lo c) (ltb c hi) both),
+        ltb-true c hi (and-right (leb lo c) (ltb c hi) both),
+        and-right (leb lo c && ltb c hi) (isRising (suc c) hi l) h,
+      )
+
+  pub rising-cons : lo ≤ c → c < hi → isRising (suc c) hi l ≡ true → isRising lo hi (c ∷ l) ≡ true
+  unfolding isRising
+  rising-cons a b h = and-both (and-both (le-leb lo c a) (lt-ltb c hi b)) h
+
+module _ (R : ℕ) (r : Rule) where
+  abbrev pub RuleTests : Type 0
+  RuleTests =
+      Five (inRange 1 8 (length (r .events))) (isRising 0 R (r .events)) (goodAction (ownOnly R) (r .default))
+      (goodCondition (taskScope R (r .everywhere)) (r .condition)) (goodAction (taskScope R (r .everywhere)) (r .action))
+
+  pub rule-tests : goodRule R r ≡ true → RuleTests
+  unfolding goodRule
+  rule-tests h = five _ _ _ _ _ h
+
+  pub from-rule-tests : RuleTests → goodRule R r ≡ true
+  unfolding goodRule
+  from-rule-tests t = from-five _ _ _ _ _ t
+
+module _ (R M : ℕ) (p : Part) where
+  abbrev pub PartTests : Type 0
+  PartTests =
+      Five (eqb (length (p .opening)) R) (all fits (p .opening)) (leb (length (p .carried)) M) (isRising 0 M (p .carried))
+      (goodCondition (ownOnly R) (p .limit))
+
+  pub part-tests : goodPart R M p ≡ true → PartTests
+  unfolding goodPart
+  part-tests h = five _ _ _ _ _ h
+
+  pub from-part-tests : PartTests → goodPart R M p ≡ true
+  unfolding goodPart
+  from-part-tests t = from-five _ _ _ _ _ t
+
+module _ (d : Deck) where
+  abbrev pub DeckTests : Type 0
+  DeckTests =
+      Five (inRange 1 32 (R d) && all (inRange 33 126) (d .labels)) (leb (M d) 64) (all (goodRule (R d)) (d .rules))
+      (inRange 1 16 (N d)) (all (goodPart (R d) (M d)) (d .parts))
+
+  pub deck-tests : wellFormed d ≡ true → DeckTests
+  unfolding wellFormed
+  deck-tests h = five _ _ _ _ _ h
+
+  pub from-deck-tests : DeckTests → wellFormed d ≡ true
+  unfolding wellFormed
+  from-deck-tests t = from-five _ _ _ _ _ t
+
+-- ---- what they say
 
 module _ (sc : Scope) where
   target-known : (s : Assignment) → goodAssignment sc s ≡ true → ltb (s .target) (sc .owns) ≡ true
@@ -51,7 +111,7 @@ module _ (sc : Scope) where
       }
 
   -- the action of a rule that the deck does not have
-  empty-good : goodAction sc [] ≡ true
+  pub empty-good : goodAction sc [] ≡ true
   unfolding encodings lists decks
   empty-good = refl
 
@@ -63,11 +123,7 @@ module _ (R : ℕ) where
   goodTask r = goodAction (taskScope R (r .everywhere)) (r .action)
 
   both-good : (r : Rule) → goodRule R r ≡ true → (goodDefault r ≡ true) × (goodTask r ≡ true)
-  unfolding goodRule
-  both-good r h =
-      let tests = five (inRange 1 8 (length (r .events))) (isRising 0 R (r .events)) (goodDefault r)
-      (goodCondition (taskScope R (r .everywhere)) (r .condition)) (goodTask r) h in
-      (tests .2, tests .4)
+  both-good r h = let tests = rule-tests R r h in (tests .2, tests .4)
 
 -- either scope knows the R own channels
 pub owns-task : (R : ℕ) (everywhere : Bool) → taskScope R everywhere .owns ≡ R
@@ -76,18 +132,14 @@ owns-task R true = refl
 owns-task R false = refl
 
 opening-long : (R M : ℕ) (p : Part) → goodPart R M p ≡ true → eqb (length (p .opening)) R ≡ true
-unfolding goodPart
-opening-long R M p h =
-    five (eqb (length (p .opening)) R) (all fits (p .opening)) (leb (length (p .carried)) M) (isRising 0 M (p .carried))
-    (goodCondition (ownOnly R) (p .limit)) h .0
+opening-long R M p h = part-tests R M p h .0
 
 pub formed : (d : Deck) → wellFormed d ≡ true → Formed d
-unfolding wellFormed inRange ruleAt layouts
+unfolding inRange ruleAt layouts
 formed d h =
     let channels : Bool = inRange 1 32 (R d) in
     let labels : Bool = all (inRange 33 126) (d .labels) in
-    let tests = five (channels && labels) (leb (M d) 64) (all (goodRule (R d)) (d .rules)) (inRange 1 16 (N d))
-    (all (goodPart (R d) (M d)) (d .parts)) h in
+    let tests = deck-tests d h in
     record {
       channels = leb-true (R d) 32 (and-right (leb 1 (R d)) (leb (R d) 32) (and-left channels labels (tests .0)));
       rules = leb-true (M d) 64 (tests .1);

@@ -4,8 +4,9 @@ use mathlib.Core.Path.{_≡_, refl, _∙_, ap}
 use mathlib.Core.List.{List, map}
 use lib.Dec.{eqb}
 use Rattle.refusals.specs.Outcome.{Outcome, refused, accepted}
+use Rattle.deck.specs.declared.Form.{Form}
 use Rattle.deck.specs.Reader.{Got, Reader, andThen, number, times, rising, value, end, readers}
-use Rattle.deck.specs.Layout.{truths, expression, ownOnly, taskScope, action, rule, part, sections, valueOf, read}
+use Rattle.deck.specs.Layout.{truths, expression, ownOnly, taskScope, action, rule, part, sections, valueOf, read, defaultAction}
 use Rattle.deck.specs.Marks.{markedTask, markedRule, ruleOf, markedPart, markedFront, markedSections, unmarked}
 
 -- ---- forgetting the offsets
@@ -29,14 +30,14 @@ unfolding andThen
 step-inside h (refused n p) f g k e = refl
 step-inside h (accepted x) f g k e = e (x .value) (x .rest) (x .at)
 
-rule-marked : (R : ℕ) (s : List ℕ) (at : ℕ) → rule R s at ≡ mapGot ruleOf (markedRule R s at)
+rule-marked : (f : Form) (R : ℕ) (s : List ℕ) (at : ℕ) → rule f R s at ≡ mapGot ruleOf (markedRule f R s at)
 unfolding rule markedRule markedTask ruleOf readers
-rule-marked R s at =
+rule-marked f R s at =
     step ruleOf (number 1 9 s at) _ _
     (λ n s at.
     step ruleOf (rising n 0 R s at) _ _
     (λ events s at.
-    step ruleOf (action (ownOnly R) s at) _ _
+    step ruleOf (defaultAction f R s at) _ _
     (λ default s at.
     step-inside ruleOf (number 0 2 s at) _ _ _
     (λ kind s at.
@@ -74,17 +75,17 @@ times-marked h r q e (suc n) s at =
     both-steps h (map h) (r s at) (q s at) _ _ (e s at)
     (λ b s at. both-steps (map h) (map h) (times n r s at) (times n q s at) _ _ (times-marked h r q e n s at) (λ bs s at. refl))
 
-pub sections-marked : (s : List ℕ) (at : ℕ) → sections s at ≡ mapGot unmarked (markedSections s at)
+pub sections-marked : (f : Form) (s : List ℕ) (at : ℕ) → sections f s at ≡ mapGot unmarked (markedSections f s at)
 unfolding sections markedFront markedSections unmarked readers
-sections-marked s at =
+sections-marked f s at =
     step-inside unmarked (number 1 33 s at) _ _ _
     (λ R s at.
     step-inside unmarked (times R (number 33 127) s at) _ _ _
     (λ labels s at.
     step-inside unmarked (number 0 65 s at) _ _ _
     (λ M s at.
-    both-inside (map ruleOf) unmarked (times M (rule R) s at) (times M (markedRule R) s at) _ _ _
-    (times-marked ruleOf (rule R) (markedRule R) (rule-marked R) M s at)
+    both-inside (map ruleOf) unmarked (times M (rule f R) s at) (times M (markedRule f R) s at) _ _ _
+    (times-marked ruleOf (rule f R) (markedRule f R) (rule-marked f R) M s at)
     (λ rules s at.
     step unmarked (number 1 17 s at) _ _
     (λ N s at.
@@ -92,6 +93,6 @@ sections-marked s at =
     (times-marked (λ p. p .part) (part R M) (markedPart R M) (part-marked R M) N s at)
     (λ parts s at. step unmarked (end s at) _ _ (λ _ s at. refl)))))))
 
-pub read-marked : (s : List ℕ) → read s ≡ valueOf (mapGot unmarked (markedSections s 0))
+pub read-marked : (f : Form) (s : List ℕ) → read f s ≡ valueOf (mapGot unmarked (markedSections f s 0))
 unfolding read
-read-marked s = ap valueOf (sections-marked s 0)
+read-marked f s = ap valueOf (sections-marked f s 0)

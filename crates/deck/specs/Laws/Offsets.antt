@@ -52,7 +52,7 @@ module _ {b : Bool} (n p : ℕ) (s : List ℕ) (at : ℕ) where
   unfolding readers
   require-passes e = ap (λ b. require b n p s at) e
 
-  require-fails : b ≡ false → require b n p s at ≡ refused n p
+  pub require-fails : b ≡ false → require b n p s at ≡ refused n p
   unfolding readers
   require-fails e = ap (λ b. require b n p s at) e
 

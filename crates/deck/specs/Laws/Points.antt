@@ -10,10 +10,15 @@ use native.Mathlib.Numerals.{add-one}
 use Rattle.lists.specs.Lists.{member}
 use Rattle.refusals.specs.Outcome.{Outcome, refused, accepted}
 use Rattle.refusals.specs.Laws.Outcomes.{refused≢accepted, accepted-inj}
+use Rattle.refusals.specs.Numbers.{defaultRetired}
 use Rattle.expression.specs.Reading.{Read, nothing, Scope}
 use Rattle.expression.specs.Faults.{Found, sound}
-use Rattle.deck.specs.Reader.{Got, Reader, _>>=_, _>>_, andThen, give, fault, here, require, byte, number, times, rising, value}
-use Rattle.deck.specs.Layout.{Expected, numbers, truths, judged, expression, ownOnly, taskScope, assignments, action}
+use Rattle.deck.specs.declared.Form.{Form}
+use Rattle.deck.specs.Reader.{Got, Reader, _>>=_, _>>_, andThen, give, fault, here, require}
+use Rattle.deck.specs.Reader.{byte, number, times, rising, value, readers}
+use Rattle.deck.specs.Deck.{Action}
+use Rattle.deck.specs.Layout.{Expected, numbers, truths, judged, expression, ownOnly, taskScope}
+use Rattle.deck.specs.Layout.{assignments, action, allows, defaultAction}
 use Rattle.deck.specs.Marks.{MarkedTask, markedTask, MarkedRule, markedRule, MarkedPart, markedPart}
 use Rattle.deck.specs.Laws.Judging.{judged-cases}
 
@@ -22,7 +27,7 @@ abbrev pub Tracks : {A : Type 0} → Reader A → Type 0
 Tracks {A} r = (s : List ℕ) (at : ℕ) (g : Got A) → r (drop at s) at ≡ accepted g → g .rest ≡ drop (g .at) s
 
 -- what was read first, and what came after it
-then-inv : {A B : Type 0} (o : Outcome (Got A)) (f : A → Reader B) (g : Got B) → andThen o f ≡ accepted g
+pub then-inv : {A B : Type 0} (o : Outcome (Got A)) (f : A → Reader B) (g : Got B) → andThen o f ≡ accepted g
     → (x : Got A) × (o ≡ accepted x) × (f (x .value) (x .rest) (x .at) ≡ accepted g)
 unfolding andThen
 then-inv (refused n p) f g e = refused≢accepted e
@@ -169,17 +174,42 @@ task-tracks R =
     then-tracks (expression (truths (taskScope R (eqb kind 1)))) _ (expression-tracks (truths (taskScope R (eqb kind 1))))
     (λ c. then-tracks here _ here-tracks (λ b. then-tracks (action (taskScope R (eqb kind 1))) _ (action-tracks (taskScope R (eqb kind 1))) (λ act. give-tracks _)))))
 
-pub rule-points : (R : ℕ) (s : List ℕ) (at : ℕ) (g : Got MarkedRule) → markedRule R (drop at s) at ≡ accepted g → RulePoints R s (g .value)
+-- reading goes on where a test passed
+pub require-then : {B : Type 0} (b : Bool) (n p : ℕ) (f : Reader B) (s : List ℕ) (at : ℕ) (g : Got B)
+    → andThen (require b n p s at) (λ _. f) ≡ accepted g
+    → f s at ≡ accepted g
+unfolding readers
+require-then true n p f s at g e = e
+require-then false n p f s at g e = refused≢accepted e
+
+-- a default action that was read is an action, in both forms
+pub default-action : (f : Form) (R : ℕ) (s : List ℕ) (at : ℕ) (g : Got Action) → defaultAction f R s at ≡ accepted g
+    → action (ownOnly R) s at ≡ accepted g
+unfolding defaultAction action readers
+default-action f R s at g e = go (number 0 5 s at) e
+  where
+    go : (o : Outcome (Got ℕ)) → andThen o (λ n. require (allows f n) defaultRetired at >> assignments (ownOnly R) n []) ≡ accepted g
+        → andThen o (λ n. assignments (ownOnly R) n []) ≡ accepted g
+    go (refused n p) e = e
+    go (accepted x) e = require-then (allows f (x .value)) defaultRetired at (assignments (ownOnly R) (x .value) []) (x .rest) (x .at) g e
+
+pub default-tracks : (f : Form) (R : ℕ) → Tracks (defaultAction f R)
+default-tracks f R s at g e = action-tracks (ownOnly R) s at g (default-action f R (drop at s) at g e)
+
+pub rule-points : (f : Form) (R : ℕ) (s : List ℕ) (at : ℕ) (g : Got MarkedRule) → markedRule f R (drop at s) at ≡ accepted g
+    → RulePoints R s (g .value)
 unfolding markedRule _>>=_
-rule-points R s at g e =
+rule-points f R s at g e =
     let i1 = then-at (number 1 9) _ (number-tracks 1 9) s at g e in
     let i2 = then-at (rising (i1 .0 .value) 0 R) _ (rising-tracks (i1 .0 .value) 0 R) s (i1 .0 .at) g (i1 .2) in
     let h3 = here-at _ (drop (i2 .0 .at) s) (i2 .0 .at) g (i2 .2) in
-    let i3 = then-at (action (ownOnly R)) _ (action-tracks (ownOnly R)) s (i2 .0 .at) g h3 in
+    let i3 = then-at (defaultAction f R) _ (default-tracks f R) s (i2 .0 .at) g h3 in
     let i4 = then-at (markedTask R) _ (task-tracks R) s (i3 .0 .at) g (i3 .2) in
     subst (RulePoints R s) (given _ (drop (i4 .0 .at) s) (i4 .0 .at) g (i4 .2))
     (record {
-      default = reads-at (action (ownOnly R)) (action-tracks (ownOnly R)) s (i2 .0 .at) (i3 .0) (i3 .1);
+      default =
+          reads-at (action (ownOnly R)) (action-tracks (ownOnly R)) s (i2 .0 .at) (i3 .0)
+          (default-action f R (drop (i2 .0 .at) s) (i2 .0 .at) (i3 .0) (i3 .1));
       task = task-points R s (i3 .0 .at) (i4 .0) (i4 .1);
     })
 

@@ -8,10 +8,11 @@ use native.Mathlib.Nat.{zero-add}
 use lib.ListN.{length}
 use Rattle.refusals.specs.Outcome.{Outcome, accepted}
 use Rattle.expression.specs.Laws.Bytes.{Bytes}
+use Rattle.deck.specs.declared.Form.{Form}
 use Rattle.deck.specs.Deck.{Deck}
 use Rattle.deck.specs.Reader.{Got}
 use Rattle.deck.specs.Layout.{Layout, sections, valueOf, read}
-use Rattle.deck.specs.Encoding.{encodeChannels, encodeRules, encode, wellFormed}
+use Rattle.deck.specs.Encoding.{encodeChannels, encodeRules, encode, wellFormed, suits}
 use Rattle.deck.specs.Laws.Exact.{Accepts, accepting, refusing, accepts, accepts-map}
 use Rattle.deck.specs.Laws.Sections.{LayoutWord, sections-exact}
 
@@ -22,26 +23,29 @@ value-accepts refusing = refusing
 
 -- ---- what was read
 
-read-layout : (bytes : List ℕ) → Bytes bytes → Accepts (λ l. LayoutWord 0 l bytes) (read bytes)
+read-layout : (f : Form) (bytes : List ℕ) → Bytes bytes → Accepts (λ l. LayoutWord f 0 l bytes) (read f bytes)
 unfolding read
-read-layout bytes b =
+read-layout f bytes b =
     value-accepts
     (accepts-map
     (λ g p.
     let whole : bytes ≡ p .word = p .bytes ∙ ap (λ r. p .word ++ r) (p .ends) ∙ append-nil (p .word) in
-    subst (λ w. LayoutWord 0 (g .value) w) (sym whole) (p .relates))
-    (sections-exact .sound bytes 0 b))
+    subst (λ w. LayoutWord f 0 (g .value) w) (sym whole) (p .relates))
+    (sections-exact f .sound bytes 0 b))
 
-module _ (bytes : List ℕ) (b : Bytes bytes) (l : Layout) (e : read bytes ≡ accepted l) where
+module _ (f : Form) (bytes : List ℕ) (b : Bytes bytes) (l : Layout) (e : read f bytes ≡ accepted l) where
   pub read-formed : wellFormed (l .deck) ≡ true
-  read-formed = accepts (read-layout bytes b) e .formed
+  read-formed = accepts (read-layout f bytes b) e .formed
+
+  pub read-suited : suits f (l .deck) ≡ true
+  read-suited = accepts (read-layout f bytes b) e .suited
 
   pub read-encoded : bytes ≡ encode (l .deck)
-  read-encoded = accepts (read-layout bytes b) e .bytes
+  read-encoded = accepts (read-layout f bytes b) e .bytes
 
   pub sections-exactly : (l .rulesAt ≡ length (encodeChannels (l .deck))) × (l .partsAt ≡ length (encodeChannels (l .deck)) + length (encodeRules (l .deck)))
   sections-exactly =
-      let w = accepts (read-layout bytes b) e in
+      let w = accepts (read-layout f bytes b) e in
       (w .rules ∙ zero-add _, w .parts ∙ ap (λ n. n + length (encodeRules (l .deck))) (zero-add _))
 
 -- ---- what is read
@@ -50,29 +54,32 @@ module _ (bytes : List ℕ) (b : Bytes bytes) (l : Layout) (e : read bytes ≡ a
 abbrev pub layoutOf : Deck → Layout
 layoutOf d = record { deck = d; rulesAt = length (encodeChannels d); partsAt = length (encodeChannels d) + length (encodeRules d) }
 
-pub sections-encode : (d : Deck) → wellFormed d ≡ true
-    → sections (encode d) 0 ≡ accepted (record { value = layoutOf d; rest = []; at = 0 + length (encode d) })
-sections-encode d h =
-    let p : LayoutWord 0 (layoutOf d) (encode d) = record { formed = h; bytes = refl; rules = sym (zero-add _); parts = ap (λ n. n + length (encodeRules d)) (sym (zero-add _)) } in
-    ap (λ s. sections s 0) (sym (append-nil (encode d))) ∙ sections-exact .complete 0 (layoutOf d) (encode d) [] p refl
+pub sections-encode : (f : Form) (d : Deck) → wellFormed d ≡ true → suits f d ≡ true
+    → sections f (encode d) 0 ≡ accepted (record { value = layoutOf d; rest = []; at = 0 + length (encode d) })
+sections-encode f d h k =
+    let parts = ap (λ n. n + length (encodeRules d)) (sym (zero-add _)) in
+    let p : LayoutWord f 0 (layoutOf d) (encode d)
+    = record { formed = h; suited = k; bytes = refl; rules = sym (zero-add _); parts = parts } in
+    ap (λ s. sections f s 0) (sym (append-nil (encode d))) ∙ sections-exact f .complete 0 (layoutOf d) (encode d) [] p refl
 
-pub read-encode : (d : Deck) → wellFormed d ≡ true → read (encode d) ≡ accepted (layoutOf d)
+pub read-encode : (f : Form) (d : Deck) → wellFormed d ≡ true → suits f d ≡ true → read f (encode d) ≡ accepted (layoutOf d)
 unfolding read valueOf
-read-encode d h = ap valueOf (sections-encode d h)
+read-encode f d h k = ap valueOf (sections-encode f d h k)
 
 -- ---- both
 
 -- the bytes are accepted with this deck
-abbrev pub AcceptedAs : List ℕ → Deck → Type 0
-AcceptedAs bytes d = (l : Layout) × (read bytes ≡ accepted l) × (l .deck ≡ d)
+abbrev pub AcceptedAs : Form → List ℕ → Deck → Type 0
+AcceptedAs f bytes d = (l : Layout) × (read f bytes ≡ accepted l) × (l .deck ≡ d)
 
-pub record ReadsExactly (bytes : List ℕ) (d : Deck) : Type 0 where
-  pub reads : AcceptedAs bytes d → (wellFormed d ≡ true) × (bytes ≡ encode d)
-  pub accepts : (wellFormed d ≡ true) × (bytes ≡ encode d) → AcceptedAs bytes d
+pub record ReadsExactly (f : Form) (bytes : List ℕ) (d : Deck) : Type 0 where
+  pub reads : AcceptedAs f bytes d → (wellFormed d ≡ true) × (bytes ≡ encode d) × (suits f d ≡ true)
+  pub accepts : (wellFormed d ≡ true) × (bytes ≡ encode d) × (suits f d ≡ true) → AcceptedAs f bytes d
 
-pub reads-exactly : (bytes : List ℕ) → Bytes bytes → (d : Deck) → ReadsExactly bytes d
-reads-exactly bytes b d =
+pub reads-exactly : (f : Form) (bytes : List ℕ) → Bytes bytes → (d : Deck) → ReadsExactly f bytes d
+reads-exactly f bytes b d =
     record {
-      reads = λ p. rw (← p .2) (read-formed bytes b (p .0) (p .1), read-encoded bytes b (p .0) (p .1));
-      accepts = λ p. (layoutOf d, ap read (p .1) ∙ read-encode d (p .0), refl);
+      reads = λ (l, e, same).
+          rw (← same) (read-formed f bytes b l e, read-encoded f bytes b l e, read-suited f bytes b l e);
+      accepts = λ p. (layoutOf d, ap (read f) (p .1) ∙ read-encode f d (p .0) (p .2), refl);
     }

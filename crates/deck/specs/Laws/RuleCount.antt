@@ -11,6 +11,7 @@ use borrow.Author.Tests.{ltb-true, ltb-false}
 use Rattle.lists.specs.Laws.Booleans.{true-or-false}
 use Rattle.refusals.specs.Outcome.{accepted}
 use Rattle.refusals.specs.Laws.Outcomes.{refused≢accepted, accepted-inj}
+use Rattle.deck.specs.declared.Form.{Form}
 use Rattle.deck.specs.Reader.{Got, _>>=_, _>>_, give, end, number, times}
 use Rattle.deck.specs.Marks.{rulesAt, markedRule, MarkedFront, markedFront, markedPart, Marked, markedSections}
 use Rattle.deck.specs.Laws.Points.{then-at, here-at, given, number-tracks, times-tracks}
@@ -64,25 +65,25 @@ count-read s r e l f m g =
     let place : l .at ≡ 1 + getD s 0 0 = omega (arith, channels .value, channels .next, labels) in
     (omega (arith, place, rules .inside), rules .value ∙ ap (λ k. getD s k 0) place)
 
-front-count : (s : List ℕ) (g : Got MarkedFront) → markedFront s 0 ≡ accepted g
+front-count : (f : Form) (s : List ℕ) (g : Got MarkedFront) → markedFront f s 0 ≡ accepted g
     → (1 + getD s 0 0 < length s) × (g .value .count ≡ rulesAt s)
 unfolding markedFront _>>=_
-front-count s g e =
+front-count f s g e =
     let i1 = then-at (number 1 33) _ (number-tracks 1 33) s 0 g e in
     let R = i1 .0 .value in
     let i2 = then-at (times R (number 33 127)) _ (times-tracks (number 33 127) (number-tracks 33 127) R) s (i1 .0 .at) g (i1 .2) in
     let h = here-at _ (drop (i2 .0 .at) s) (i2 .0 .at) g (i2 .2) in
     let i3 = then-at (number 0 65) _ (number-tracks 0 65) s (i2 .0 .at) g h in
     let M = i3 .0 .value in
-    let i4 = then-at (times M (markedRule R)) _ (times-tracks (markedRule R) (rule-tracks R) M) s (i3 .0 .at) g (i3 .2) in
+    let i4 = then-at (times M (markedRule f R)) _ (times-tracks (markedRule f R) (rule-tracks f R) M) s (i3 .0 .at) g (i3 .2) in
     let c = count-read s (i1 .0) (i1 .1) (i2 .0) (i2 .1) (i3 .0) (i3 .1) in
     (c .0, ap (λ m. m .count) (sym (given _ (drop (i4 .0 .at) s) (i4 .0 .at) g (i4 .2))) ∙ c .1)
 
-pub rule-count : (s : List ℕ) (g : Got Marked) → markedSections s 0 ≡ accepted g
+pub rule-count : (f : Form) (s : List ℕ) (g : Got Marked) → markedSections f s 0 ≡ accepted g
     → (1 + getD s 0 0 < length s) × (g .value .front .count ≡ rulesAt s)
 unfolding markedSections _>>=_ _>>_
-rule-count s g e =
-    let i1 = then-at markedFront _ front-tracks s 0 g e in
+rule-count f s g e =
+    let i1 = then-at (markedFront f) _ (front-tracks f) s 0 g e in
     let front = i1 .0 .value in
     let h = here-at _ (drop (i1 .0 .at) s) (i1 .0 .at) g (i1 .2) in
     let i2 = then-at (number 1 17) _ (number-tracks 1 17) s (i1 .0 .at) g h in
@@ -90,5 +91,5 @@ rule-count s g e =
     let part = markedPart (front .channels) (front .count) in
     let i3 = then-at (times N part) _ (times-tracks part (part-tracks (front .channels) (front .count)) N) s (i2 .0 .at) g (i2 .2) in
     let i4 = then-at end _ end-tracks s (i3 .0 .at) g (i3 .2) in
-    let f = front-count s (i1 .0) (i1 .1) in
+    let f = front-count f s (i1 .0) (i1 .1) in
     (f .0, ap (λ m. m .front .count) (sym (given _ (drop (i4 .0 .at) s) (i4 .0 .at) g (i4 .2))) ∙ f .1)

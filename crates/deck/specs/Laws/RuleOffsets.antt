@@ -11,9 +11,10 @@ use Rattle.lists.specs.Bits.{maskOf}
 use Rattle.refusals.specs.Outcome.{refused, accepted}
 use Rattle.expression.specs.Syntax.{Truth}
 use Rattle.expression.specs.Reading.{Scope}
+use Rattle.deck.specs.declared.Form.{Form}
 use Rattle.deck.specs.Deck.{Action, targets}
 use Rattle.deck.specs.Reader.{number, rising, readers}
-use Rattle.deck.specs.Layout.{truths, expression, ownOnly, ownAndFar, taskScope, action}
+use Rattle.deck.specs.Layout.{truths, expression, ownOnly, ownAndFar, taskScope, action, defaultAction}
 use Rattle.deck.specs.Encoding.{kindByte}
 use Rattle.deck.specs.Marks.{Reads, scopeOf, expressionFor, MarkedTask, markedTask, MarkedRule, markedRule, ruleRow}
 use Rattle.deck.specs.declared.Step.{Step}
@@ -76,29 +77,30 @@ module _ (R : ℕ) (s : List ℕ) (at kind from : ℕ) (e : number 0 2 (drop at 
 
 -- ---- a rule
 
-pub rule-fault : (R : ℕ) (s : List ℕ) (at : ℕ) {n p : ℕ} → number 1 9 s at ≡ refused n p → markedRule R s at ≡ refused n p
+pub rule-fault : (form : Form) (R : ℕ) (s : List ℕ) (at : ℕ) {n p : ℕ} → number 1 9 s at ≡ refused n p
+    → markedRule form R s at ≡ refused n p
 unfolding markedRule readers
-rule-fault R s at e = then-fault _ e
+rule-fault form R s at e = then-fault _ e
 
 -- the count was read, and the events stand at `from`
-module _ (R : ℕ) (s : List ℕ) (at count from : ℕ) (e : number 1 9 (drop at s) at ≡ accepted (gotTo s count from)) where
-  pub events-fault : {n p : ℕ} → rising count 0 R (drop from s) from ≡ refused n p → markedRule R (drop at s) at ≡ refused n p
+module _ (form : Form) (R : ℕ) (s : List ℕ) (at count from : ℕ) (e : number 1 9 (drop at s) at ≡ accepted (gotTo s count from)) where
+  pub events-fault : {n p : ℕ} → rising count 0 R (drop from s) from ≡ refused n p → markedRule form R (drop at s) at ≡ refused n p
   unfolding markedRule readers
   events-fault f = then-next _ e ∙ then-fault _ f
 
   -- the events were read, and the default action stands at `to`
   module _ (events : List ℕ) (to : ℕ) (f : rising count 0 R (drop from s) from ≡ accepted (gotTo s events to)) where
-    pub default-fault : {n p : ℕ} → action (scopeOf R 0) (drop to s) to ≡ refused n p → markedRule R (drop at s) at ≡ refused n p
-    unfolding markedRule scopeOf ownOnly readers
+    pub default-fault : {n p : ℕ} → defaultAction form R (drop to s) to ≡ refused n p → markedRule form R (drop at s) at ≡ refused n p
+    unfolding markedRule readers
     default-fault g = then-next _ e ∙ then-next _ f ∙ then-fault _ g
 
     -- the row that the code makes, with the sets of the events and of the default action's targets
     pub rule-reads : (default : Action) (next es ds kind condition act mask : ℕ) (step : Step)
         → es ≡ maskOf events → ds ≡ maskOf (targets default)
-        → action (scopeOf R 0) (drop to s) to ≡ accepted (gotTo s default next)
+        → defaultAction form R (drop to s) to ≡ accepted (gotTo s default next)
         → Reads s (markedTask R (drop next s) next) (KeepsTask kind condition act mask) step
-        → Reads s (markedRule R (drop at s) at) (λ m. (es ∷ ds ∷ mask ∷ kind ∷ to ∷ condition ∷ act ∷ 0 ∷ []) ≡ ruleRow m) step
-    unfolding markedRule scopeOf ownOnly ruleRow readers
+        → Reads s (markedRule form R (drop at s) at) (λ m. (es ∷ ds ∷ mask ∷ kind ∷ to ∷ condition ∷ act ∷ 0 ∷ []) ≡ ruleRow m) step
+    unfolding markedRule ruleRow readers
     rule-reads default next es ds kind condition act mask step x y g r =
         let Row : MarkedRule → Type 0 = λ m. (es ∷ ds ∷ mask ∷ kind ∷ to ∷ condition ∷ act ∷ 0 ∷ []) ≡ ruleRow m in
         subst (λ o. Reads s o Row step) (sym (then-next _ e ∙ then-next _ f ∙ then-next _ g))

@@ -1,7 +1,7 @@
 -- The readers of a rule and of a part are exact. Assumes nothing.
 use Prim.Native.Nat.{ℕ, zero, suc, _<_}
 use mathlib.Core.Path.{_≡_, refl, sym, _∙_}
-use mathlib.Core.Bool.{Bool, true, false}
+use mathlib.Core.Bool.{Bool, true, false, _&&_}
 use mathlib.Core.List.{[], _∷_, _++_, append-nil, append-assoc}
 use native.Mathlib.Omega.{arith}
 use lib.Dec.{leb, ltb, eqb}
@@ -11,15 +11,17 @@ use Rattle.lists.specs.Lists.{all, flatMap}
 use Rattle.lists.specs.Laws.Booleans.{and-both, and-left, and-right, five, from-five}
 use Rattle.expression.specs.Encoding.{encodeValue, encodeTruth, fits, goodTruth}
 use Rattle.expression.specs.Laws.Whole.{whole-truth}
+use Rattle.deck.specs.declared.Form.{Form}
 use Rattle.deck.specs.Limits.{limits}
 use Rattle.deck.specs.Deck.{Rule, Part}
 use Rattle.deck.specs.Reader.{readers}
 use Rattle.deck.specs.Layout.{truths, ownOnly, taskScope, rule, part, layouts}
-use Rattle.deck.specs.Encoding.{encodeExpression, encodeAction, kindByte, encodeRule, encodePart, inRange, isRising, goodAction, goodCondition, goodRule, goodPart}
+use Rattle.deck.specs.Encoding.{encodeExpression, encodeAction, kindByte, encodeRule, encodePart}
+use Rattle.deck.specs.Encoding.{inRange, isRising, goodAction, goodCondition, goodRule, goodPart, suitsRule}
 use Rattle.deck.specs.Laws.Exact.{Exact, Any, Coded, exact-by, give-exact, then-exact}
 use Rattle.deck.specs.Laws.Readers.{number-exact, times-exact, rising-exact, value-exact}
 use Rattle.deck.specs.Laws.Expressions.{range, below-range, zero-range, expression-exact}
-use Rattle.deck.specs.Laws.Actions.{action-exact}
+use Rattle.deck.specs.Laws.Actions.{action-exact, default-exact}
 
 -- ---- the encodings, one thing after the other
 
@@ -35,7 +37,7 @@ encode-rule r =
     append-assoc ((length (r .events) ∷ r .events) ++ encodeAction (r .default)) k (encodeAction (r .action))
     ∙ append-assoc (length (r .events) ∷ r .events) (encodeAction (r .default)) (k ++ encodeAction (r .action))
 
-encode-part : (p : Part)
+pub encode-part : (p : Part)
     → encodePart p ≡ flatMap encodeValue (p .opening) ++ (length (p .carried) ∷ (p .carried ++ encodeExpression (encodeTruth (p .limit))))
 unfolding encodePart
 encode-part p = append-assoc (flatMap encodeValue (p .opening)) (length (p .carried) ∷ p .carried) (encodeExpression (encodeTruth (p .limit)))
@@ -56,13 +58,13 @@ kind-below false = refl
 
 -- ---- the readers
 
-pub rule-exact : (R : ℕ) → Exact Any (rule R) (Coded encodeRule (λ r. goodRule R r ≡ true))
-unfolding layouts readers goodRule goodCondition
-rule-exact R =
+pub rule-exact : (f : Form) (R : ℕ) → Exact Any (rule f R) (Coded encodeRule (λ r. (goodRule R r && suitsRule f r) ≡ true))
+unfolding layouts readers goodRule goodCondition suitsRule
+rule-exact f R =
     exact-by
     (then-exact (number-exact 1 (suc (limits .events))) λ n.
     then-exact (rising-exact n 0 R) λ events.
-    then-exact (action-exact (ownOnly R)) λ default.
+    then-exact (default-exact f R) λ default.
     then-exact (number-exact 0 2) λ kind.
     then-exact (expression-exact (truths (taskScope R (eqb kind 1))) (whole-truth (taskScope R (eqb kind 1)))) λ condition.
     then-exact (action-exact (taskScope R (eqb kind 1))) λ act.
@@ -75,16 +77,23 @@ rule-exact R =
     let act = condition .4 in
     let scope = taskScope R (eqb (kind .0) 1) in
     let is : kindByte (eqb (kind .0) 1) ≡ kind .0 = kind-byte (kind .0) (ltb-true (kind .0) 2 (sym (below-range 2 (kind .0)) ∙ kind .3)) in
+    let few : inRange 1 (limits .events) (length (events .0)) ≡ true
+    = rw (events .3 .0) (sym (range 1 (limits .events) (p .0)) ∙ p .3) in
+    let sound = goodAction (ownOnly R) (default .0) in
     rw (act .4 .0) (
-      from-five (inRange 1 (limits .events) (length (events .0))) (isRising 0 R (events .0)) (goodAction (ownOnly R) (default .0)) (goodCondition scope (condition .0)) (goodAction scope (act .0))
-          (rw (events .3 .0) (sym (range 1 (limits .events) (p .0)) ∙ p .3), events .3 .1, default .3, and-both (condition .3 .0) (condition .3 .1), act .3),
+      and-both
+          (from-five (inRange 1 (limits .events) (length (events .0))) (isRising 0 R (events .0)) sound
+          (goodCondition scope (condition .0)) (goodAction scope (act .0))
+          (few, events .3 .1, and-left sound _ (default .3), and-both (condition .3 .0) (condition .3 .1), act .3))
+          (and-right sound _ (default .3)),
       rw (encode-rule (record { events = events .0; default = default .0; everywhere = eqb (kind .0) 1; condition = condition .0; action = act .0 }), is, events .3 .0)
           (rw (p .2, events .2, default .2, kind .2, condition .2, act .2, act .4 .1, append-nil (encodeAction (act .0)))),
     ))
     (λ at r w q.
     let scope = taskScope R (r .everywhere) in
     let few = inRange 1 (limits .events) (length (r .events)) in
-    let good = five few (isRising 0 R (r .events)) (goodAction (ownOnly R) (r .default)) (goodCondition scope (r .condition)) (goodAction scope (r .action)) (q .0) in
+    let good = five few (isRising 0 R (r .events)) (goodAction (ownOnly R) (r .default)) (goodCondition scope (r .condition))
+    (goodAction scope (r .action)) (and-left (goodRule R r) _ (q .0)) in
     let act = encodeAction (r .action) in
     let condition = encodeExpression (encodeTruth (r .condition)) ++ act in
     let kind = kindByte (r .everywhere) ∷ condition in
@@ -102,7 +111,7 @@ rule-exact R =
           r .default,
           kind,
           refl,
-          good .2,
+          and-both (good .2) (and-right (goodRule R r) _ (q .0)),
           (
             kindByte (r .everywhere),
             condition,

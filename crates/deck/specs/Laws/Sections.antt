@@ -6,13 +6,16 @@ use mathlib.Core.List.{List, [], _∷_, _++_, append-nil, append-assoc}
 use native.Mathlib.Omega.{arith}
 use lib.Dec.{leb}
 use lib.ListN.{length}
-use Rattle.lists.specs.Lists.{all, flatMap}
+use Rattle.lists.specs.Lists.{all, flatMap, lists}
 use Rattle.lists.specs.Laws.Booleans.{and-both, and-left, and-right, five, from-five}
+use Rattle.lists.specs.Laws.Alls.{all-weaken}
+use Rattle.deck.specs.declared.Form.{Form}
 use Rattle.deck.specs.Limits.{limits}
 use Rattle.deck.specs.Deck.{Deck, decks}
 use Rattle.deck.specs.Reader.{number, times, readers}
 use Rattle.deck.specs.Layout.{Layout, sections, layouts}
-use Rattle.deck.specs.Encoding.{encodeRule, encodePart, encodeChannels, encodeRules, encodeParts, encode, inRange, goodRule, goodPart, wellFormed}
+use Rattle.deck.specs.Encoding.{encodeRule, encodePart, encodeChannels, encodeRules, encodeParts, encode}
+use Rattle.deck.specs.Encoding.{inRange, goodRule, goodPart, wellFormed, suitsRule, suits}
 use Rattle.deck.specs.Laws.Exact.{Exact, Any, Nothing, Coded, exact-by, here-exact, end-exact, then-exact}
 use Rattle.deck.specs.Laws.Readers.{number-exact, times-exact, bytes-coded}
 use Rattle.deck.specs.Laws.Expressions.{range, zero-range}
@@ -33,22 +36,30 @@ labels-exact n = bytes-coded (times-exact label n)
         (λ at b w _ p. (sym (range 33 126 b) ∙ p .0, p .1))
         (λ at b w q. (range 33 126 b ∙ q .0, q .1))
 
--- the word is the encoding of a well-formed deck, and the offsets are those of its sections
-pub record LayoutWord (at : ℕ) (l : Layout) (w : List ℕ) : Type 0 where
+-- two tests of each
+both-all : {A : Type 0} (f g : A → Bool) (l : List A) → all f l ≡ true → all g l ≡ true → all (λ x. f x && g x) l ≡ true
+unfolding lists
+both-all f g [] h k = refl
+both-all f g (x ∷ l) h k =
+    and-both (and-both (and-left (f x) _ h) (and-left (g x) _ k)) (both-all f g l (and-right (f x) _ h) (and-right (g x) _ k))
+
+-- the word is the encoding of a well-formed deck that suits the form, and the offsets are those of its sections
+pub record LayoutWord (f : Form) (at : ℕ) (l : Layout) (w : List ℕ) : Type 0 where
   pub formed : wellFormed (l .deck) ≡ true
+  pub suited : suits f (l .deck) ≡ true
   pub bytes : w ≡ encode (l .deck)
   pub rules : l .rulesAt ≡ at + length (encodeChannels (l .deck))
   pub parts : l .partsAt ≡ at + length (encodeChannels (l .deck)) + length (encodeRules (l .deck))
 
-pub sections-exact : Exact Nothing sections LayoutWord
-unfolding layouts readers wellFormed encodeChannels encodeRules decks
-sections-exact =
+pub sections-exact : (f : Form) → Exact Nothing (sections f) (LayoutWord f)
+unfolding layouts readers wellFormed suits encodeChannels encodeRules decks
+sections-exact f =
     exact-by
     (then-exact (number-exact 1 (suc (limits .channels))) λ R.
     then-exact (labels-exact R) λ labels.
     here-exact λ rulesAt.
     then-exact (number-exact 0 (suc (limits .rules))) λ M.
-    then-exact (times-exact (rule-exact R) M) λ rules.
+    then-exact (times-exact (rule-exact f R) M) λ rules.
     here-exact λ partsAt.
     then-exact (number-exact 1 (suc (limits .parts))) λ N.
     then-exact (times-exact (part-exact R M) N) λ parts.
@@ -65,8 +76,15 @@ sections-exact =
     (record {
       formed =
           rw (labels .3 .0, rules .3 .0, parts .3 .0)
-          (from-five (inRange 1 (limits .channels) (p .0) && all (inRange 33 126) (labels .0)) (leb (m .0) (limits .rules)) (all (goodRule (p .0)) (rules .0)) (inRange 1 (limits .parts) (n .0)) (all (goodPart (p .0) (m .0)) (parts .0))
-          (and-both front (labels .3 .1), sym (zero-range (limits .rules) (m .0)) ∙ m .3, rules .3 .1, sym (range 1 (limits .parts) (n .0)) ∙ n .3, parts .3 .1));
+          (from-five (inRange 1 (limits .channels) (p .0) && all (inRange 33 126) (labels .0)) (leb (m .0) (limits .rules))
+          (all (goodRule (p .0)) (rules .0)) (inRange 1 (limits .parts) (n .0)) (all (goodPart (p .0) (m .0)) (parts .0)) (
+            and-both front (labels .3 .1),
+            sym (zero-range (limits .rules) (m .0)) ∙ m .3,
+            all-weaken (goodRule (p .0)) _ (λ r h. and-left (goodRule (p .0) r) _ h) (rules .0) (rules .3 .1),
+            sym (range 1 (limits .parts) (n .0)) ∙ n .3,
+            parts .3 .1,
+          ));
+      suited = all-weaken (suitsRule f) _ (λ r h. and-right (goodRule (p .0) r) _ h) (rules .0) (rules .3 .1);
       bytes =
           rw (encode-deck d, labels .3 .0, rules .3 .0, parts .3 .0)
           (rw (p .2, labels .2, m .2, rules .2, n .2, parts .2, parts .4 .1, append-nil (flatMap encodePart (parts .0))));
@@ -83,8 +101,9 @@ sections-exact =
     let parts : List ℕ = flatMap encodePart (d .parts) in
     let rules : List ℕ = flatMap encodeRule (d .rules) in
     let e : l .rulesAt ≡ at + 1 + R = q .rules ∙ omega arith in
-    let f : l .partsAt ≡ at + 1 + R + 1 + length rules = q .parts ∙ omega arith in
-    let same : _≡_ {A = Layout} l (record { deck = d; rulesAt = at + 1 + R; partsAt = at + 1 + R + 1 + length rules }) = λ i. record { deck = d; rulesAt = e i; partsAt = f i } in (
+    let g : l .partsAt ≡ at + 1 + R + 1 + length rules = q .parts ∙ omega arith in
+    let same : _≡_ {A = Layout} l (record { deck = d; rulesAt = at + 1 + R; partsAt = at + 1 + R + 1 + length rules })
+    = λ i. record { deck = d; rulesAt = e i; partsAt = g i } in (
       R,
       d .labels ++ (M ∷ (rules ++ (N ∷ parts))),
       q .bytes ∙ encode-deck d,
@@ -103,7 +122,7 @@ sections-exact =
             d .rules,
             N ∷ parts,
             refl,
-            (refl, good .2),
+            (refl, both-all (goodRule R) (suitsRule f) (d .rules) (good .2) (q .suited)),
             (
               N,
               parts,

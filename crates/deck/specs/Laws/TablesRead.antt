@@ -15,13 +15,14 @@ use Rattle.lists.specs.Laws.Booleans.{and-both, and-left, and-right}
 use Rattle.lists.specs.Laws.Alls.{all-cons, all-getD}
 use Rattle.lists.specs.Laws.Members.{all-member}
 use Rattle.refusals.specs.Outcome.{Outcome, refused, accepted}
-use Rattle.refusals.specs.Numbers.{outOfRange, repeatedTarget}
+use Rattle.refusals.specs.Numbers.{outOfRange, repeatedTarget, defaultRetired}
 use Rattle.expression.specs.Syntax.{constant}
 use Rattle.expression.specs.Reading.{Scope}
+use Rattle.deck.specs.declared.Form.{Form}
 use Rattle.deck.specs.Deck.{Rule, Part, Deck, R, M, ruleAt, partAt, targets}
 use Rattle.deck.specs.Encoding.{kindByte}
 use Rattle.deck.specs.Reader.{Got, Reader, andThen, give, require, end, number, times, rising, value, readers}
-use Rattle.deck.specs.Layout.{numbers, truths, expression, ownOnly, taskScope, assignments, action, rule, part}
+use Rattle.deck.specs.Layout.{numbers, truths, expression, ownOnly, taskScope, assignments, action, rule, part, allows, defaultAction}
 use Rattle.deck.specs.Layout.{Layout, sections, valueOf, read}
 use Rattle.deck.specs.Marks.{
   MarkedRule,
@@ -172,19 +173,19 @@ Counted m =
     × (length (m .parts) ≡ m .count)
     × (length (m .front .labels) ≡ m .front .channels)
 
-front-counts : (s : List ℕ) (at : ℕ) → Accepts (λ g. FrontCounted (g .value)) (markedFront s at)
+front-counts : (f : Form) (s : List ℕ) (at : ℕ) → Accepts (λ g. FrontCounted (g .value)) (markedFront f s at)
 unfolding markedFront readers
-front-counts s at =
+front-counts f s at =
     then-accepts _ (anything (number 1 33 s at)) λ R _.
     then-accepts _ (times-long (number 33 127) (R .value) (R .rest) (R .at)) λ labels l.
     then-accepts _ (anything (number 0 65 (labels .rest) (labels .at))) λ M _.
-    then-accepts _ (times-long (markedRule (R .value)) (M .value) (M .rest) (M .at)) λ rules k.
+    then-accepts _ (times-long (markedRule f (R .value)) (M .value) (M .rest) (M .at)) λ rules k.
     accepting (k, l)
 
-sections-counts : (s : List ℕ) (at : ℕ) → Accepts (λ g. Counted (g .value)) (markedSections s at)
+sections-counts : (f : Form) (s : List ℕ) (at : ℕ) → Accepts (λ g. Counted (g .value)) (markedSections f s at)
 unfolding markedSections readers
-sections-counts s at =
-    then-accepts _ (front-counts s at) λ front k.
+sections-counts f s at =
+    then-accepts _ (front-counts f s at) λ front k.
     then-accepts _ (anything (number 1 17 (front .rest) (front .at))) λ N _.
     let part = markedPart (front .value .channels) (front .value .count) in
     then-accepts _ (times-long part (N .value) (N .rest) (N .at)) λ parts l.
@@ -192,11 +193,11 @@ sections-counts s at =
     accepting (k .0, l, k .1)
 
 -- a deck that was read has as many channels, rules and parts as its counts say
-pub counts-read : (s : List ℕ) (g : Got Marked) → markedSections s 0 ≡ accepted g
+pub counts-read : (f : Form) (s : List ℕ) (g : Got Marked) → markedSections f s 0 ≡ accepted g
     → (length (g .value .front .rules) ≡ g .value .front .count)
     × (length (g .value .parts) ≡ g .value .count)
     × (length (g .value .front .labels) ≡ g .value .front .channels)
-counts-read s g e = accepts (sections-counts s 0) e
+counts-read f s g e = accepts (sections-counts f s 0) e
 
 -- ---- the ranges
 
@@ -268,12 +269,19 @@ unfolding action readers
 action-under sc s at =
     then-accepts _ (anything (number 0 5 s at)) λ n _. assignments-under sc (n .value) [] (n .rest) (n .at)
 
-rule-under : (R : ℕ) (s : List ℕ) (at : ℕ) → Accepts (λ g. knownRule R (g .value) ≡ true) (rule R s at)
+default-under : (f : Form) (R : ℕ) (s : List ℕ) (at : ℕ) → Accepts (λ g. under R (targets (g .value)) ≡ true) (defaultAction f R s at)
+unfolding defaultAction readers ownOnly
+default-under f R s at =
+    then-accepts _ (anything (number 0 5 s at)) λ n _.
+    then-accepts _ (anything (require (allows f (n .value)) defaultRetired at (n .rest) (n .at))) λ u _.
+    assignments-under (ownOnly R) (n .value) [] (u .rest) (u .at)
+
+rule-under : (f : Form) (R : ℕ) (s : List ℕ) (at : ℕ) → Accepts (λ g. knownRule R (g .value) ≡ true) (rule f R s at)
 unfolding rule readers ownOnly
-rule-under R s at =
+rule-under f R s at =
     then-accepts _ (anything (number 1 9 s at)) λ n _.
     then-accepts _ (rising-under (n .value) 0 R (n .rest) (n .at)) λ events p.
-    then-accepts _ (action-under (ownOnly R) (events .rest) (events .at)) λ default q.
+    then-accepts _ (default-under f R (events .rest) (events .at)) λ default q.
     then-accepts _ (anything (number 0 2 (default .rest) (default .at))) λ kind _.
     let scope = taskScope R (eqb (kind .value) 1) in
     then-accepts _ (anything (expression (truths scope) (kind .rest) (kind .at))) λ condition _.
@@ -289,13 +297,13 @@ part-under R M s at =
     then-accepts _ (anything (expression (truths (ownOnly R)) (carried .rest) (carried .at))) λ limit _.
     accepting p
 
-sections-ranged : (s : List ℕ) (at : ℕ) → Accepts (λ g. Ranged (g .value .deck)) (sections s at)
+sections-ranged : (f : Form) (s : List ℕ) (at : ℕ) → Accepts (λ g. Ranged (g .value .deck)) (sections f s at)
 unfolding sections readers R M
-sections-ranged s at =
+sections-ranged f s at =
     then-accepts _ (number-under 1 33 s at) λ r p.
     then-accepts _ (times-long (number 33 127) (r .value) (r .rest) (r .at)) λ labels l.
     then-accepts _ (number-under 0 65 (labels .rest) (labels .at)) λ m q.
-    then-accepts _ (times-each (knownRule (r .value)) (rule (r .value)) (rule-under (r .value)) (m .value) (m .rest) (m .at)) λ rules k.
+    then-accepts _ (times-each (knownRule (r .value)) (rule f (r .value)) (rule-under f (r .value)) (m .value) (m .rest) (m .at)) λ rules k.
     then-accepts _ (anything (number 1 17 (rules .rest) (rules .at))) λ n _.
     let onePart = part (r .value) (m .value) in
     let known = part-under (r .value) (m .value) in
@@ -310,11 +318,11 @@ sections-ranged s at =
     (ap (λ c. all (knownPart c) (parts .value)) (k .0) ∙ h .1))
 
 -- whatever the numbers in place of bytes
-pub ranged-read : (s : List ℕ) (l : Layout) → read s ≡ accepted l → Ranged (l .deck)
+pub ranged-read : (f : Form) (s : List ℕ) (l : Layout) → read f s ≡ accepted l → Ranged (l .deck)
 unfolding read
-ranged-read s l e = accepts (value-accepts (sections-ranged s 0)) e
+ranged-read f s l e = accepts (value-accepts (sections-ranged f s 0)) e
 
 -- the same with the offsets
-pub ranged-marked : (s : List ℕ) (g : Got Marked) → markedSections s 0 ≡ accepted g → Ranged (unmarked (g .value) .deck)
+pub ranged-marked : (f : Form) (s : List ℕ) (g : Got Marked) → markedSections f s 0 ≡ accepted g → Ranged (unmarked (g .value) .deck)
 unfolding valueOf
-ranged-marked s g e = ranged-read s (unmarked (g .value)) (read-marked s ∙ ap (λ o. valueOf (mapGot unmarked o)) e)
+ranged-marked f s g e = ranged-read f s (unmarked (g .value)) (read-marked f s ∙ ap (λ o. valueOf (mapGot unmarked o)) e)

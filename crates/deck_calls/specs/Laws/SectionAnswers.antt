@@ -6,6 +6,7 @@ use native.Mathlib.Omega.{arith}
 use lib.ListN.{length, getD, take, drop, length-append}
 use Rattle.refusals.specs.Outcome.{refused}
 use Rattle.refusals.specs.Numbers.{unknownSection}
+use Rattle.deck.specs.declared.Form.the-variants.{New}
 use Rattle.deck.specs.Deck.{Deck}
 use Rattle.deck.specs.Encoding.{encodeChannels, encodeRules, encodeParts, encode}
 use Rattle.deck.specs.Marks.{offsetOf, stretchOf}
@@ -29,10 +30,10 @@ refused-handed : (s : List ℕ) (k n p : ℕ) → sectionEnds s k ≡ refused n 
 unfolding stretches
 refused-handed s k n p e = record { is = ap (sectionReply s) e; begins = ap stretchFrom e }
 
-pub section-refused : (s : List ℕ) (k n p : ℕ) → passing s ≡ refused n p → Handed s k [] 0 n p
+pub section-refused : (s : List ℕ) (k n p : ℕ) → passing New s ≡ refused n p → Handed s k [] 0 n p
 section-refused s k n p e = refused-handed s k n p (ends-refused s k n p e)
 
-module _ (s rules parts memo : List ℕ) (c : Counted.Deck) (n : ℕ) (w : Passed s rules parts memo c n) where
+module _ (s rules parts memo : List ℕ) (c : Counted.Deck) (n : ℕ) (w : Passed New s rules parts memo c n) where
   pub section-unknown : (k : ℕ) → 2 < k → Handed s k [] 0 unknownSection 0
   section-unknown k h = refused-handed s k unknownSection 0 (ends-unknown s k (layoutOf s) (w .passes) h)
 
@@ -64,7 +65,7 @@ module _ (s rules parts memo : List ℕ) (c : Counted.Deck) (n : ℕ) (w : Passe
   section-order =
       let counts = w .tabled .counts in
       let d = layoutOf s .deck in
-      let r = passing-clean s (layoutOf s) (w .passes) .0 in
-      let x = sections-exactly s (w .bytes) (layoutOf s) r in
-      let long = ap length (read-encoded s (w .bytes) (layoutOf s) r) ∙ encode-length d in
+      let r = passing-clean New s (layoutOf s) (w .passes) .0 in
+      let x = sections-exactly New s (w .bytes) (layoutOf s) r in
+      let long = ap length (read-encoded New s (w .bytes) (layoutOf s) r) ∙ encode-length d in
       (omega (arith, counts .second, counts .third, x .0, x .1), omega (arith, counts .third, x .1, long))

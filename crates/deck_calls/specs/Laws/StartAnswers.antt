@@ -9,12 +9,13 @@ use lib.IntN.{ℤ, pos}
 use Rattle.lists.specs.Lists.{lists}
 use Rattle.refusals.specs.Outcome.{Outcome, refused, accepted, outcomes}
 use Rattle.refusals.specs.Numbers.{badPool}
+use Rattle.deck.specs.declared.Form.the-variants.{New}
 use Rattle.pool.specs.Places.{zeros, poolOf}
 use Rattle.pool.specs.States.{goodLength, store}
 use Rattle.pool.specs.declared.State.{State}
 use Rattle.passing.specs.Check.{passing, openingValues}
 use Rattle.passing.specs.Tabled.{layoutOf, deckOf}
-use Rattle.calls.specs.Calls.{Answer, started, reply, opened, start}
+use Rattle.calls.specs.Calls.{Answer, started, reply, opened, start, startAs}
 use Rattle.calls.specs.Answers.{memoryAt, replyOf, replyAt}
 
 -- the reply of a call whose answer, values and pending number are known
@@ -24,14 +25,14 @@ reply-is {b} {vs} {n} {pool} e v p q =
     ap₂ (λ a m. record { answer = a; memory = m }) e (ap₂ (λ vs n. memoryAt vs n pool) v p) ∙ ap (replyAt b vs n) q
 
 module _ (s : List ℕ) (pool : List ℤ) where
-  pub start-declined : (n p : ℕ) → passing s ≡ refused n p → start s pool ≡ replyAt (refused n p) (replicate 512 (pos 0)) 0 pool
-  unfolding start reply outcomes zeros
+  pub start-declined : (n p : ℕ) → passing New s ≡ refused n p → start s pool ≡ replyAt (refused n p) (replicate 512 (pos 0)) 0 pool
+  unfolding startAs reply outcomes zeros
   start-declined n p e = rw e
 
-  module _ (w : passing s ≡ accepted (layoutOf s)) where
+  module _ (w : passing New s ≡ accepted (layoutOf s)) where
     pub start-pool : goodLength (length pool) ≡ false
         → start s pool ≡ replyAt (refused badPool 0) (replicate 512 (pos 0)) 0 pool
-    unfolding start reply outcomes zeros
+    unfolding startAs reply outcomes zeros
     start-pool l = rw (w, l)
 
     -- nothing is pending, and the pool is all 0
@@ -43,7 +44,7 @@ module _ (s : List ℕ) (pool : List ℤ) where
 
     pub start-done : goodLength (length pool) ≡ true
         → start s pool ≡ replyAt (accepted started) (openingValues (deckOf s)) 0 (zeros (length pool))
-    unfolding start reply outcomes
+    unfolding startAs reply outcomes
     start-done l = accepting ∙ ap (λ m. record { answer = accepted started; memory = m }) none-stored
       where
         accepting : start s pool ≡ record { answer = accepted started; memory = store (length pool) (opened (deckOf s)) }

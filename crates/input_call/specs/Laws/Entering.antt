@@ -1,5 +1,5 @@
 -- An input on what was tested: what the code is lent, and what it leaves. Assumes nothing.
-use Prim.Native.Nat.{ℕ, _+_, _*_, _-_, _/_, _%_, _<_, _≤_}
+use Prim.Native.Nat.{ℕ, _*_, _-_, _/_, _%_, _<_, _≤_}
 use mathlib.Core.Path.{_≡_, refl, sym, ap, ap₂, _∙_, subst}
 use mathlib.Core.Bool.{Bool, true, false, not}
 use mathlib.Core.List.{List, _++_, append-nil}
@@ -127,6 +127,7 @@ module _ {s : List ℕ} {k : Counted.Deck} {rules parts memo index : List ℕ} {
       let st = w .stored in
       record {
         tabled = w .tabled;
+        none = w .none;
         ready = w .ready;
         slots = w .slots;
         room = w .room;

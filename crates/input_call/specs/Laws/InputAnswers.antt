@@ -10,7 +10,7 @@ use Rattle.deck.specs.declared.Deck as Counted
 use Rattle.pool.specs.Places.{capacity}
 use Rattle.pool.specs.States.{Memory, load}
 use Rattle.passing.specs.Tabled.{deckOf}
-use Rattle.calls.specs.Calls.{Answer, Done, reply, tested, input}
+use Rattle.calls.specs.Calls.{Answer, Done, reply, tested, input, inputAs}
 use Rattle.calls.specs.Answers.{memoryAt, replyAt}
 use Rattle.call_tests.specs.Tested.{Passed}
 use Rattle.input_call.specs.Entered.{entered, Leaves, Enters}
@@ -18,7 +18,7 @@ use Rattle.call_tests.specs.Laws.StoredMemory.{left-memory}
 
 input-entered : (s : List ℕ) (m : Memory) (p : ℕ) (l : List ℤ) (d : Deck) → tested s m ≡ accepted d
     → input s m p l ≡ reply m (entered d (capacity (length (m .pool))) (load m) p l)
-unfolding input entered outcomes
+unfolding inputAs entered outcomes
 input-entered s m p l d e = rw e
 
 -- what is left of an outcome is its reply

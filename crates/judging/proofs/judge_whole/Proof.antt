@@ -13,13 +13,13 @@ refused-requires c κs =
     omega (arith, c .if1 .taken, s .pre .0 .tabled .counts .parts, s .pre .0 .tabled .counts .formed .parts)
 
 returns : tie.Need-returns
-returns c =
+returns c form read =
     let f = c .before .before .before in
     let s = f .before .before .before .before .before in
     let a = s .args in
     let p = outside-found (deckOf (a .deck .now)) (f .first-outside .result) (f .first-outside .ensures) in
     rw (c .refused .ensures)
-    (outside-refused (a .deck .now) (a .rules .now) (a .parts .now) (a .counts) (s .pre .0 .tabled) (s .pre .0 .read) _ p (c .before .if1 .taken))
+    (outside-refused (a .deck .now) (a .rules .now) (a .parts .now) (a .counts) (s .pre .0 .tabled) form read _ p (c .before .if1 .taken))
 
 note-listeners-requires : tie.Need-note-listeners-requires
 note-listeners-requires c κs =
@@ -34,7 +34,7 @@ judge-rules-requires c κs =
     (rules-known _ _ _ _ (tabled-kept (n .note-listeners .ensures .0) (s .pre .0 .tabled)) (n .note-listeners .ensures .1), s .pre .1)
 
 returns-2 : tie.Need-returns-2
-returns-2 c =
+returns-2 c form read =
     let j = c .before .before in
     let n = j .before .before .before .before .before in
     let f = n .before .before .before .before in
@@ -42,8 +42,8 @@ returns-2 c =
     let a = s .args in
     let t = tabled-kept (n .note-listeners .ensures .0) (s .pre .0 .tabled) in
     let p = outside-found (deckOf (a .deck .now)) (f .first-outside .result) (f .first-outside .ensures) in
-    let six = outside-none (a .deck .now) _ (a .parts .now) (a .counts) t (s .pre .0 .read) _ p (n .before .before .if1 .left) in
-    rules-judged (a .deck .now) _ (a .parts .now) (a .counts) t (s .pre .0 .read) six _ (s .pre .0 .bytes) (j .judge-rules .result)
+    let six = outside-none (a .deck .now) _ (a .parts .now) (a .counts) t form read _ p (n .before .before .if1 .left) in
+    rules-judged (a .deck .now) _ (a .parts .now) (a .counts) t form read six _ (s .pre .0 .bytes) (j .judge-rules .result)
     (j .judge-rules .ensures)
 
 pub judge-whole-spec : {M : Type 1} → statement M

@@ -12,7 +12,7 @@ use Rattle.lists.specs.Laws.Members.{member-empty, member-head, member-t
 use Rattle.lists.specs.Laws.Filters.{filter-member, filter-none}
 use Rattle.lists.specs.Laws.FlatMaps.{filter-one-by-one, flatMap-first}
 
-from-length : (a n : ℕ) → length (from a n) ≡ n
+pub from-length : (a n : ℕ) → length (from a n) ≡ n
 unfolding from
 from-length a zero = refl
 from-length a (suc n) = ap suc (from-length (suc a) n)
@@ -21,7 +21,7 @@ pub below-length : (n : ℕ) → length (below n) ≡ n
 unfolding below
 below-length n = from-length 0 n
 
-from-within : (a n k : ℕ) → member k (from a n) ≡ true → (a ≤ k) × (k < a + n)
+pub from-within : (a n k : ℕ) → member k (from a n) ≡ true → (a ≤ k) × (k < a + n)
 unfolding from
 from-within a zero k m = member-empty k m
 from-within a (suc n) k m =

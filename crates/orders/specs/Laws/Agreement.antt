@@ -9,6 +9,7 @@ use lib.IntN.{ℤ}
 use Rattle.lists.specs.Lists.{isEmpty}
 use Rattle.refusals.specs.Outcome.{Outcome, refused, accepted, _>>=_, _>>_, require, outcomes}
 use Rattle.refusals.specs.Numbers.{badPool, badState, unknownPart, badInput, inputOutside, overCapacity, placeNotPending, budgetTooLarge}
+use Rattle.deck.specs.declared.Form.{Form}
 use Rattle.deck.specs.Deck.{Deck, N}
 use Rattle.deck.specs.Layout.{Layout}
 use Rattle.pool.specs.Updates.{assign, charge}
@@ -18,8 +19,8 @@ use Rattle.pool.specs.Laws.Good.{Fine, load-store, store-length, good-stored}
 use Rattle.passing.specs.Check.{within, passing}
 use Rattle.firing.specs.Firing.{setAndFire, committed, mayTake}
 use Rattle.calls.specs.Calls as Calls
-use Rattle.calls.specs.Calls.{Answer, added, applied, discarded, settled, spent, Reply, Done, reply, tested, goodInput, settling, oneMore}
-use Rattle.orders.specs.Calling.{Call, input, commit, settle, made}
+use Rattle.calls.specs.Calls.{Answer, added, applied, discarded, settled, spent, Reply, Done, reply, testedAs, goodInput, settling, oneMore}
+use Rattle.orders.specs.Calling.{Call, input, commit, settle, madeAs}
 use Rattle.orders.specs.Listed.{Turn, turn, turns, ending, Taken, taken}
 
 -- a settle's commits one by one, against its count
@@ -79,7 +80,7 @@ settleBody d x b = do
   let s = settling d b x
   accepted (record { answer = cond (isEmpty (s .machine .pending)) (settled (s .made)) (spent (s .made)); machine = s .machine })
 
-module _ (bytes : List ℕ) (l : Layout) (passes : passing bytes ≡ accepted l) (n : ℕ) (long : goodLength n ≡ true) (x : Machine)
+module _ (f : Form) (bytes : List ℕ) (l : Layout) (passes : passing f bytes ≡ accepted l) (n : ℕ) (long : goodLength n ≡ true) (x : Machine)
     (fine : Fine (l .deck) (capacity n) x) where
   abbrev d : Deck
   d = l .deck
@@ -90,8 +91,8 @@ module _ (bytes : List ℕ) (l : Layout) (passes : passing bytes ≡ accepted l)
   same-length : length (m .pool) ≡ n
   same-length = store-length d n x fine
 
-  tested-stored : tested bytes m ≡ accepted d
-  unfolding tested outcomes
+  tested-stored : testedAs f bytes m ≡ accepted d
+  unfolding testedAs outcomes
   tested-stored =
       ap (λ o. o >>= λ k. require (goodLength (length (m .pool))) badPool 0 >> (require (good (k .deck) m) badState 0 >> accepted (k .deck))) passes
       ∙ ap (λ b. require b badPool 0 >> (require (good d m) badState 0 >> accepted d)) (ap goodLength same-length ∙ long)
@@ -99,7 +100,7 @@ module _ (bytes : List ℕ) (l : Layout) (passes : passing bytes ≡ accepted l)
 
   -- a call that goes on with the deck, the values and the pending updates
   goes-on : (body : Deck → ℕ → Machine → Outcome Done)
-      → reply m (tested bytes m >>= λ k. body k (capacity (length (m .pool))) (load m)) ≡ reply m (body d (capacity n) x)
+      → reply m (testedAs f bytes m >>= λ k. body k (capacity (length (m .pool))) (load m)) ≡ reply m (body d (capacity n) x)
   unfolding outcomes
   goes-on body =
       ap (λ o. reply m (o >>= λ k. body k (capacity (length (m .pool))) (load m))) tested-stored
@@ -117,8 +118,8 @@ module _ (bytes : List ℕ) (l : Layout) (passes : passing bytes ≡ accepted l)
   guarded true number o t e = e
   guarded false number o t e = refl
 
-  input-agrees : (p : ℕ) (pairs : List ℤ) → Calls.input bytes m p pairs ≡ handed n x (taken d (capacity n) x (input p pairs))
-  unfolding Calls.input taken inputBody
+  input-agrees : (p : ℕ) (pairs : List ℤ) → Calls.inputAs f bytes m p pairs ≡ handed n x (taken d (capacity n) x (input p pairs))
+  unfolding Calls.inputAs taken inputBody
   input-agrees p pairs =
       goes-on (λ k C y. inputBody k C y p pairs)
       ∙ guarded (ltb p (N d)) unknownPart _ _
@@ -126,22 +127,22 @@ module _ (bytes : List ℕ) (l : Layout) (passes : passing bytes ≡ accepted l)
       (guarded (within d p (assign p (pairsOf pairs) (x .values))) inputOutside _ _
       (guarded (leb (charge d (setAndFire d p (pairsOf pairs) x .pending)) (capacity n)) overCapacity _ _ (accepted-handed _ _ _))))
 
-  commit-agrees : (k : ℕ) → Calls.commit bytes m k ≡ handed n x (taken d (capacity n) x (commit k))
-  unfolding Calls.commit taken commitBody turn
+  commit-agrees : (k : ℕ) → Calls.commitAs f bytes m k ≡ handed n x (taken d (capacity n) x (commit k))
+  unfolding Calls.commitAs taken commitBody turn
   commit-agrees k =
       goes-on (λ k′ C y. commitBody k′ y k)
       ∙ guarded (mayTake (x .pending) k) placeNotPending _ _ (accepted-handed _ _ _)
 
-  settle-agrees : (b : ℕ) → Calls.settle bytes m b ≡ handed n x (taken d (capacity n) x (settle b))
-  unfolding Calls.settle taken settleBody
+  settle-agrees : (b : ℕ) → Calls.settleAs f bytes m b ≡ handed n x (taken d (capacity n) x (settle b))
+  unfolding Calls.settleAs taken settleBody
   settle-agrees b =
       goes-on (λ k C y. settleBody k y b)
       ∙ guarded (leb b 65535) budgetTooLarge _ _
       (ap₂ (λ c y. reply m (accepted (record { answer = cond (isEmpty (y .pending)) (settled c) (spent c); machine = y }))) (settling-made d b x) (settling-ends d b x)
       ∙ accepted-handed _ (turns d b x) (ending x (turns d b x)))
 
-  pub made-agrees : (c : Call) → made bytes m c ≡ handed n x (taken d (capacity n) x c)
-  unfolding made
+  pub made-agrees : (c : Call) → madeAs f bytes m c ≡ handed n x (taken d (capacity n) x c)
+  unfolding madeAs
   made-agrees (input p pairs) = input-agrees p pairs
   made-agrees (commit k) = commit-agrees k
   made-agrees (settle b) = settle-agrees b

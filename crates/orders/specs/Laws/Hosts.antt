@@ -8,6 +8,7 @@ use lib.ListN.{length}
 use lib.IntN.{ℤ}
 use Rattle.refusals.specs.Outcome.{Outcome, accepted}
 use Rattle.expression.specs.Laws.Bytes.{Bytes}
+use Rattle.deck.specs.declared.Form.the-variants.{New}
 use Rattle.deck.specs.Deck.{N}
 use Rattle.deck.specs.Layout.{Layout}
 use Rattle.pool.specs.Places.{capacity}
@@ -15,7 +16,7 @@ use Rattle.pool.specs.States.{Memory, store}
 use Rattle.passing.specs.Check.{within, passing}
 use Rattle.calls.specs.Calls as Calls
 use Rattle.calls.specs.Calls.{Answer, started, Reply, opened}
-use Rattle.orders.specs.Calling.{Call, made, runFrom, run}
+use Rattle.orders.specs.Calling.{Call, made, runFrom, runFromAs, runAs}
 use Rattle.orders.specs.Listed.{listed}
 use Rattle.orders.specs.Order.{EveryWithin, EndsWithin, Order}
 use Rattle.orders.specs.Laws.Listing.{along-ends}
@@ -34,7 +35,7 @@ pub data Trace (bytes : List ℕ) : Memory → List Call → List (Outcome Answe
 
 trace-runs : (bytes : List ℕ) (m : Memory) (cs : List Call) (seen : List (Outcome Answer)) (end : Memory)
     → Trace bytes m cs seen end → (seen ≡ runFrom bytes m cs .answers) × (end ≡ runFrom bytes m cs .memory)
-unfolding runFrom
+unfolding runFromAs
 trace-runs bytes m cs seen end (ends) = (refl, refl)
 trace-runs bytes m cs seen end (calls {m′ = m′} {cs = rest} {later = later} e t) =
     let r = trace-runs bytes m′ rest later end t in
@@ -46,7 +47,7 @@ trace-runs bytes m cs seen end (calls {m′ = m′} {cs = rest} {later = later} 
 -- what the host sees is what the definition of the list has, and the sentences of demand 3 hold
 pub record HostSees (bytes : List ℕ) (pool : List ℤ) (cs : List Call) (seen : List (Outcome Answer)) (end : Memory) : Type 0 where
   pub layout : Layout
-  pub passes : passing bytes ≡ accepted layout
+  pub passes : passing New bytes ≡ accepted layout
   pub answers : seen ≡ listed (layout .deck) (length pool) cs .answers
   pub memory : end ≡ store (length pool) (listed (layout .deck) (length pool) cs .machine)
   pub ordered : Order bytes (layout .deck) pool cs
@@ -55,7 +56,7 @@ pub record HostSees (bytes : List ℕ) (pool : List ℤ) (cs : List Call) (seen 
 pub order-seen : (bytes : List ℕ) (pool : List ℤ) → Bytes bytes
     → (m : Memory) → replied (accepted started) m ≡ Calls.start bytes pool
     → (cs : List Call) (seen : List (Outcome Answer)) (end : Memory) → Trace bytes m cs seen end → HostSees bytes pool cs seen end
-unfolding run
+unfolding runAs
 order-seen bytes pool b m s cs seen end t =
     let o = order bytes pool b (sym (ap (λ k. k .answer) s)) in
     let r = trace-runs bytes m cs seen end t in
@@ -74,11 +75,11 @@ order-seen bytes pool b m s cs seen end t =
 pub within-seen : (bytes : List ℕ) (pool : List ℤ) → Bytes bytes
     → (m : Memory) → replied (accepted started) m ≡ Calls.start bytes pool
     → (cs : List Call) (seen : List (Outcome Answer)) (end : Memory) → Trace bytes m cs seen end
-    → (l : Layout) × (passing bytes ≡ accepted l) × ((p : ℕ) → p < N (l .deck) → within (l .deck) p (end .state .values) ≡ true)
+    → (l : Layout) × (passing New bytes ≡ accepted l) × ((p : ℕ) → p < N (l .deck) → within (l .deck) p (end .state .values) ≡ true)
 unfolding listed EveryWithin EndsWithin opened store
 within-seen bytes pool b m s cs seen end t =
     let o = order-seen bytes pool b m s cs seen end t in
     let d = o .layout .deck in
-    let opens = passed-opens bytes b (o .layout) (o .passes) in
+    let opens = passed-opens New bytes b (o .layout) (o .passes) in
     let ends = along-ends d (capacity (length pool)) (EveryWithin d) (opened d) opens cs (o .ordered .parts-within) in
     (o .layout, o .passes, λ p low. ap (λ k. within d p (k .state .values)) (o .memory) ∙ ends p low)

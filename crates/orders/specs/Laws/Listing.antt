@@ -14,6 +14,8 @@ use Rattle.lists.specs.Laws.Alls.{all-append, all-every}
 use Rattle.refusals.specs.Outcome.{Outcome, refused, accepted, _>>=_, _>>_, require, outcomes}
 use Rattle.refusals.specs.Numbers.{badPool, placeNotPending, budgetTooLarge}
 use Rattle.refusals.specs.Laws.Outcomes.{refused≢accepted, accepted-inj}
+use Rattle.deck.specs.declared.Form.{Form}
+use Rattle.deck.specs.declared.Form.the-variants.{New}
 use Rattle.deck.specs.Deck.{Deck}
 use Rattle.deck.specs.Layout.{Layout}
 use Rattle.deck.specs.Laws.Formed.{Formed}
@@ -29,7 +31,7 @@ use Rattle.passing.specs.Check.{passing}
 use Rattle.calls.specs.Calls as Calls
 use Rattle.calls.specs.Calls.{started, settled, spent, Reply, reply, opened}
 use Rattle.calls.specs.Laws.Opening.{fine-opened}
-use Rattle.orders.specs.Calling.{Call, input, commit, settle, runFrom, run}
+use Rattle.orders.specs.Calling.{Call, input, commit, settle, runFromAs, runAs}
 use Rattle.orders.specs.Listed.{turn, turns, Taken, taken, machineAfter, Listed, inFront, listFrom, listed, commitsOf, addedOf, commitsMade, chargeAdded, chargePending}
 use Rattle.orders.specs.Order.{Along, Accepted, yes-accepted, RefusedAsPlaced, Settles, leavesWithin, EveryWithin, hasCharge, Order}
 use Rattle.orders.specs.Laws.Agreement.{handed, made-agrees}
@@ -134,7 +136,7 @@ unfolding handed machineAfter
 handed-memory n x (refused number place) = refl
 handed-memory n x (accepted t) = refl
 
-module _ (bytes : List ℕ) (l : Layout) (passes : passing bytes ≡ accepted l) (n : ℕ) (long : goodLength n ≡ true)
+module _ (form : Form) (bytes : List ℕ) (l : Layout) (passes : passing form bytes ≡ accepted l) (n : ℕ) (long : goodLength n ≡ true)
     (formed : Formed (l .deck)) (acyclic : Acyclic (l .deck)) where
   abbrev d : Deck
   d = l .deck
@@ -143,32 +145,33 @@ module _ (bytes : List ℕ) (l : Layout) (passes : passing bytes ≡ accepted l)
   C = capacity n
 
   run-agrees : (x : Machine) → Fine d C x → (cs : List Call)
-      → (runFrom bytes (store n x) cs .answers ≡ listFrom d C x cs .answers)
-      × (runFrom bytes (store n x) cs .memory ≡ store n (listFrom d C x cs .machine))
-  unfolding runFrom listFrom
+      → (runFromAs form bytes (store n x) cs .answers ≡ listFrom d C x cs .answers)
+      × (runFromAs form bytes (store n x) cs .memory ≡ store n (listFrom d C x cs .machine))
+  unfolding runFromAs listFrom
   run-agrees x f [] = (refl, refl)
   run-agrees x f (c ∷ cs) =
       let o = taken d C x c in
-      let agrees = made-agrees bytes l passes n long x f c in
+      let agrees = made-agrees form bytes l passes n long x f c in
       let after = ap (λ r. r .memory) agrees ∙ handed-memory n x o in
       let answer = ap (λ r. r .answer) agrees ∙ handed-answer n x o in
       let rest = run-agrees (machineAfter x o) (taking d formed acyclic C x f c .fine) cs in
       let later = listFrom d C (machineAfter x o) cs in (
-        ap₂ (λ a as′. a ∷ as′) answer (ap (λ m. runFrom bytes m cs .answers) after ∙ rest .0) ∙ sym (front-answers o later),
-        ap (λ m. runFrom bytes m cs .memory) after ∙ rest .1 ∙ ap (store n) (sym (front-machine o later)),
+        ap₂ (λ a as′. a ∷ as′) answer (ap (λ m. runFromAs form bytes m cs .answers) after ∙ rest .0) ∙ sym (front-answers o later),
+        ap (λ m. runFromAs form bytes m cs .memory) after ∙ rest .1 ∙ ap (store n) (sym (front-machine o later)),
       )
 
 -- ---- a fresh start
 
 -- what an accepted start says of the deck and the pool, and what it leaves
-pub record Fresh (bytes : List ℕ) (pool : List ℤ) (l : Layout) : Type 0 where
-  pub passes : passing bytes ≡ accepted l
+pub record Fresh (form : Form) (bytes : List ℕ) (pool : List ℤ) (l : Layout) : Type 0 where
+  pub passes : passing form bytes ≡ accepted l
   pub long : goodLength (length pool) ≡ true
-  pub left : Calls.start bytes pool .memory ≡ store (length pool) (opened (l .deck))
+  pub left : Calls.startAs form bytes pool .memory ≡ store (length pool) (opened (l .deck))
 
-pub start-fresh : (bytes : List ℕ) (pool : List ℤ) → Calls.start bytes pool .answer ≡ accepted started → (l : Layout) × Fresh bytes pool l
-unfolding Calls.start reply outcomes
-start-fresh bytes pool h = go (passing bytes) refl (goodLength (length pool)) refl h
+pub start-fresh : (form : Form) (bytes : List ℕ) (pool : List ℤ) → Calls.startAs form bytes pool .answer ≡ accepted started
+    → (l : Layout) × Fresh form bytes pool l
+unfolding Calls.startAs reply outcomes
+start-fresh form bytes pool h = go (passing form bytes) refl (goodLength (length pool)) refl h
   where
     before : Memory
     before = record { state = record { values = Rattle.pool.specs.Places.zeros 512; pending = 0 }; pool = pool }
@@ -176,8 +179,8 @@ start-fresh bytes pool h = go (passing bytes) refl (goodLength (length pool)) re
     after : Outcome Layout → Bool → Reply
     after o b = reply before (o >>= λ l. require b badPool 0 >> accepted (record { answer = started; machine = opened (l .deck) }))
 
-    go : (o : Outcome Layout) → passing bytes ≡ o → (b : Bool) → goodLength (length pool) ≡ b → after o b .answer ≡ accepted started
-        → (l : Layout) × Fresh bytes pool l
+    go : (o : Outcome Layout) → passing form bytes ≡ o → (b : Bool) → goodLength (length pool) ≡ b → after o b .answer ≡ accepted started
+        → (l : Layout) × Fresh form bytes pool l
     go (refused n p) e b f a = refused≢accepted a
     go (accepted l) e false f a = refused≢accepted a
     go (accepted l) e true f a =
@@ -193,21 +196,37 @@ nothing-charged : (d : Deck) → charge d (opened d .pending) ≡ 0
 unfolding opened charge lists
 nothing-charged d = refl
 
-module _ (bytes : List ℕ) (pool : List ℤ) (l : Layout) (fresh : Fresh bytes pool l)
+-- a run after a fresh start, in either form: answers, state and pool are as the definition of the list has them
+pub run-listed : (form : Form) (bytes : List ℕ) (pool : List ℤ) (l : Layout) → Fresh form bytes pool l
+    → Formed (l .deck) → Acyclic (l .deck)
+    → (cs : List Call)
+    → (runAs form bytes pool cs .answers ≡ listed (l .deck) (length pool) cs .answers)
+    × (runAs form bytes pool cs .memory ≡ store (length pool) (listed (l .deck) (length pool) cs .machine))
+unfolding runAs listed opened
+run-listed form bytes pool l fresh formed acyclic cs =
+    let d = l .deck in
+    let n = length pool in
+    let f = fine-opened d formed (capacity n) in
+    let agrees = run-agrees form bytes l (fresh .passes) n (fresh .long) formed acyclic (opened d) f cs in (
+      ap (λ m. runFromAs form bytes m cs .answers) (fresh .left) ∙ agrees .0,
+      ap (λ m. runFromAs form bytes m cs .memory) (fresh .left) ∙ agrees .1,
+    )
+
+module _ (bytes : List ℕ) (pool : List ℤ) (l : Layout) (fresh : Fresh New bytes pool l)
     (formed : Formed (l .deck)) (acyclic : Acyclic (l .deck)) (scope : Scoped (l .deck))
     (opens : EveryWithin (l .deck) (opened (l .deck))) where
   pub ordered : (cs : List Call) → Order bytes (l .deck) pool cs
-  unfolding run listed opened commitsMade chargeAdded chargePending
+  unfolding listed opened commitsMade chargeAdded chargePending
   ordered cs =
       let d = l .deck in
       let n = length pool in
       let C = capacity n in
       let x = opened d in
       let f = fine-opened d formed C in
-      let agrees = run-agrees bytes l (fresh .passes) n (fresh .long) formed acyclic x f cs in
+      let agrees = run-listed New bytes pool l fresh formed acyclic cs in
       record {
-        answers = ap (λ m. runFrom bytes m cs .answers) (fresh .left) ∙ agrees .0;
-        memory = ap (λ m. runFrom bytes m cs .memory) (fresh .left) ∙ agrees .1;
+        answers = agrees .0;
+        memory = agrees .1;
         bound = omega (arith, list-paid d C formed acyclic x f cs, nothing-charged d);
         commit-refused = along d C (RefusedAsPlaced d C) (refused-as-placed d C) x cs;
         stays-within = list-stays d C formed acyclic x f cs;

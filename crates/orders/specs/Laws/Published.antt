@@ -9,10 +9,11 @@ use lib.Dec.{leb, ltb}
 use lib.ListN.{length}
 use lib.IntN.{ℤ}
 use borrow.Author.Tests.{ltb-true}
-use Rattle.refusals.specs.Outcome.{Outcome, refused, accepted}
+use Rattle.refusals.specs.Outcome.{Outcome, accepted}
 use Rattle.refusals.specs.Numbers.{unknownPart, badInput, inputOutside, overCapacity, placeNotPending}
 use Rattle.refusals.specs.Laws.Outcomes.{refused≢accepted, accepted-inj}
 use Rattle.expression.specs.Laws.Bytes.{Bytes}
+use Rattle.deck.specs.declared.Form.the-variants.{New}
 use Rattle.deck.specs.Deck.{Deck, R, N}
 use Rattle.deck.specs.Layout.{Layout}
 use Rattle.deck.specs.Laws.Formed.{Formed}
@@ -24,9 +25,9 @@ use Rattle.pool.specs.Laws.Good.{Fine, load-store, fine-loaded, store-load}
 use Rattle.passing.specs.Check.{passing}
 use Rattle.firing.specs.Firing.{setAndFire, pick, committed}
 use Rattle.calls.specs.Calls as Calls
-use Rattle.calls.specs.Calls.{Answer, added, applied, discarded, goodInput}
+use Rattle.calls.specs.Calls.{Answer, applied, discarded, goodInput}
 use Rattle.calls.specs.Laws.Inputs.{input-known}
-use Rattle.orders.specs.Calling.{Call, input, commit, made}
+use Rattle.orders.specs.Calling.{Call, input, commit, made, madeAs}
 use Rattle.orders.specs.Listed.{turn, Taken, taken, machineAfter}
 use Rattle.orders.specs.Order.{Accepted, yes-accepted}
 use Rattle.orders.specs.Calculus.{Task, Agree, executes, enters, sentTasks, Exec, ExecFail, programOf, Step, System, systemOf}
@@ -48,7 +49,7 @@ module _ (bytes : List ℕ) (b : Bytes bytes) (m : Memory) (t : Tested bytes m) 
   from-loaded : (c : Call) → made bytes m c ≡ handed (length (m .pool)) (load m) (taken deckOf (capacity (length (m .pool))) (load m) c)
   from-loaded c =
       ap (λ k. made bytes k c) (sym (store-load deckOf m (t .good-before)))
-      ∙ made-agrees bytes (t .layout) (t .passes) (length (m .pool)) (t .long) (load m) fine c
+      ∙ made-agrees New bytes (t .layout) (t .passes) (length (m .pool)) (t .long) (load m) fine c
 
   -- what is loaded after a call is what the list has
   loaded-after : (c : Call) → load (made bytes m c .memory) ≡ machineAfter (load m) (taken deckOf (capacity (length (m .pool))) (load m) c)
@@ -58,7 +59,8 @@ module _ (bytes : List ℕ) (b : Bytes bytes) (m : Memory) (t : Tested bytes m) 
       ap (λ r. load (r .memory)) (from-loaded c)
       ∙ ap load (handed-memory n (load m) o)
       ∙ load-store deckOf n (machineAfter (load m) o)
-      (taking deckOf (passed-formed bytes b (t .layout) (t .passes)) (passed-acyclic bytes b (t .layout) (t .passes)) (capacity n) (load m) fine c .fine)
+      (taking deckOf (passed-formed New bytes b (t .layout) (t .passes)) (passed-acyclic New bytes b (t .layout) (t .passes))
+      (capacity n) (load m) fine c .fine)
 
   taken-answer : (c : Call) (a : Answer) → made bytes m c .answer ≡ accepted a
       → answered (taken deckOf (capacity (length (m .pool))) (load m) c) ≡ accepted a
@@ -70,7 +72,7 @@ module _ (bytes : List ℕ) (b : Bytes bytes) (m : Memory) (t : Tested bytes m) 
 -- An accepted input: the deck passes, and the input is (INPUT) at its part with (DISC) at all others
 pub record InputStep (bytes : List ℕ) (m m′ : Memory) (p : ℕ) (pairs : List Pair) : Type 1 where
   pub layout : Layout
-  pub passes : passing bytes ≡ accepted layout
+  pub passes : passing New bytes ≡ accepted layout
   pub tasks : List Task
   pub step : Step (layout .deck) (systemOf (load m)) p (enters pairs tasks) (systemOf (load m′))
   -- and there is no other (INPUT) of these values at this part
@@ -102,13 +104,14 @@ module _ (d : Deck) (formed : Formed d) (scope : Scoped d) (C : ℕ) (x : Machin
 
 pub input-is-published : (bytes : List ℕ) (m : Memory) (p : ℕ) (l : List ℤ) → Bytes bytes → (a : Answer) → Calls.input bytes m p l .answer ≡ accepted a
     → InputStep bytes m (Calls.input bytes m p l .memory) p (pairsOf l)
-unfolding made
+unfolding madeAs
 input-is-published bytes m p l b a h =
     let t = accepted-tested bytes m (input p l) a h in
     let d = t .layout .deck in
     let x = load m in
-    let scope = passed-scoped bytes b (t .layout) (t .passes) in
-    let r = input-stepped d (passed-formed bytes b (t .layout) (t .passes)) scope (capacity (length (m .pool))) x (fine bytes b m t) p l a
+    let formed = passed-formed New bytes b (t .layout) (t .passes) in
+    let scope = passed-scoped New bytes b (t .layout) (t .passes) in
+    let r = input-stepped d formed scope (capacity (length (m .pool))) x (fine bytes b m t) p l a
     (taken-answer bytes b m t (input p l) a h) in
     let y = load (Calls.input bytes m p l .memory) in
     let there = subst (λ (y : Machine). Step d (systemOf x) p (enters (pairsOf l) (r .0)) (systemOf y))
@@ -131,7 +134,7 @@ Told a = (c : ℕ) × ((a ≡ applied c) ⊎ (a ≡ discarded c))
 -- An accepted commit of place k: applied is (EXEC) at the part of its update, discarded is (EXEC-FAIL), with (DISC) at all others
 pub record CommitStep (bytes : List ℕ) (m m′ : Memory) (k : ℕ) (a : Answer) : Type 1 where
   pub layout : Layout
-  pub passes : passing bytes ≡ accepted layout
+  pub passes : passing New bytes ≡ accepted layout
   pub place : k < length (load m .pending)
   -- the update at place k, and its part
   pub part : ℕ
@@ -183,7 +186,7 @@ module _ (d : Deck) (C : ℕ) (x : Machine) (k : ℕ) (a : Answer) where
 
 pub commit-is-published : (bytes : List ℕ) (m : Memory) (k : ℕ) → Bytes bytes → (a : Answer) → Calls.commit bytes m k .answer ≡ accepted a
     → CommitStep bytes m (Calls.commit bytes m k .memory) k a
-unfolding made
+unfolding madeAs
 commit-is-published bytes m k b a h =
     let t = accepted-tested bytes m (commit k) a h in
     let d = t .layout .deck in
@@ -192,8 +195,8 @@ commit-is-published bytes m k b a h =
     let u = pick k (x .pending) in
     let how = took d C x k a (taken-answer bytes b m t (commit k) a h) in
     let same = sym (loaded-after bytes b m t (commit k) ∙ how .after) in
-    let form = passed-formed bytes b (t .layout) (t .passes) in
-    let scope = passed-scoped bytes b (t .layout) (t .passes) in
+    let form = passed-formed New bytes b (t .layout) (t .passes) in
+    let scope = passed-scoped New bytes b (t .layout) (t .passes) in
     let c = commit-step d form scope C x (fine bytes b m t) k (how .place) in
     let now = charge d (committed d k x .machine .pending) in
     record {
@@ -233,13 +236,13 @@ pub record ReachedByCall (bytes : List ℕ) (m : Memory) (d : Deck) (p : ℕ) (u
 
 pub commit-reached : (bytes : List ℕ) (m : Memory) → Bytes bytes → (t : Tested bytes m) (p : ℕ) (upd : List Pair) (ts : List Task) (S : System)
     → Step (t .layout .deck) (systemOf (load m)) p (executes upd ts) S → ReachedByCall bytes m (t .layout .deck) p upd S
-unfolding made machineAfter turn
+unfolding madeAs machineAfter turn
 commit-reached bytes m b t p upd ts S step =
     let d = t .layout .deck in
     let n = length (m .pool) in
     let x = load m in
-    let form = passed-formed bytes b (t .layout) (t .passes) in
-    let scope = passed-scoped bytes b (t .layout) (t .passes) in
+    let form = passed-formed New bytes b (t .layout) (t .passes) in
+    let scope = passed-scoped New bytes b (t .layout) (t .passes) in
     let r = commit-reaches d form scope (capacity n) x (fine bytes b m t) p upd ts S step in
     let k = r .place in
     let o = taken d (capacity n) x (commit k) in

@@ -17,6 +17,7 @@ use Rattle.expression.specs.Encoding.{goodNum}
 use Rattle.expression.specs.Reading.{Scope}
 use Rattle.expression.specs.Laws.Agreement.{num-agree, truth-agree}
 use Rattle.expression.specs.Laws.Bytes.{Bytes}
+use Rattle.deck.specs.declared.Form.the-variants as OfForm
 use Rattle.deck.specs.Deck.{Deck, Action, R, N, ruleAt}
 use Rattle.deck.specs.Layout.{taskScope}
 use Rattle.deck.specs.Laws.Formed.{Formed}
@@ -27,7 +28,7 @@ use Rattle.pool.specs.Places.{capacity}
 use Rattle.pool.specs.States.{Machine, Memory, load}
 use Rattle.pool.specs.Laws.Values.{channelsIn}
 use Rattle.pool.specs.Laws.Good.{Fine, fine-loaded}
-use Rattle.firing.specs.Firing.{pick, committed}
+use Rattle.firing.specs.Firing.{committed}
 use Rattle.firing.specs.Laws.Among.{among-pick}
 use Rattle.firing.specs.Laws.Commits.{pick-known, commit-falls, commit-fine}
 use Rattle.orders.specs.Calculus.{State, Agree, In, overridden, evaluate, updatesFrom, satisfies, defUpds, localUpds, changedBy}
@@ -254,6 +255,7 @@ pub runs-bounded : (bytes : List ℕ) (m : Memory) → Bytes bytes → (t : Test
     → Runs (t .layout .deck) n (systemOf (load m)) → n ≤ charge (t .layout .deck) (load m .pending)
 runs-bounded bytes m b t n r =
     let l = t .layout in
-    runs-from (l .deck) (passed-formed bytes b l (t .passes)) (passed-acyclic bytes b l (t .passes)) (passed-scoped bytes b l (t .passes))
+    runs-from (l .deck) (passed-formed OfForm.New bytes b l (t .passes)) (passed-acyclic OfForm.New bytes b l (t .passes))
+    (passed-scoped OfForm.New bytes b l (t .passes))
     (capacity (length (m .pool))) n (load m) (fine-loaded (l .deck) m (t .good-before)) (systemOf (load m))
     (λ q lq. record { state = λ c lc. refl; pool = λ u. (λ h. h, λ h. h) }) r

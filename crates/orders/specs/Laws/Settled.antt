@@ -10,6 +10,7 @@ use Rattle.refusals.specs.Outcome.{Outcome, accepted}
 use Rattle.refusals.specs.Numbers.{budgetTooLarge}
 use Rattle.refusals.specs.Laws.Outcomes.{refused≢accepted, accepted-inj}
 use Rattle.expression.specs.Laws.Bytes.{Bytes}
+use Rattle.deck.specs.declared.Form.the-variants.{New}
 use Rattle.deck.specs.Deck.{Deck}
 use Rattle.deck.specs.Layout.{Layout}
 use Rattle.pool.specs.Places.{capacity}
@@ -21,7 +22,7 @@ use Rattle.firing.specs.Laws.Commits.{commit-fine}
 use Rattle.calls.specs.Calls as Calls
 use Rattle.calls.specs.Calls.{Answer, settled, spent, Settling, settling, oneMore}
 use Rattle.calls.specs.Laws.Settling.{settle-repeats}
-use Rattle.orders.specs.Calling.{commit, settle, made}
+use Rattle.orders.specs.Calling.{commit, settle, made, madeAs}
 use Rattle.orders.specs.Listed.{turn, turns, ending, Taken, taken, machineAfter}
 use Rattle.orders.specs.Order.{Accepted, yes-accepted}
 use Rattle.orders.specs.Laws.Agreement.{handed, made-agrees, settling-made, settling-ends}
@@ -44,17 +45,18 @@ pub record SettleSteps (bytes : List ℕ) (m : Memory) (b : ℕ) (a : Answer) (m
   pub answer : a ≡ cond (isEmpty (load m′ .pending)) (settled commits) (spent commits)
   pub ended : commits < b → isEmpty (load m′ .pending) ≡ true
 
-module _ (bytes : List ℕ) (b : Bytes bytes) (l : Layout) (passes : passing bytes ≡ accepted l) (n : ℕ) (long : goodLength n ≡ true) where
+module _ (bytes : List ℕ) (b : Bytes bytes) (l : Layout) (passes : passing New bytes ≡ accepted l)
+    (n : ℕ) (long : goodLength n ≡ true) where
   abbrev d : Deck
   d = l .deck
 
   commit-made : (x : Machine) → Fine d (capacity n) x → 0 < length (x .pending)
       → Accepted (Calls.commit bytes (store n x) 0 .answer)
       × (Calls.commit bytes (store n x) 0 .memory ≡ store n (committed d 0 x .machine))
-  unfolding made turn machineAfter
+  unfolding madeAs turn machineAfter
   commit-made x f some =
       let o = taken d (capacity n) x (commit 0) in
-      let same : Calls.commit bytes (store n x) 0 ≡ handed n x o = made-agrees bytes l passes n long x f (commit 0) in
+      let same : Calls.commit bytes (store n x) 0 ≡ handed n x o = made-agrees New bytes l passes n long x f (commit 0) in
       let goes = commit-taken d (capacity n) x 0 some in (
         subst (λ (z : Outcome Answer). Accepted z)
             (sym (ap (λ r. r .answer) same ∙ handed-answer n x o ∙ ap answered goes)) (yes-accepted _),
@@ -62,7 +64,7 @@ module _ (bytes : List ℕ) (b : Bytes bytes) (l : Layout) (passes : passing byt
       )
 
   fine-next : (x : Machine) → Fine d (capacity n) x → 0 < length (x .pending) → Fine d (capacity n) (committed d 0 x .machine)
-  fine-next x f h = commit-fine d (passed-formed bytes b l passes) (passed-acyclic bytes b l passes) (capacity n) 0 x f h
+  fine-next x f h = commit-fine d (passed-formed New bytes b l passes) (passed-acyclic New bytes b l passes) (capacity n) 0 x f h
 
   -- the commits of a settle so far
   abbrev Leads : Machine → Settling → Type 0
@@ -98,7 +100,7 @@ module _ (d : Deck) (C : ℕ) (x : Machine) (k : ℕ) (a : Answer) where
 
 pub settle-is-commits : (bytes : List ℕ) (m : Memory) (k : ℕ) → Bytes bytes → (a : Answer) → Calls.settle bytes m k .answer ≡ accepted a
     → SettleSteps bytes m k a (Calls.settle bytes m k .memory)
-unfolding made
+unfolding madeAs
 settle-is-commits bytes m k b a h =
     let t = accepted-tested bytes m (settle k) a h in
     let l = t .layout in
@@ -110,13 +112,13 @@ settle-is-commits bytes m k b a h =
     let o = taken d C x (settle k) in
     let back = store-load d m (t .good-before) in
     let same : Calls.settle bytes m k ≡ handed n x o = ap (λ z. Calls.settle bytes z k) (sym back)
-    ∙ made-agrees bytes l (t .passes) n (t .long) x f (settle k) in
+    ∙ made-agrees New bytes l (t .passes) n (t .long) x f (settle k) in
     let w = tells d C x k a (sym (ap (λ r. r .answer) same ∙ handed-answer n x o) ∙ h) in
     let s = settling d k x in
     let ends : ending x (turns d k x) ≡ s .machine = sym (settling-ends d k x) in
     let left : Calls.settle bytes m k .memory ≡ store n (s .machine) = ap (λ r. r .memory) same
     ∙ handed-memory n x o ∙ ap (store n) (w .after ∙ ends) in
-    let kept = turning d (passed-formed bytes b l (t .passes)) (passed-acyclic bytes b l (t .passes)) C k x f .fine in
+    let kept = turning d (passed-formed New bytes b l (t .passes)) (passed-acyclic New bytes b l (t .passes)) C k x f .fine in
     let fine-after = subst (λ (y : Machine). Fine d C y) ends kept in
     let loaded : load (Calls.settle bytes m k .memory) ≡ s .machine = ap load left ∙ load-store d n (s .machine) fine-after in
     let r = settle-repeats d k x in

@@ -6,8 +6,9 @@ use mathlib.Core.Bool.{not}
 use mathlib.Core.List.{List, [], _∷_}
 use Rattle.lists.specs.Lists.{firstOr}
 use Rattle.lists.specs.Laws.First.{first-none, first-found}
-use Rattle.refusals.specs.Outcome.{refused, accepted, _>>=_, outcomes}
+use Rattle.refusals.specs.Outcome.{refused, accepted, outcomes}
 use Rattle.refusals.specs.Numbers.{opensOutside, cyclicGraph, overcharged}
+use Rattle.deck.specs.declared.Form.{Form}
 use Rattle.deck.specs.Deck.{Deck, R, N}
 use Rattle.deck.specs.Layout.{Layout, read}
 use Rattle.graph.specs.Graph.{edge, reachesItself, cyclic}
@@ -55,28 +56,28 @@ above-bound [] n p e = absurd (subst IsAbove (sym e) tt)
 above-bound (x ∷ xs) n p e = (xs, ap (λ y. y ∷ xs) (ap placeOf e))
 
 -- bytes that were read
-module _ (bytes : List ℕ) (l : Layout) (e : read bytes ≡ accepted l) where
+module _ (f : Form) (bytes : List ℕ) (l : Layout) (e : read f bytes ≡ accepted l) where
   abbrev d : Deck
   d = l .deck
 
-  pub passing-6 : (p : ℕ) → firstOutside d ≡ p → p < N d → passing bytes ≡ refused opensOutside p
+  pub passing-6 : (p : ℕ) → firstOutside d ≡ p → p < N d → passing f bytes ≡ refused opensOutside p
   unfolding firstOutside judge outcomes
-  passing-6 p h k = passing-judges bytes l e ∙ rw (first-found (N d) p (outside d) h k .1)
+  passing-6 p h k = passing-judges f bytes l e ∙ rw (first-found (N d) p (outside d) h k .1)
 
   module _ (six : firstOutside d ≡ N d) where
-    pub passing-7 : (c : ℕ) → firstCycle d ≡ c → c < R d → passing bytes ≡ refused cyclicGraph c
+    pub passing-7 : (c : ℕ) → firstCycle d ≡ c → c < R d → passing f bytes ≡ refused cyclicGraph c
     unfolding firstCycle judge outcomes
-    passing-7 c h k = passing-judges bytes l e ∙ rw (none-outside d six, first-found (R d) c (cyclic d) h k .1)
+    passing-7 c h k = passing-judges f bytes l e ∙ rw (none-outside d six, first-found (R d) c (cyclic d) h k .1)
 
     module _ (seven : firstCycle d ≡ R d) where
-      pub passing-8 : (p : ℕ) → boundOf d ≡ Above p → passing bytes ≡ refused overcharged p
+      pub passing-8 : (p : ℕ) → boundOf d ≡ Above p → passing f bytes ≡ refused overcharged p
       unfolding boundOf judge outcomes
       passing-8 p h =
-          passing-judges bytes l e
+          passing-judges f bytes l e
           ∙ rw (none-outside d six, none-cyclic d seven, above-bound (aboveBound (carriedCharges d)) (largestCharge d) p h .1)
 
-      pub passing-whole : (n : ℕ) → boundOf d ≡ Within n → (passing bytes ≡ accepted l) × (largestCharge d ≡ n)
+      pub passing-whole : (n : ℕ) → boundOf d ≡ Within n → (passing f bytes ≡ accepted l) × (largestCharge d ≡ n)
       unfolding boundOf
       passing-whole n h =
           let b = within-bound (aboveBound (carriedCharges d)) (largestCharge d) n h in
-          (passing-judges bytes l e ∙ judge-clean l (none-outside d six) (none-cyclic d seven) (b .0), b .1)
+          (passing-judges f bytes l e ∙ judge-clean l (none-outside d six) (none-cyclic d seven) (b .0), b .1)

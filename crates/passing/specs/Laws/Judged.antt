@@ -16,6 +16,8 @@ use Rattle.lists.specs.Laws.Booleans.{and-both}
 use Rattle.refusals.specs.Outcome.{refused, accepted}
 use Rattle.refusals.specs.Numbers.{opensOutside}
 use Rattle.expression.specs.Laws.Bytes.{Bytes}
+use Rattle.deck.specs.declared.Form.{Form}
+use Rattle.deck.specs.declared.Form.the-variants.{Old, New}
 use Rattle.deck.specs.Deck.{Deck, R, M, N}
 use Rattle.deck.specs.Layout.{read, valueOf}
 use Rattle.deck.specs.Shape.{shapeOf}
@@ -72,31 +74,31 @@ module _ {s rules : List ℕ} (z : ZeroRules s rules) where
   pub rules-fit : RulesFit s (length rules)
   rules-fit h = omega (arith, size, z .fits h)
 
-module _ (s rules parts rules₀ : List ℕ) where
-  pub loaded-tabled : (k : Counted.Deck) → ZeroRules s rules₀ → Loads s rules rules₀ parts (replicate 64 0) (Whole k) → Bytes s
+module _ (f : Form) (s rules parts rules₀ : List ℕ) where
+  pub loaded-tabled : (k : Counted.Deck) → ZeroRules s rules₀ → Loads f s rules rules₀ parts (replicate 64 0) (Whole k) → Bytes s
       → WholeKnown s k rules parts
   loaded-tabled k z w b =
       let m = w .0 in
       let none : ℕ = 0 in
       let blank : Zeros rules₀ = subst Zeros (sym (z .zeros)) (zeros-table (z .size)) in
-      let t = tabled s m (w .1) rules₀ (replicate 64 0) blank (zeros-table 64) b (long z) (rules-fit z) (length-replicate 64 none) in
-      record {
-        tabled = rw (w .2, w .3, w .4) t;
-        read = marked-read s m (w .1) ∙ ap accepted (sym (marked-layout s m (w .1)));
-        bytes = b;
-      }
+      let t = tabled f s m (w .1) rules₀ (replicate 64 0) blank (zeros-table 64) b (long z) (rules-fit z) (length-replicate 64 none) in
+      record { tabled = rw (w .2, w .3, w .4) t; bytes = b }
+
+  pub loaded-read : (k : Counted.Deck) → Loads f s rules rules₀ parts (replicate 64 0) (Whole k) → read f s ≡ accepted (layoutOf s)
+  loaded-read k w = marked-read f s (w .0) (w .1) ∙ ap accepted (sym (marked-layout f s (w .0) (w .1)))
 
   -- the memo is as long as the deck that was read needs it
-  pub loaded-memo : (k : Counted.Deck) {memo : List ℕ} → Loads s rules rules₀ parts (replicate 64 0) (Whole k) → ZeroMemo s memo
+  pub loaded-memo : (k : Counted.Deck) {memo : List ℕ} → Loads f s rules rules₀ parts (replicate 64 0) (Whole k) → ZeroMemo s memo
       → memo ≡ replicate (memoSize (k .rules)) 0
-  loaded-memo k w z = z (w .0) (w .1) ∙ ap (λ (c : Counted.Deck). replicate (memoSize (c .rules)) 0) (sym (w .2))
+  loaded-memo k w z = z f (w .0) (w .1) ∙ ap (λ (c : Counted.Deck). replicate (memoSize (c .rules)) 0) (sym (w .2))
 
-pub loaded-wrong : (s : List ℕ) (n p : ℕ) → markedSections s 0 ≡ refused n p → read s ≡ refused n p
+pub loaded-wrong : (f : Form) (s : List ℕ) (n p : ℕ) → markedSections f s 0 ≡ refused n p → read f s ≡ refused n p
 unfolding valueOf
-loaded-wrong s n p e = read-marked s ∙ ap (λ o. valueOf (mapGot unmarked o)) e
+loaded-wrong f s n p e = read-marked f s ∙ ap (λ o. valueOf (mapGot unmarked o)) e
 
-pub wrong-place : (s : List ℕ) (n p : ℕ) → read s ≡ refused n p → p ≤ 65536
-wrong-place s n p e = omega (arith, read-place s n p e)
+pub wrong-place : (f : Form) (s : List ℕ) (n p : ℕ) → read f s ≡ refused n p → p ≤ 65536
+wrong-place Old s n p e = omega (arith, read-place Old s n p e)
+wrong-place New s n p e = omega (arith, read-place New s n p e)
 
 -- ---- the searches
 
@@ -203,33 +205,34 @@ module _ (s rules parts : List ℕ) (k : Counted.Deck) (t : Tabled s k rules par
   bound-same : boundOf (shape rules parts k) ≡ boundOf whole
   bound-same = ap boundOf shape-is ∙ shape-bound (t .sets) (t .ranged)
 
-  module _ (r : read s ≡ accepted (layoutOf s)) where
+  module _ (f : Form) (r : read f s ≡ accepted (layoutOf s)) where
     pub outside-none : (p : ℕ) → p ≡ firstOutside whole → k .parts ≤ p → firstOutside whole ≡ N whole
     unfolding firstOutside outside
     outside-none p e h =
         first-whole (λ p. not (within whole p (openingValues whole))) (N whole) p e (omega (arith, h, t .counts .parts))
 
-    pub outside-refused : (p : ℕ) → p ≡ firstOutside whole → p < k .parts → passing s ≡ refused opensOutside p
-    outside-refused p e h = passing-6 s (layoutOf s) r p (sym e) (omega (arith, t .counts .parts))
+    pub outside-refused : (p : ℕ) → p ≡ firstOutside whole → p < k .parts → passing f s ≡ refused opensOutside p
+    outside-refused p e h = passing-6 f s (layoutOf s) r p (sym e) (omega (arith, t .counts .parts))
 
     module _ (six : firstOutside whole ≡ N whole) (memo : List ℕ) where
       seven : firstCycle (shape rules parts k) ≡ k .channels → firstCycle whole ≡ R whole
       seven e = sym first-same ∙ e ∙ t .counts .channels
 
-      pub rules-refused : (n p : ℕ) → JudgesRules rules parts memo k (Refused n p) → passing s ≡ refused n p
+      pub rules-refused : (n p : ℕ) → JudgesRules rules parts memo k (Refused n p) → passing f s ≡ refused n p
       rules-refused n p (inl x) =
-          passing-7 s (layoutOf s) r six p (sym first-same ∙ x .1) (omega (arith, x .2, t .counts .channels))
+          passing-7 f s (layoutOf s) r six p (sym first-same ∙ x .1) (omega (arith, x .2, t .counts .channels))
           ∙ ap (λ m. refused m p) (sym (x .0))
       rules-refused n p (inr x) =
-          passing-8 s (layoutOf s) r six (seven (x .1)) p (sym bound-same ∙ x .2) ∙ ap (λ m. refused m p) (sym (x .0))
+          passing-8 f s (layoutOf s) r six (seven (x .1)) p (sym bound-same ∙ x .2) ∙ ap (λ m. refused m p) (sym (x .0))
 
-      pub rules-passed : Bytes s → (c : Counted.Deck) (n : ℕ) → JudgesRules rules parts memo k (Passing c n) → Passed s rules parts memo c n
+      pub rules-passed : Bytes s → (c : Counted.Deck) (n : ℕ) → JudgesRules rules parts memo k (Passing c n)
+          → Passed f s rules parts memo c n
       rules-passed b c n x =
-          let w = passing-whole s (layoutOf s) r six (seven (x .1)) n (sym bound-same ∙ x .2) in
-          subst (λ c. Passed s rules parts memo c n) (sym (x .0))
+          let w = passing-whole f s (layoutOf s) r six (seven (x .1)) n (sym bound-same ∙ x .2) in
+          subst (λ c. Passed f s rules parts memo c n) (sym (x .0))
           (record { passes = w .0; largest = w .1; tabled = t; acyclic = x .3; charges = x .4; bytes = b })
 
-      pub rules-judged : Bytes s → (r : Judged) → JudgesRules rules parts memo k r → Judges s rules parts memo r
+      pub rules-judged : Bytes s → (r : Judged) → JudgesRules rules parts memo k r → Judges f s rules parts memo r
       rules-judged b (Passing c n) x = rules-passed b c n x
       rules-judged b (Refused n p) x = rules-refused n p x
 

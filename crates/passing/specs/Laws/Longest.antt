@@ -1,6 +1,6 @@
--- "The longest deck that can pass has 42,883 bytes": one of that length passes. Assumes nothing.
+-- The longest deck that can pass has 25,987 bytes, and the longest old one 42,883: one of each length passes. Assumes nothing.
 use Prim.Native.Nat.{ℕ, zero, suc, _+_, _<_, _≤_}
-use mathlib.Core.Path.{_≡_, refl, sym, _∙_, ap, ap₂}
+use mathlib.Core.Path.{_≡_, refl, _∙_, ap}
 use mathlib.Core.Bool.{Bool, true, false, _&&_, cond}
 use mathlib.Core.List.{List, [], _∷_, map}
 use native.Mathlib.Omega.{arith}
@@ -12,10 +12,12 @@ use Rattle.refusals.specs.Outcome.{accepted}
 use Rattle.expression.specs.Syntax.{Num, own, negation, Truth, constant, opposite}
 use Rattle.expression.specs.Encoding.{encodingExpressions}
 use Rattle.expression.specs.Values.{evaluation}
-use Rattle.deck.specs.Limits.{limits}
+use Rattle.deck.specs.declared.Form.{Form}
+use Rattle.deck.specs.declared.Form.the-variants.{Old, New}
+use Rattle.deck.specs.Limits.{longest}
 use Rattle.deck.specs.Deck.{Action, Rule, Part, Deck, M, N, ruleAt, targets, carries, active, decks}
 use Rattle.deck.specs.Layout.{layouts}
-use Rattle.deck.specs.Encoding.{encode, wellFormed, encodings}
+use Rattle.deck.specs.Encoding.{encode, wellFormed, suits, encodings}
 use Rattle.deck.specs.Laws.Formed.{formed}
 use Rattle.deck.specs.Laws.Reading.{layoutOf, read-encode}
 use Rattle.graph.specs.Graph.{cyclic, graphs}
@@ -42,97 +44,126 @@ opposed (suc n) = opposite (opposed n)
 unfoldable pub fullAction : Action
 fullAction = map (λ t. record { target = t; value = negated 62 }) (28 ∷ 29 ∷ 30 ∷ 31 ∷ [])
 
-unfoldable pub fullRule : Rule
-fullRule = record { events = below 8; default = fullAction; everywhere = false; condition = opposed 63; action = fullAction }
+-- a new deck has no default action
+unfoldable pub fullDefault : Form → Action
+fullDefault Old = fullAction
+fullDefault New = []
+
+unfoldable pub fullRule : Form → Rule
+fullRule f = record { events = below 8; default = fullDefault f; everywhere = false; condition = opposed 63; action = fullAction }
 
 unfoldable pub fullPart : Part
 fullPart = record { opening = replicate 32 (pos 0); carried = below 64; limit = opposed 63 }
 
-unfoldable pub longest : Deck
-longest = record { labels = replicate 32 33; rules = replicate 64 fullRule; parts = replicate 16 fullPart }
+unfoldable pub longestDeck : Form → Deck
+longestDeck f = record { labels = replicate 32 33; rules = replicate 64 (fullRule f); parts = replicate 16 fullPart }
 
--- ---- 1 to 7, by computing
+-- to open the definitions above, on an `unfolding` line
+unfoldable full : Unit {0}
+unfolding negated opposed fullAction fullDefault fullRule fullPart longestDeck
+full = tt
 
-longest-formed : wellFormed longest ≡ true
-unfolding negated opposed fullAction fullRule fullPart longest lists decks layouts encodings encodingExpressions
-longest-formed = refl
+-- ---- 1 to 7 and 20, by computing
 
-pub longest-length : length (encode longest) ≡ limits .deck
-unfolding negated opposed fullAction fullRule fullPart longest lists decks layouts encodings encodingExpressions
-longest-length = refl
+longest-formed : (f : Form) → wellFormed (longestDeck f) ≡ true
+unfolding full lists decks layouts encodings encodingExpressions
+longest-formed Old = refl
+longest-formed New = refl
 
-longest-opens : outside longest ≡ []
-unfolding negated opposed fullAction fullRule fullPart longest lists decks pools updates checks evaluation
-longest-opens = refl
+longest-suits : (f : Form) → suits f (longestDeck f) ≡ true
+unfolding full lists decks layouts encodings encodingExpressions
+longest-suits Old = refl
+longest-suits New = refl
 
-longest-acyclic : cyclic longest ≡ []
-unfolding negated opposed fullAction fullRule fullPart longest lists decks graphs
-longest-acyclic = refl
+pub longest-length : (f : Form) → length (encode (longestDeck f)) ≡ longest f
+unfolding full lists decks layouts encodings encodingExpressions
+longest-length Old = refl
+longest-length New = refl
+
+longest-opens : (f : Form) → outside (longestDeck f) ≡ []
+unfolding full lists decks pools updates checks evaluation
+longest-opens Old = refl
+longest-opens New = refl
+
+longest-acyclic : (f : Form) → cyclic (longestDeck f) ≡ []
+unfolding full lists decks graphs
+longest-acyclic Old = refl
+longest-acyclic New = refl
 
 -- ---- 8: nothing listens to what a rule sets
-
-known : KnownTargets longest
-known = known-targets longest (formed longest longest-formed)
-
-acyclic : Acyclic longest
-acyclic = no-cycle known .0 longest-acyclic
-
-counts : (M longest ≡ 64) × (N longest ≡ 16)
-unfolding longest decks
-counts = (refl, refl)
-
-every-rule : (r : ℕ) → r < M longest → ruleAt longest r ≡ fullRule
-unfolding longest decks
-every-rule r h = getD-replicate 64 r fullRule _ h
 
 -- what a rule sets
 abbrev set : List ℕ
 set = targets fullAction
 
-no-listener : any (λ c. member c (fullRule .events)) set ≡ false
-unfolding fullAction fullRule lists decks
-no-listener = refl
+-- it is not empty
+set-adds : (x : ℕ) → unlessEmpty set x ≡ x
+unfolding fullAction lists decks unlessEmpty
+set-adds x = refl
 
 and-false : (b : Bool) → (b && false) ≡ false
 and-false true = refl
 and-false false = refl
 
-none-active : (p : ℕ) → active longest p set ≡ []
-unfolding active
-none-active p =
-    none-below (λ r. carries longest p r && any (λ c. member c (ruleAt longest r .events)) set) (M longest) .1
-    (λ r h.
-    ap (λ (x : Rule). carries longest p r && any (λ c. member c (x .events)) set) (every-rule r h)
-    ∙ ap (λ b. carries longest p r && b) no-listener
-    ∙ and-false (carries longest p r))
+module _ (f : Form) where
+  abbrev d : Deck
+  d = longestDeck f
 
-set-charge : (p : ℕ) → p < N longest → updateCharge longest p set ≡ 1
-unfolding lists
-set-charge p l = charge-of-update known acyclic p set l ∙ ap (λ rs. 1 + sum (ruleCharge longest p) rs) (none-active p)
+  known : KnownTargets d
+  known = known-targets d (formed d (longest-formed f))
 
--- its default action and its action, both here
-two-updates : (p : ℕ) (x : Rule) → ℕ
-two-updates p x =
-    unlessEmpty (targets (x .default)) (updateCharge longest p (targets (x .default)))
-    + sum (λ q. unlessEmpty (targets (x .action)) (updateCharge longest q (targets (x .action))))
-    (cond (x .everywhere) (others longest p) (p ∷ []))
+  acyclic : Acyclic d
+  acyclic = no-cycle known .0 (longest-acyclic f)
 
--- what a rule sets is not empty
-set-adds : (x : ℕ) → unlessEmpty set x ≡ x
-unfolding fullAction lists decks unlessEmpty
-set-adds x = refl
+  every-rule : (r : ℕ) → r < M d → ruleAt d r ≡ fullRule f
+  unfolding longestDeck decks
+  every-rule r h = getD-replicate 64 r (fullRule f) _ h
 
-full-updates : (p : ℕ) → p < N longest → two-updates p fullRule ≡ 2
-unfolding two-updates fullRule lists
-full-updates p l =
-    let one = set-adds (updateCharge longest p set) ∙ set-charge p l in
-    ap (λ x. x + (x + 0)) one
+  no-listener : any (λ c. member c (fullRule f .events)) set ≡ false
+  unfolding fullAction fullRule lists decks
+  no-listener = refl
 
-full-charge : (p r : ℕ) → p < N longest → r < M longest → ruleCharge longest p r ≡ 2
-unfolding two-updates receivers
-full-charge p r l m = charge-of-rule known acyclic p r l ∙ ap (two-updates p) (every-rule r m) ∙ full-updates p l
+  none-active : (p : ℕ) → active d p set ≡ []
+  unfolding active
+  none-active p =
+      none-below (λ r. carries d p r && any (λ c. member c (ruleAt d r .events)) set) (M d) .1
+      (λ r h.
+      ap (λ (x : Rule). carries d p r && any (λ c. member c (x .events)) set) (every-rule r h)
+      ∙ ap (λ b. carries d p r && b) no-listener
+      ∙ and-false (carries d p r))
 
-pub longest-passes : passing (encode longest) ≡ accepted (layoutOf longest)
-longest-passes =
-    passing-judges (encode longest) (layoutOf longest) (read-encode longest longest-formed)
-    ∙ judge-clean (layoutOf longest) longest-opens longest-acyclic (none-above longest .1 (λ p r l m c. omega (arith, full-charge p r l m)))
+  set-charge : (p : ℕ) → p < N d → updateCharge d p set ≡ 1
+  unfolding lists
+  set-charge p l = charge-of-update known acyclic p set l ∙ ap (λ rs. 1 + sum (ruleCharge d p) rs) (none-active p)
+
+  -- an action and its update's charge
+  adds : (p : ℕ) → Action → ℕ
+  adds p a = unlessEmpty (targets a) (updateCharge d p (targets a))
+
+  -- a default action and an action, both here
+  two-updates : (p : ℕ) (x : Rule) → ℕ
+  two-updates p x = adds p (x .default) + sum (λ q. adds q (x .action)) (cond (x .everywhere) (others d p) (p ∷ []))
+
+  one-added : (p : ℕ) → p < N d → adds p fullAction ≡ 1
+  unfolding adds
+  one-added p l = set-adds (updateCharge d p set) ∙ set-charge p l
+
+  at-most-one : (p : ℕ) → p < N d → (g : Form) → adds p (fullDefault g) ≤ 1
+  unfolding adds fullDefault targets unlessEmpty lists
+  at-most-one p l Old = omega (arith, one-added p l)
+  at-most-one p l New = omega arith
+
+  full-updates : (p : ℕ) → p < N d → two-updates p (fullRule f) ≤ 2
+  unfolding two-updates fullRule lists
+  full-updates p l = omega (arith, at-most-one p l f, one-added p l)
+
+  full-charge : (p r : ℕ) → p < N d → r < M d → ruleCharge d p r ≤ 2
+  unfolding two-updates adds receivers
+  full-charge p r l m =
+      let e = charge-of-rule known acyclic p r l ∙ ap (two-updates p) (every-rule r m) in
+      omega (arith, e, full-updates p l)
+
+  pub longest-passes : passing f (encode d) ≡ accepted (layoutOf d)
+  longest-passes =
+      passing-judges f (encode d) (layoutOf d) (read-encode f d (longest-formed f) (longest-suits f))
+      ∙ judge-clean (layoutOf d) (longest-opens f) (longest-acyclic f) (none-above d .1 (λ p r l m c. omega (arith, full-charge p r l m)))

@@ -7,7 +7,8 @@ use lib.ListN.{take}
 use Rattle.refusals.specs.Outcome.{Outcome, refused, accepted, _>>=_, _>>_, requireNone, outcomes}
 use Rattle.refusals.specs.Laws.Outcomes.{refused≢accepted, accepted-inj}
 use Rattle.refusals.specs.Numbers.{opensOutside, cyclicGraph, overcharged}
-use Rattle.deck.specs.Limits.{limits}
+use Rattle.deck.specs.declared.Form.{Form}
+use Rattle.deck.specs.Limits.{longest}
 use Rattle.deck.specs.Layout.{Layout, read}
 use Rattle.deck.specs.Laws.Prefix.{read-prefix}
 use Rattle.graph.specs.Graph.{cyclic}
@@ -52,41 +53,41 @@ pub judge-clean : (l : Layout) → outside (l .deck) ≡ [] → cyclic (l .deck)
 unfolding judge outcomes
 judge-clean l a b c = rw (a, b, c)
 
-passing-is : (bytes : List ℕ) → passing bytes ≡ (read bytes >>= judge)
+passing-is : (f : Form) (bytes : List ℕ) → passing f bytes ≡ (read f bytes >>= judge)
 unfolding checks judge
-passing-is bytes = refl
+passing-is f bytes = refl
 
-module _ (bytes : List ℕ) where
-  pub passing-judges : (l : Layout) → read bytes ≡ accepted l → passing bytes ≡ judge l
+module _ (f : Form) (bytes : List ℕ) where
+  pub passing-judges : (l : Layout) → read f bytes ≡ accepted l → passing f bytes ≡ judge l
   unfolding outcomes
-  passing-judges l e = passing-is bytes ∙ ap (λ o. o >>= judge) e
+  passing-judges l e = passing-is f bytes ∙ ap (λ o. o >>= judge) e
 
   -- where reading refuses, the deck is refused with the same number and place
-  pub passing-reads : (n p : ℕ) → read bytes ≡ refused n p → passing bytes ≡ refused n p
+  pub passing-reads : (n p : ℕ) → read f bytes ≡ refused n p → passing f bytes ≡ refused n p
   unfolding outcomes
-  passing-reads n p e = passing-is bytes ∙ ap (λ o. o >>= judge) e
+  passing-reads n p e = passing-is f bytes ∙ ap (λ o. o >>= judge) e
 
   -- what passes was read, and no test found anything
-  pub passing-clean : (l : Layout) → passing bytes ≡ accepted l
-      → (read bytes ≡ accepted l) × (outside (l .deck) ≡ []) × (cyclic (l .deck) ≡ []) × (aboveBound (carriedCharges (l .deck)) ≡ [])
-  passing-clean l e = of (read bytes) refl
+  pub passing-clean : (l : Layout) → passing f bytes ≡ accepted l
+      → (read f bytes ≡ accepted l) × (outside (l .deck) ≡ []) × (cyclic (l .deck) ≡ []) × (aboveBound (carriedCharges (l .deck)) ≡ [])
+  passing-clean l e = of (read f bytes) refl
     where
       Clean : Layout → Type 0
       Clean k =
-          (read bytes ≡ accepted k) × (outside (k .deck) ≡ []) × (cyclic (k .deck) ≡ []) × (aboveBound (carriedCharges (k .deck)) ≡ [])
+          (read f bytes ≡ accepted k) × (outside (k .deck) ≡ []) × (cyclic (k .deck) ≡ []) × (aboveBound (carriedCharges (k .deck)) ≡ [])
 
-      by : (k : Layout) → read bytes ≡ accepted k → judge k ≡ accepted l → Judged k (judge k) → Clean l
-      by k r q (clean a b c f) = subst Clean (accepted-inj (sym f ∙ q)) (r, a, b, c)
+      by : (k : Layout) → read f bytes ≡ accepted k → judge k ≡ accepted l → Judged k (judge k) → Clean l
+      by k r q (clean a b c h) = subst Clean (accepted-inj (sym h ∙ q)) (r, a, b, c)
       by k r q (found-6 p ps a f) = refused≢accepted (sym f ∙ q)
       by k r q (found-7 p ps a b f) = refused≢accepted (sym f ∙ q)
       by k r q (found-8 p ps a b c f) = refused≢accepted (sym f ∙ q)
 
-      of : (o : Outcome Layout) → read bytes ≡ o → Clean l
+      of : (o : Outcome Layout) → read f bytes ≡ o → Clean l
       of (refused n p) r = refused≢accepted (sym (passing-reads n p r) ∙ e)
       of (accepted k) r = by k r (sym (passing-judges k r) ∙ e) (judged k)
 
 -- ---- one byte more than the longest deck decides
 
-pub passing-prefix : (bytes : List ℕ) → passing (take (suc (limits .deck)) bytes) ≡ passing bytes
-passing-prefix bytes =
-    passing-is (take (suc (limits .deck)) bytes) ∙ ap (λ o. o >>= judge) (read-prefix bytes) ∙ sym (passing-is bytes)
+pub passing-prefix : (f : Form) (bytes : List ℕ) → passing f (take (suc (longest f)) bytes) ≡ passing f bytes
+passing-prefix f bytes =
+    passing-is f (take (suc (longest f)) bytes) ∙ ap (λ o. o >>= judge) (read-prefix f bytes) ∙ sym (passing-is f bytes)

@@ -12,6 +12,7 @@ use Rattle.refusals.specs.Outcome.{refused, accepted}
 use Rattle.refusals.specs.Laws.Outcomes.{refused≢accepted, number-inj, place-inj}
 use Rattle.refusals.specs.Numbers.{opensOutside, cyclicGraph, overcharged}
 use Rattle.expression.specs.Laws.Bytes.{Bytes}
+use Rattle.deck.specs.declared.Form.{Form}
 use Rattle.deck.specs.Deck.{Deck, R, N}
 use Rattle.deck.specs.Layout.{Layout, read}
 use Rattle.deck.specs.Laws.Formed.{Formed, formed}
@@ -117,17 +118,17 @@ module _ (d : Deck) where
   same (for-8 a x) (for-8 b y) = (a ∙ sym b, same-8 x y)
 
 -- bytes that were read
-module _ (bytes : List ℕ) (b : Bytes bytes) (l : Layout) (e : read bytes ≡ accepted l) where
+module _ (f : Form) (bytes : List ℕ) (b : Bytes bytes) (l : Layout) (e : read f bytes ≡ accepted l) where
   -- what the tests come to, in the document's words
-  found : Judged l (judge l) → Passes bytes l ⊎ ((n : ℕ) × (p : ℕ) × (judge l ≡ refused n p) × RefusedFor (l .deck) n p)
-  found (clean _ _ _ q) = inl (passes-exactly bytes b l .0 (passing-judges bytes l e ∙ q))
+  found : Judged l (judge l) → Passes f bytes l ⊎ ((n : ℕ) × (p : ℕ) × (judge l ≡ refused n p) × RefusedFor (l .deck) n p)
+  found (clean _ _ _ q) = inl (passes-exactly f bytes b l .0 (passing-judges f bytes l e ∙ q))
   found (found-6 p ps x q) = inr (opensOutside, p, q, for-6 refl (first-outside (l .deck) p ps x))
   found (found-7 p ps x y q) =
-      inr (cyclicGraph, p, q, for-7 refl (first-cyclic (l .deck) (formed (l .deck) (read-formed bytes b l e)) p ps x y))
+      inr (cyclicGraph, p, q, for-7 refl (first-cyclic (l .deck) (formed (l .deck) (read-formed f bytes b l e)) p ps x y))
   found (found-8 p ps x y z q) =
-      inr (overcharged, p, q, for-8 refl (first-over (l .deck) (formed (l .deck) (read-formed bytes b l e)) p ps x y z))
+      inr (overcharged, p, q, for-8 refl (first-over (l .deck) (formed (l .deck) (read-formed f bytes b l e)) p ps x y z))
 
-  passes-not : {n p : ℕ} → Passes bytes l → RefusedFor (l .deck) n p → ⊥
+  passes-not : {n p : ℕ} → Passes f bytes l → RefusedFor (l .deck) n p → ⊥
   passes-not h (for-6 _ x) = outside-not-within (l .deck) x (h .opens)
   passes-not {p} h (for-7 _ x) = h .acyclic p (x .itself)
   passes-not h (for-8 _ x) =
@@ -135,23 +136,23 @@ module _ (bytes : List ℕ) (b : Bytes bytes) (l : Layout) (e : read bytes ≡ a
       omega (arith, f .above, h .charged (f .part) (f .rule) (f .part-known) (f .rule-known) (f .carried))
 
   -- refused with a number and place exactly where the document says so
-  pub refused-exactly : (n p : ℕ) → (passing bytes ≡ refused n p) ↔ RefusedFor (l .deck) n p
+  pub refused-exactly : (n p : ℕ) → (passing f bytes ≡ refused n p) ↔ RefusedFor (l .deck) n p
   refused-exactly n p = (
     λ h.
-        ⊎-elim (λ x. refused≢accepted (sym h ∙ passes-exactly bytes b l .1 x))
+        ⊎-elim (λ x. refused≢accepted (sym h ∙ passes-exactly f bytes b l .1 x))
         (λ x.
-        let q = sym (x .2) ∙ sym (passing-judges bytes l e) ∙ h in
+        let q = sym (x .2) ∙ sym (passing-judges f bytes l e) ∙ h in
         subst₂ (RefusedFor (l .deck)) (number-inj q) (place-inj q) (x .3))
         (found (judged l)),
     λ r.
         ⊎-elim (λ x. absurd (passes-not x r))
         (λ x.
         let q = same (l .deck) (x .3) r in
-        passing-judges bytes l e ∙ x .2 ∙ ap₂ refused (q .0) (q .1))
+        passing-judges f bytes l e ∙ x .2 ∙ ap₂ refused (q .0) (q .1))
         (found (judged l)),
   )
 
-  pub place-of-6 : (p : ℕ) → passing bytes ≡ refused opensOutside p → OpensOutside (l .deck) p
+  pub place-of-6 : (p : ℕ) → passing f bytes ≡ refused opensOutside p → OpensOutside (l .deck) p
   place-of-6 p h = of (refused-exactly opensOutside p .0 h)
     where
       of : RefusedFor (l .deck) opensOutside p → OpensOutside (l .deck) p
@@ -159,7 +160,7 @@ module _ (bytes : List ℕ) (b : Bytes bytes) (l : Layout) (e : read bytes ≡ a
       of (for-7 n _) = absurd (omega arith)
       of (for-8 n _) = absurd (omega arith)
 
-  pub place-of-7 : (p : ℕ) → passing bytes ≡ refused cyclicGraph p → LowestCycle (l .deck) p
+  pub place-of-7 : (p : ℕ) → passing f bytes ≡ refused cyclicGraph p → LowestCycle (l .deck) p
   place-of-7 p h = of (refused-exactly cyclicGraph p .0 h)
     where
       of : RefusedFor (l .deck) cyclicGraph p → LowestCycle (l .deck) p
@@ -167,7 +168,7 @@ module _ (bytes : List ℕ) (b : Bytes bytes) (l : Layout) (e : read bytes ≡ a
       of (for-7 _ x) = x
       of (for-8 n _) = absurd (omega arith)
 
-  pub place-of-8 : (p : ℕ) → passing bytes ≡ refused overcharged p → Overcharged (l .deck) p
+  pub place-of-8 : (p : ℕ) → passing f bytes ≡ refused overcharged p → Overcharged (l .deck) p
   place-of-8 p h = of (refused-exactly overcharged p .0 h)
     where
       of : RefusedFor (l .deck) overcharged p → Overcharged (l .deck) p

@@ -9,8 +9,10 @@ use borrow.Author.Tests.{leb-true}
 use lib.ListN.{length, getD, drop, length-append, length-drop, length-map}
 use Rattle.lists.specs.Lists.{all, flatMap, lists}
 use Rattle.lists.specs.Laws.Booleans.{and-left}
-use Rattle.refusals.specs.Outcome.{accepted}
+use Rattle.refusals.specs.Outcome.{Outcome, refused, accepted}
+use Rattle.refusals.specs.Laws.Outcomes.{refused≢accepted}
 use Rattle.expression.specs.Laws.Bytes.{Bytes}
+use Rattle.deck.specs.declared.Form.{Form}
 use Rattle.deck.specs.Deck.{Deck, R, M, N, ruleAt}
 use Rattle.deck.specs.Reader.{times, value}
 use Rattle.deck.specs.Layout.{truths, Layout, expression, ownOnly, taskScope, action, valueOf, read}
@@ -24,14 +26,21 @@ use Rattle.deck.specs.Laws.TablesRead.{Zeros, zeros-drop, column, noRule, noPar
 use Rattle.deck.specs.Laws.RuleCount.{rule-count}
 use Rattle.deck.specs.Laws.Reading.{reads-exactly}
 use Rattle.deck.specs.Laws.Formed.{formed}
+use Rattle.deck.specs.Laws.Forms.{forms-agree}
+use Rattle.deck.specs.declared.Form.the-variants.{Old, New}
 use Rattle.deck.specs.Laws.Scoped.{scoped}
 use Rattle.charge.specs.Memo.{OthersKept}
-use Rattle.passing.specs.Tabled.{layoutIn, layoutOf, PartTable, RuleTable, TablesIn, Tabled}
+use Rattle.passing.specs.Tabled.{layoutIn, firstRead, layoutOf, PartTable, RuleTable, TablesIn, Tabled}
 
 -- what was read is what the bytes hold
-pub layout-read : (s : List ℕ) (l : Layout) → read s ≡ accepted l → layoutOf s ≡ l
+pub layout-read : (f : Form) (s : List ℕ) (l : Layout) → read f s ≡ accepted l → layoutOf s ≡ l
 unfolding layoutOf
-layout-read s l e = ap layoutIn e
+layout-read f s l e = go f (read New s) refl e
+  where
+    go : (f : Form) (o : Outcome Layout) → read New s ≡ o → read f s ≡ accepted l → layoutIn (firstRead o (read Old s)) ≡ l
+    go f (accepted k) i e = forms-agree New f s k l i e
+    go Old (refused n p) i e = ap layoutIn e
+    go New (refused n p) i e = refused≢accepted (sym i ∙ e)
 
 -- one of a list
 each-at : {A : Type 0} (P : A → Type 0) (none : A) (l : List A) (i : ℕ) → Each P l → i < length l → P (getD l i none)
@@ -66,20 +75,20 @@ some-channel d h =
     (and-left t3 (all (goodRule (R d)) (d .rules))
     (and-left t4 (inRange 1 16 (N d)) (and-left t5 (all (goodPart (R d) (M d)) (d .parts)) h))))))
 
-module _ (s : List ℕ) (m : Marked) (e : markedSections s 0 ≡ accepted (record { value = m; rest = []; at = length s })) where
-  pub marked-read : read s ≡ accepted (unmarked m)
+module _ (f : Form) (s : List ℕ) (m : Marked) (e : markedSections f s 0 ≡ accepted (record { value = m; rest = []; at = length s })) where
+  pub marked-read : read f s ≡ accepted (unmarked m)
   unfolding valueOf
-  marked-read = read-marked s ∙ ap (λ o. valueOf (mapGot unmarked o)) e
+  marked-read = read-marked f s ∙ ap (λ o. valueOf (mapGot unmarked o)) e
 
   pub marked-layout : layoutOf s ≡ unmarked m
-  marked-layout = layout-read s (unmarked m) marked-read
+  marked-layout = layout-read f s (unmarked m) marked-read
 
   -- the deck with its offsets forgotten, and the counts before its sections
   abbrev d : Deck
   d = unmarked m .deck
 
   counts : (length (m .front .rules) ≡ m .front .count) × (length (m .parts) ≡ m .count) × (length (m .front .labels) ≡ m .front .channels)
-  counts = counts-read s (record { value = m; rest = []; at = length s }) e
+  counts = counts-read f s (record { value = m; rest = []; at = length s }) e
 
   rules-count : M d ≡ m .front .count
   unfolding M unmarked
@@ -94,7 +103,7 @@ module _ (s : List ℕ) (m : Marked) (e : markedSections s 0 ≡ accepted (recor
   channels-count = counts .2
 
   points : Each (RulePoints (m .front .channels) s) (m .front .rules) × Each (PartPoints (m .front .channels) s) (m .parts)
-  points = deck-points s (record { value = m; rest = []; at = length s }) e
+  points = deck-points f s (record { value = m; rest = []; at = length s }) e
 
   rule-at : (r : ℕ) → r < M d → RulePoints (R d) s (getD (m .front .rules) r noRule)
   rule-at r h =
@@ -200,9 +209,9 @@ module _ (s : List ℕ) (m : Marked) (e : markedSections s 0 ≡ accepted (recor
         → Tabled s kept rules parts
     unfolding unmarked
     tabled b hr fits hp =
-        let well = reads-exactly s b d .reads (unmarked m, marked-read, refl) .0 in
-        let f = formed d well in
-        let told : M d ≡ rulesAt s = rules-count ∙ rule-count s (record { value = m; rest = []; at = length s }) e .1 in
+        let well = reads-exactly f s b d .reads (unmarked m, marked-read, refl) .0 in
+        let sound = formed d well in
+        let told : M d ≡ rulesAt s = rules-count ∙ rule-count f s (record { value = m; rest = []; at = length s }) e .1 in
         subst (λ l. TablesIn s l kept rules parts) (sym marked-layout)
         (record {
           counts = record {
@@ -212,13 +221,13 @@ module _ (s : List ℕ) (m : Marked) (e : markedSections s 0 ≡ accepted (recor
             second = refl;
             third = refl;
             some = some-channel d well;
-            formed = f;
+            formed = sound;
             scoped = scoped d well;
           };
-          ruleTable = rule-table hr (omega (arith, told, fits (omega (arith, told, f .rules))));
-          partTable = part-table hp (f .parts);
+          ruleTable = rule-table hr (omega (arith, told, fits (omega (arith, told, sound .rules))));
+          partTable = part-table hp (sound .parts);
           sets = tables-read m rules₀ parts₀ zr zp;
-          ranged = ranged-marked s (record { value = m; rest = []; at = length s }) e;
+          ranged = ranged-marked f s (record { value = m; rest = []; at = length s }) e;
         })
 
 -- ---- a column that the pass leaves free

@@ -16,5 +16,5 @@ zero-rules s {few = false} f e = record { size = 512; zeros = refl; long = omega
 
 pub zero-memo : (s : List ℕ) {b few : Bool} → FewRules s b → b ≡ few → ZeroMemo s (replicate (cond few 256 1024) 0)
 unfolding memoSize
-zero-memo s f e m r =
-    ap (λ b. replicate (cond b 256 1024) 0) (sym e ∙ f .right (record { value = m; rest = []; at = length s }) r)
+zero-memo s f e form m r =
+    ap (λ b. replicate (cond b 256 1024) 0) (sym e ∙ f .right form (record { value = m; rest = []; at = length s }) r)

@@ -5,10 +5,11 @@ use Rattle.playback.proofs.play_text.Statement.{statement}
 use Rattle.playback.proofs.play_text.Tie as tie
 
 abbrev Inv-loop : tie.InvT-loop
-Inv-loop deck pool₀ numbers₀ out₀ fd now₀ reads₀ pool numbers out now reads = (now .host .length ≤ 700000) × (now .waiting ≤ 65536)
+Inv-loop deck₀ pool₀ numbers₀ out₀ fd now₀ reads₀ deck pool numbers out now reads =
+    (now .host .length ≤ 700000) × (now .waiting ≤ 65536) × (now .size ≤ 50000)
 
 abbrev μ-loop : tie.MeasureT-loop
-μ-loop deck pool₀ numbers₀ out₀ fd now₀ reads₀ pool numbers out now reads = reads
+μ-loop deck₀ pool₀ numbers₀ out₀ fd now₀ reads₀ deck pool numbers out now reads = reads
 
 pub play-text-spec : {M : Type 1} → statement M
 play-text-spec =
@@ -16,8 +17,8 @@ play-text-spec =
     (tie.spec
     Inv-loop
     μ-loop
-    (λ c. c .before .pre)
-    (λ c κs. c .before .before .before .before .loop .inv)
+    (λ c. c .pre)
+    (λ c κs. c .before .before .before .before .before .loop .inv)
     (λ c. c .before .before .before .play-some .ensures)
     (λ c. omega arith)
     (λ c. omega arith)

@@ -34,7 +34,7 @@ fire-here-requires : tie.Need-fire-here-requires Inv-loop μ-loop
 fire-here-requires c κs =
     let l = c .before .before .before .before in
     let s = l .before .before .before .before .before .before .before in
-    (s .pre .0, l .loop .inv .2 .offering, s .pre .2, s .pre .3, c .before .before .before .loop-test .taken)
+    (s .pre .0, l .loop .inv .2 .offering, s .pre .2, s .pre .3, c .before .before .before .loop-test .taken, s .pre .4)
 
 -- the next rule of the set
 next-rule : (c : tie.After-lowest2 Inv-loop μ-loop) → let l = c .before .before .before .before .before .before .before .before .before .before .before .before in

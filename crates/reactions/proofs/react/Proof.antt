@@ -39,7 +39,7 @@ returns c =
 fire-all-here-requires : tie.Need-fire-all-here-requires
 fire-all-here-requires c κs =
     let s = c .before .before .before .before .before .before .before .before .before .before in
-    (s .pre .0 .tabled, offering-first (s .pre .0), s .pre .1, s .pre .2)
+    (s .pre .0 .tabled, offering-first (s .pre .0), s .pre .1, s .pre .2, s .pre .0 .none)
 
 fire-all-others-requires : tie.Need-fire-all-others-requires
 fire-all-others-requires c κs =

@@ -3,7 +3,7 @@
 use Prim.Native.Nat.{ℕ, _+_, _*_, _-_, _≤_, _<_}
 use mathlib.Core.Path.{_≡_, refl, sym, ap, ap₂, _∙_, subst}
 use mathlib.Core.Bool.{Bool, true, false, not, _&&_, cond}
-use mathlib.Core.List.{List, [], _∷_, _++_, map, append-nil}
+use mathlib.Core.List.{List, [], _∷_, _++_, map}
 use native.Mathlib.Omega.{arith}
 use lib.ListN.{length, getD, take, drop}
 use lib.IntN.{ℤ}
@@ -142,25 +142,24 @@ kind-here false h = refl
 -- ---- what a rule adds, case by case
 
 module _ (values : List ℤ) (p : ℕ) (r : Rule) where
-  pub here-wide : r .everywhere ≡ true → firedHere values p r ≡ sent values p p (r .default)
-  unfolding firedHere
-  here-wide e = rw e (append-nil _)
+  -- of a rule without default action
+  module _ (none : r .default ≡ []) where
+    -- by its kind and whether the condition holds
+    abbrev task : Bool → Bool → List Update
+    task everywhere h = cond (not everywhere && h) (sent values p p (r .action)) []
 
-  pub here-false : holds values p p r ≡ false → firedHere values p r ≡ sent values p p (r .default)
-  unfolding firedHere
-  here-false h = go (r .everywhere)
-    where
-      go : (e : Bool)
-          → sent values p p (r .default) ++ cond (not e && holds values p p r) (sent values p p (r .action)) []
-          ≡ sent values p p (r .default)
-      go true = append-nil _
-      go false = rw h (append-nil _)
+    here-action : firedHere values p r ≡ task (r .everywhere) (holds values p p r)
+    unfolding firedHere sent
+    here-action = ap (λ a. sent values p p a ++ task (r .everywhere) (holds values p p r)) none
 
-  pub here-true : r .everywhere ≡ false → holds values p p r ≡ true
-      → firedHere values p r ≡ sent values p p (r .default) ++ sent values p p (r .action)
-  unfolding firedHere
-  here-true e h =
-      ap₂ (λ x y. sent values p p (r .default) ++ cond (not x && y) (sent values p p (r .action)) []) e h
+    pub here-wide : r .everywhere ≡ true → firedHere values p r ≡ []
+    here-wide e = here-action ∙ ap (λ x. task x (holds values p p r)) e
+
+    pub here-false : r .everywhere ≡ false → holds values p p r ≡ false → firedHere values p r ≡ []
+    here-false e h = here-action ∙ ap₂ task e h
+
+    pub here-true : r .everywhere ≡ false → holds values p p r ≡ true → firedHere values p r ≡ sent values p p (r .action)
+    here-true e h = here-action ∙ ap₂ task e h
 
   pub there-here : (q : ℕ) → r .everywhere ≡ false → firedThere values p r q ≡ []
   unfolding firedThere
@@ -231,22 +230,11 @@ module _ {s : List ℕ} {k : Counted.Deck} {rules parts : List ℕ} {values : Li
   sound : (a : Action) → Formed.Sound (R d) a → Formed.Sound (k .channels) a
   sound a f = subst (λ n. Formed.Sound n a) (sym (x .tabled .counts .channels)) f
 
-  -- what the default action is lent
+  -- what a task of kind 0 is lent
   here : Lent (ownOnly (R d)) values p p own []
   here =
       subst (λ n. Lent (ownOnly (R d)) values p p (sliceOf n p values) []) (sym (x .tabled .counts .channels))
       (lent-own (R d) p p values (fits p (x .part)))
-
-  pub default-sound : Sound s (getD rules (8 * r + 4) 0) (length own) 0 (k .channels)
-  default-sound =
-      action-sound here s (getD rules (8 * r + 4) 0) _ (x .tabled .ruleTable .default r known)
-      (sound (rule .default) (x .tabled .counts .formed .default r))
-
-  pub default-offered : {e : Deck} {C : ℕ} {held₀ held : Held} {q₀ q : Queue} {m : List ℕ}
-      → Offers s (getD rules (8 * r + 4) 0) own [] p e C held₀ q₀ m held q
-      → Offered e C (sent values p p (rule .default)) held₀ q₀ m held q
-  default-offered o =
-      action-offered here s (getD rules (8 * r + 4) 0) _ (x .tabled .ruleTable .default r known) (x .tabled .counts .scoped .default r) o
 
   pub is-wide : getD rules (8 * r + 3) 0 ≡ 1 → rule .everywhere ≡ true
   is-wide h = kind-wide (rule .everywhere) (sym (x .tabled .sets .kind r) ∙ h)

@@ -9,6 +9,7 @@ use lib.Dec.{leb}
 use lib.ListN.{getD}
 use borrow.Author.Tests.{leb-true}
 use Rattle.refusals.specs.Outcome.{accepted}
+use Rattle.deck.specs.declared.Form.{Form}
 use Rattle.deck.specs.Reader.{Got}
 use Rattle.deck.specs.Marks.{Marked, markedSections, rulesAt, FewRules}
 use Rattle.deck.specs.Laws.RuleCount.{rule-count}
@@ -16,8 +17,8 @@ use Rattle.reading.proofs.few_rules.Statement.{statement}
 use Rattle.reading.proofs.few_rules.Tie as tie
 
 -- no deck: the answer is no
-none : {s : List ℕ} → ((g : Got Marked) → markedSections s 0 ≡ accepted g → ⊥) → FewRules s false
-none f = record { right = λ g e. absurd (f g e); low = λ e. absurd (false≢true e) }
+none : {s : List ℕ} → ((f : Form) (g : Got Marked) → markedSections f s 0 ≡ accepted g → ⊥) → FewRules s false
+none h = record { right = λ f g e. absurd (h f g e); low = λ e. absurd (false≢true e) }
 
 returns-3 : tie.Need-returns-3
 returns-3 c =
@@ -25,7 +26,7 @@ returns-3 c =
     let told : c .wide2 .result ≡ rulesAt s
     = c .wide2 .ensures ∙ ap (λ k. getD s (1 + k) 0) (c .before .before .before .wide .ensures) in
     record {
-      right = λ g e. ap (λ n. leb n 16) (told ∙ sym (rule-count s g e .1));
+      right = λ f g e. ap (λ n. leb n 16) (told ∙ sym (rule-count f s g e .1));
       low = λ e. omega (arith, told, leb-true (c .wide2 .result) 16 e);
     }
 
@@ -33,11 +34,11 @@ pub few-rules-spec : {M : Type 1} → statement M
 few-rules-spec =
     tie.close
     (tie.spec
-    (λ c. none (λ g e. omega (arith, c .if1 .taken, rule-count _ g e .0)))
+    (λ c. none (λ f g e. omega (arith, c .if1 .taken, rule-count f _ g e .0)))
     (λ c. search needs)
     (λ c κs. search needs)
     (λ c. omega (arith, c .before .before .if1 .left))
-    (λ c. none (λ g e. omega (arith, c .if2 .taken, c .before .wide .ensures, rule-count _ g e .0)))
+    (λ c. none (λ f g e. omega (arith, c .if2 .taken, c .before .wide .ensures, rule-count f _ g e .0)))
     (λ c. search needs)
     (λ c. omega (arith, c .before .if2 .left))
     (λ c κs. search needs)

@@ -29,7 +29,8 @@ returns c =
     let k = c .before in
     let n = k .before .before in
     let a = n .before .before .before .args in
-    rw (c .no-front .ensures, k .enum-told .given .1) (no-channels (a .s .now) (rw (k .enum-told .given .1) at (n .number-at .ensures)))
+    rw (c .no-front .ensures, k .enum-told .given .1)
+    (no-channels (a .form) (a .s .now) (rw (k .enum-told .given .1) at (n .number-at .ensures)))
 
 labels-at-requires : tie.Need-labels-at-requires
 labels-at-requires c κs =
@@ -57,7 +58,8 @@ returns-2 c =
     let read = rw (k .first .given .1) at (n .number-at .ensures) in
     let got = got-value (a .s .now) (k .first .given .0 .0) (n .number-at .result .value) read in
     rw (c .no-front2 .ensures, t .enum-told2 .given .1)
-    (no-labels (a .s .now) (n .number-at .result .value) (k .first .given .0 .0) got (rw (t .enum-told2 .given .1) at (l .labels-at .ensures)))
+    (no-labels (a .form) (a .s .now) (n .number-at .result .value) (k .first .given .0 .0) got
+    (rw (t .enum-told2 .given .1) at (l .labels-at .ensures)))
 
 add-number-at-2 : tie.Need-add-number-at-2
 add-number-at-2 c = search needs
@@ -87,7 +89,7 @@ returns-3 c =
     let got = got-value (a .s .now) (k .first .given .0 .0) (n .number-at .result .value) read in
     let labels = rw (j .after .given .1) at (l .labels-at .ensures) in
     rw (c .no-front3 .ensures, t .enum-told3 .given .1)
-    (no-rules (a .s .now) (n .number-at .result .value) (k .first .given .0 .0) got
+    (no-rules (a .form) (a .s .now) (n .number-at .result .value) (k .first .given .0 .0) got
     (labels .0) (j .after .given .0 .0) (labels .1)
     (rw (t .enum-told3 .given .1) at (m .number-at2 .ensures)))
 
@@ -131,7 +133,7 @@ returns-4 c =
     let count = rw (i .count .given .1) at (m .number-at2 .ensures) in
     let gotCount = got-value (a .s .now) (i .count .given .0 .0) (m .number-at2 .result .value) count in
     let rules = number-below 0 65 (drop (j .after .given .0 .0) (a .s .now)) (j .after .given .0 .0) _ gotCount in
-    front-read (a .s .now) (n .number-at .result .value) (k .first .given .0 .0) got
+    front-read (a .form) (a .s .now) (n .number-at .result .value) (k .first .given .0 .0) got
     (labels .0) (j .after .given .0 .0) (labels .1)
     (m .number-at2 .result .value) (i .count .given .0 .0) gotCount
     _ _ (r .rules-at .result)

@@ -31,7 +31,7 @@ returns c =
     let f = k .before .before .before .before in
     let a = f .before .before .before .before .before .args in
     let told = k .enum-told .given .1 in
-    rw (c .wrong .ensures, told) (no-front (a .deck .now) (rw told at (f .front-at .ensures)))
+    rw (c .wrong .ensures, told) (no-front (a .form) (a .deck .now) (rw told at (f .front-at .ensures)))
 
 add-number-at : tie.Need-add-number-at
 add-number-at c = search needs
@@ -61,7 +61,7 @@ returns-2 c =
     let told = t .enum-told2 .given .1 in
     let front = rw (k .first .given .1) at (f .front-at .ensures) in
     rw (c .wrong2 .ensures, told)
-    (no-parts (a .deck .now) (front .0) (k .first .given .0 .0) (front .1) (rw told at (n .number-at .ensures)))
+    (no-parts (a .form) (a .deck .now) (front .0) (k .first .given .0 .0) (front .1) (rw told at (n .number-at .ensures)))
 
 parts-at-requires : tie.Need-parts-at-requires
 parts-at-requires c κs =
@@ -107,10 +107,11 @@ returns-3 c =
     let front = rw (k .first .given .1) at (f .front-at .ensures) in
     let count = rw (i .second .given .1) at (n .number-at .ensures) in
     let got = got-value s (i .second .given .0 .0) (n .number-at .result .value) count in
-    let same = same-parts s (front .0) (n .number-at .result .value) (i .second .given .0 .0) (front .3 .0) (front .3 .1) in
+    let same = same-parts (start .args .form) s (front .0) (n .number-at .result .value) (i .second .given .0 .0)
+    (front .3 .0) (front .3 .1) in
     let told = t .enum-told3 .given .1 in
     rw (c .wrong3 .ensures, told)
-    (bad-part s (front .0) third (front .1) (n .number-at .result .value) (i .second .given .0 .0) got
+    (bad-part (start .args .form) s (front .0) third (front .1) (n .number-at .result .value) (i .second .given .0 .0) got
     (same ∙ rw told at (p .parts-at .ensures)))
 
 same-length-5 : tie.Need-same-length-5
@@ -134,9 +135,11 @@ returns-4 c =
     let count = rw (i .second .given .1) at (n .number-at .ensures) in
     let got = got-value s (i .second .given .0 .0) (n .number-at .result .value) count in
     let end = l .last .given .0 .0 in
-    let same = same-parts s (front .0) (n .number-at .result .value) (i .second .given .0 .0) (front .3 .0) (front .3 .1) in
+    let same = same-parts (start .args .form) s (front .0) (n .number-at .result .value) (i .second .given .0 .0)
+    (front .3 .0) (front .3 .1) in
     let read = rw (l .last .given .1) at (p .parts-at .ensures) in
-    bytes-follow s (front .0) third (front .1) (n .number-at .result .value) (i .second .given .0 .0) got (read .0) end (same ∙ read .1) _ _
+    bytes-follow (start .args .form) s (front .0) third (front .1) (n .number-at .result .value) (i .second .given .0 .0) got
+    (read .0) end (same ∙ read .1) _ _
     (drop-cons s end 0 (c .if1 .taken))
 
 same-length-7 : tie.Need-same-length-7
@@ -160,11 +163,13 @@ returns-5 c =
     let count = rw (i .second .given .1) at (n .number-at .ensures) in
     let got = got-value s (i .second .given .0 .0) (n .number-at .result .value) count in
     let end = l .last .given .0 .0 in
-    let same = same-parts s (front .0) (n .number-at .result .value) (i .second .given .0 .0) (front .3 .0) (front .3 .1) in
+    let same = same-parts (start .args .form) s (front .0) (n .number-at .result .value) (i .second .given .0 .0)
+    (front .3 .0) (front .3 .1) in
     let read = rw (l .last .given .1) at (p .parts-at .ensures) in
     let full : end ≡ length s = omega (arith, read .2, c .if1 .left) in
     let past : length s ≤ end = omega (arith, c .if1 .left) in
-    let whole = sections-end s (front .0) third (front .1) (n .number-at .result .value) (i .second .given .0 .0) got (read .0) end (same ∙ read .1)
+    let whole = sections-end (start .args .form) s (front .0) third (front .1) (n .number-at .result .value) (i .second .given .0 .0) got
+    (read .0) end (same ∙ read .1)
     (drop-of-length-le s past) in (
       record { front = front .0; partsAt = third; count = n .number-at .result .value; parts = read .0 },
       rw full at whole,

@@ -28,7 +28,7 @@ returns c =
     let n = c .before .before .before in
     let a = n .before .before .args in
     let told = c .before .enum-told .given .1 in
-    rw (c .no-rule .ensures, told) (rule-fault (a .own) (drop (a .at) (a .s .now)) (a .at) (rw told at (n .number-at .ensures)))
+    rw (c .no-rule .ensures, told) (rule-fault (a .form) (a .own) (drop (a .at) (a .s .now)) (a .at) (rw told at (n .number-at .ensures)))
 
 rising-at-requires : tie.Need-rising-at-requires
 rising-at-requires c κs =
@@ -55,11 +55,11 @@ returns-2 c =
     let read = rw (k .first .given .1) at (n .number-at .ensures) in
     let got = got-value (a .s .now) (k .first .given .0 .0) (n .number-at .result .value) read in
     rw (c .no-rule2 .ensures, told)
-    (events-fault (a .own) (a .s .now) (a .at) (n .number-at .result .value) (k .first .given .0 .0) got
+    (events-fault (a .form) (a .own) (a .s .now) (a .at) (n .number-at .result .value) (k .first .given .0 .0) got
     (rw told at (e .rising-at .ensures)))
 
-action-at-requires : tie.Need-action-at-requires
-action-at-requires c κs = search needs
+default-at-requires : tie.Need-default-at-requires
+default-at-requires c κs = search needs
 
 enum-known-third : tie.Need-enum-known-third
 enum-known-third c = search needs
@@ -83,9 +83,9 @@ returns-3 c =
     let got = got-value (a .s .now) (k .first .given .0 .0) (n .number-at .result .value) read in
     let events = rw (j .second .given .1) at (e .rising-at .ensures) in
     rw (c .no-rule3 .ensures, told)
-    (default-fault (a .own) (a .s .now) (a .at) (n .number-at .result .value) (k .first .given .0 .0) got
+    (default-fault (a .form) (a .own) (a .s .now) (a .at) (n .number-at .result .value) (k .first .given .0 .0) got
     (events .0) (j .second .given .0 .0) (events .1)
-    (rw told at (d .action-at .ensures)))
+    (rw told at (d .default-at .ensures)))
 
 task-at-requires : tie.Need-task-at-requires
 task-at-requires c κs = search needs
@@ -102,11 +102,11 @@ returns-4 c =
     let read = rw (k .first .given .1) at (n .number-at .ensures) in
     let got = got-value (a .s .now) (k .first .given .0 .0) (n .number-at .result .value) read in
     let events = rw (j .second .given .1) at (e .rising-at .ensures) in
-    let default = rw (i .third .given .1) at (d .action-at .ensures) in
+    let default = rw (i .third .given .1) at (d .default-at .ensures) in
     let t = c .task-at .result in
-    rule-reads (a .own) (a .s .now) (a .at) (n .number-at .result .value) (k .first .given .0 .0) got
+    rule-reads (a .form) (a .own) (a .s .now) (a .at) (n .number-at .result .value) (k .first .given .0 .0) got
     (events .0) (j .second .given .0 .0) (events .1)
-    (default .0) (i .third .given .0 .0) (e .rising-at .result .mask) (d .action-at .result .mask)
+    (default .0) (i .third .given .0 .0) (e .rising-at .result .mask) (d .default-at .result .mask)
     (t .kind) (t .condition) (t .action) (t .targets) (t .step)
     (events .3) (default .3) (default .1)
     (c .task-at .ensures)
@@ -126,7 +126,7 @@ rule-at-spec =
     enum-told-2
     no-rule-requires-2
     returns-2
-    action-at-requires
+    default-at-requires
     enum-known-third
     enum-told-3
     no-rule-requires-3

@@ -14,13 +14,13 @@ use Rattle.rule_reading.proofs.rules_at.Statement.{statement}
 use Rattle.rule_reading.proofs.rules_at.Tie as tie
 
 abbrev Inv-loop : tie.InvT-loop
-Inv-loop s at own count table₀ place₀ i₀ table place i =
+Inv-loop s at own count table₀ form place₀ i₀ table place i =
     (i ≤ count) × (place ≤ length s) × (length table ≡ length table₀)
-    × Turns (times count (markedRule own) (drop at s) at) (times (count - i) (markedRule own) (drop place s) place)
+    × Turns (times count (markedRule form own) (drop at s) at) (times (count - i) (markedRule form own) (drop place s) place)
     (Filled ruleRow 8 i table₀ table)
 
 abbrev μ-loop : tie.MeasureT-loop
-μ-loop s at own count table₀ place₀ i₀ table place i = count - i
+μ-loop s at own count table₀ form place₀ i₀ table place i = count - i
 
 loop-holds : tie.Need-loop-holds Inv-loop μ-loop
 loop-holds c = (omega arith, c .before .before .pre .0, refl, rw sub-zero (turns-none (filled-none ruleRow 8 _)))
@@ -44,7 +44,7 @@ returns c =
     let a = l .before .before .before .args in
     let read = rw (c .enum-told .given .1) at (r .rule-at .ensures) in
     rw (c .enum-told .given .1)
-    (times-fault (markedRule (a .own)) _ _ (a .s .now) (l .loop .place) (r .before .loop-test .taken) read (l .loop .inv .3))
+    (times-fault (markedRule (a .form) (a .own)) _ _ (a .s .now) (l .loop .place) (r .before .loop-test .taken) read (l .loop .inv .3))
 
 mul-from : tie.Need-mul-from Inv-loop μ-loop
 mul-from c = search needs
@@ -91,7 +91,7 @@ loop-again c =
       omega arith,
       read .2,
       search needs,
-      times-next (markedRule (a .own)) _ _ (a .s .now) (l .loop .place) (r .before .loop-test .taken) (read .1)
+      times-next (markedRule (a .form) (a .own)) _ _ (a .s .now) (l .loop .place) (r .before .loop-test .taken) (read .1)
           (λ ms f.
           filled-next ruleRow 8 (l .loop .i) (a .table .now) (l .loop .table) ms (read .0) refl f
           (r .rule-at .result .row)
@@ -109,7 +109,8 @@ returns-2 c =
     let l = c .before in
     let a = l .before .before .before .args in
     let e : l .loop .i ≡ a .count = omega arith in
-    let all = times-end (markedRule (a .own)) (a .count) (l .loop .i) (a .s .now) (l .loop .place) (c .loop-test .left) (l .loop .inv .1) (l .loop .inv .3) in
+    let all = times-end (markedRule (a .form) (a .own)) (a .count) (l .loop .i) (a .s .now) (l .loop .place) (c .loop-test .left)
+    (l .loop .inv .1) (l .loop .inv .3) in
     (all .0, all .1, all .2, filled-all ruleRow 8 (l .loop .i) (a .count) (a .table .now) (l .loop .table) (all .0) e (all .3))
 
 pub rules-at-spec : {M : Type 1} → statement M

@@ -12,7 +12,7 @@ use Rattle.deck.specs.declared.Deck as Counted
 use Rattle.pool.specs.Places.{capacity}
 use Rattle.pool.specs.States.{Memory, load, store}
 use Rattle.passing.specs.Tabled.{deckOf}
-use Rattle.calls.specs.Calls.{Answer, reply, tested, settling, settle}
+use Rattle.calls.specs.Calls.{Answer, reply, tested, settling, settle, settleAs}
 use Rattle.calls.specs.Answers.{replyOf, replyAt}
 use Rattle.call_tests.specs.Tested.{Passed}
 use Rattle.settle_call.specs.Settled.{settledAs, Settles}
@@ -21,7 +21,7 @@ use Rattle.call_tests.specs.Laws.StoredMemory.{left-memory}
 module _ (s : List ℕ) (m : Memory) (budget : ℕ) where
   pub settle-over : (d : Deck) → tested s m ≡ accepted d → 65535 < budget
       → settle s m budget ≡ replyOf (refused budgetTooLarge 0) (m .state) (m .pool)
-  unfolding settle reply outcomes
+  unfolding settleAs reply outcomes
   settle-over d e h = rw (e, lt-leb budget 65535 h)
 
   settle-done : (d : Deck) → tested s m ≡ accepted d → budget ≤ 65535
@@ -29,7 +29,7 @@ module _ (s : List ℕ) (m : Memory) (budget : ℕ) where
         answer = accepted (settledAs (settling d budget (load m)));
         memory = store (length (m .pool)) (settling d budget (load m) .machine);
       }
-  unfolding settle reply outcomes settledAs
+  unfolding settleAs reply outcomes settledAs
   settle-done d e h = rw (e, le-leb budget 65535 h)
 
 -- ---- behind the tests

@@ -171,6 +171,7 @@ module _ {s : List ℕ} {k : Counted.Deck} {rules parts memo : List ℕ} {held :
       let t = w .taken in
       record {
         tabled = w .tabled;
+        none = w .none;
         ready = w .ready;
         slots = w .left;
         room = w .room;
@@ -373,6 +374,7 @@ module _ {s : List ℕ} {k : Counted.Deck} {rules parts memo index : List ℕ} {
     commit-finishing =
         record {
           tabled = w .tabled;
+          none = w .none;
           ready = record { tables = w .ready .tables; memo = l .memo };
           acyclic = w .acyclic;
           assignable = l .assignable;

@@ -162,6 +162,7 @@ module _ {s : List ℕ} {k : Counted.Deck} {rules parts : List ℕ} {C first : �
         committing =
             record {
               tabled = w .tabled;
+              none = w .none;
               ready = w .ready;
               acyclic = w .acyclic;
               slots = w .slots;
@@ -291,6 +292,7 @@ module _ {s : List ℕ} {k : Counted.Deck} {rules parts : List ℕ} {C first : �
             committing =
                 record {
                   tabled = w .tabled;
+                  none = w .none;
                   ready = record { tables = w .ready .tables; memo = c .memo };
                   acyclic = w .acyclic;
                   slots = slotsAt first (made + 1) z₀;

@@ -1,4 +1,4 @@
-//! The pass over a deck's bytes into tables, with refusals 1 to 6, 18 and 19.
+//! The pass over a deck's bytes into tables, with refusals 1 to 6 and 18 to 20.
 
 use super::expression::{is_number, is_truth, truth, Scope, Values};
 use super::faults::{first_fault, Fault, Type};
@@ -7,6 +7,13 @@ use reaction::Refusal;
 pub const CHANNELS: usize = 32;
 pub const RULES: usize = 64;
 pub const PARTS: usize = 16;
+
+/// The forms of a deck: the rules of an old one may have default actions.
+#[derive(Clone, Copy, PartialEq, Eq)]
+pub enum Form {
+    Old,
+    New,
+}
 
 /// What a rule is: sets as bits, expressions and actions as offsets.
 #[derive(Clone, Copy, Default)]
@@ -75,10 +82,10 @@ impl Tables {
         }
     }
 
-    /// Reads a deck, first fault first (1 to 4, 18 and 19), then tests that nothing follows (5), and the limits on the
-    /// opening values (6).
-    pub fn read(&mut self, deck: &[u8]) -> Result<(), Refusal> {
-        let mut reader = Reader { deck, at: 0 };
+    /// Reads a deck of this form, first fault first (1 to 4, 18 and 19, of a new deck 20), then tests that nothing
+    /// follows (5), and the limits on the opening values (6).
+    pub fn read(&mut self, deck: &[u8], form: Form) -> Result<(), Refusal> {
+        let mut reader = Reader { deck, at: 0, form };
         self.channels = reader.number(1, CHANNELS)?;
         for _ in 0..self.channels {
             reader.number(33, 126)?;
@@ -133,16 +140,32 @@ impl Tables {
         truth(deck, self.part[part].limit_at, values, values).0
     }
 
+    /// The rules with a default action.
+    pub fn with_default(&self) -> u64 {
+        let has_default = |&rule: &usize| self.rule[rule].default_targets != 0;
+        (0..self.rules).filter(has_default).fold(0, |set, rule| set | 1 << rule)
+    }
+
+    /// The offset of a rule, from its event count on; that of the parts for the number behind the last rule.
+    pub fn rule_at(&self, rule: usize) -> usize {
+        if rule == self.rules {
+            return self.parts_at;
+        }
+        let Rule { events, default_at, .. } = self.rule[rule];
+        default_at - events.count_ones() as usize - 1
+    }
+
     /// The carried rules that have one of these channels among their events.
     pub fn listening(&self, channels: u32) -> u64 {
         bits(channels.into()).fold(0, |set, channel| set | self.listeners[channel])
     }
 }
 
-/// A deck and the offset of the next unread byte.
+/// A deck, the offset of the next unread byte, and the form that it is read in.
 struct Reader<'a> {
     deck: &'a [u8],
     at: usize,
+    form: Form,
 }
 
 impl Reader<'_> {
@@ -234,12 +257,23 @@ impl Reader<'_> {
         Ok(targets)
     }
 
+    /// The set of a default action's targets; a new deck has none, which its count says.
+    fn default_action(&mut self, scope: Scope) -> Result<u32, Refusal> {
+        if self.form == Form::Old {
+            return self.action(scope);
+        }
+        match self.number(0, 4)? {
+            0 => Ok(0),
+            _ => Err(Refusal { number: 20, place: self.at as u32 - 1 }),
+        }
+    }
+
     fn rule(&mut self, channels: usize) -> Result<Rule, Refusal> {
         let count = self.number(1, 8)?;
         let events = self.rising(count, channels)? as u32;
         let scope = Scope { own: channels as u16, far: 0 };
         let default_at = self.at;
-        let default_targets = self.action(scope)?;
+        let default_targets = self.default_action(scope)?;
         let everywhere = self.number(0, 1)? == 1;
         let scope = Scope { far: if everywhere { scope.own } else { 0 }, ..scope };
         let condition_at = self.truth_expression(scope)?;

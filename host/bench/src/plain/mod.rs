@@ -1,10 +1,13 @@
-//! A plain engine, written for speed: the same six calls on the same memory, with nothing proved.
+//! A plain engine, written for speed: the same seven calls on the same memory, with nothing proved.
 //!
 //! One pass over the deck fills tables of masks and offsets; charges are worked out for all parts at once;
 //! equal updates are found by a hash table; a settle tests once and moves places down once. The tables and
 //! the hash table are kept between calls for their memory alone: every call tests afresh what it is given.
+//!
+//! An engine for old decks makes the same calls on those, under the old check: what a converted deck must give.
 
 mod charge;
+mod conversion;
 mod deck;
 mod expression;
 mod faults;
@@ -12,7 +15,8 @@ mod firing;
 mod state;
 
 use charge::Charges;
-use deck::{Tables, CHANNELS};
+use conversion::Conversion;
+use deck::{Form, Tables, CHANNELS, RULES};
 use firing::{assign, Passed, Queue};
 use reaction::raw::{Memory, PLACE};
 use reaction::Refusal;
@@ -21,12 +25,14 @@ use state::{Memo, Seen};
 /// The most places of a pool, and the largest budget.
 const MOST_PLACES: u32 = 65_535;
 
-/// The engine: memory that its calls work in.
+/// The engine: the form of its decks, and memory that its calls work in.
 pub struct Engine {
+    form: Form,
     tables: Tables,
     charges: Charges,
     memo: Memo,
     seen: Seen,
+    converted: Vec<u8>,
 }
 
 /// A refusal whose place is 0.
@@ -43,12 +49,40 @@ impl Default for Engine {
 impl Engine {
     /// An engine with empty tables.
     pub const fn new() -> Engine {
-        Engine { tables: Tables::new(), charges: Charges::new(), memo: Memo::new(), seen: Seen::new() }
+        Engine::for_form(Form::New)
     }
 
-    /// Tests a deck: 1 to 8, 18 and 19.
+    /// An engine whose calls take old decks.
+    pub const fn for_old_decks() -> Engine {
+        Engine::for_form(Form::Old)
+    }
+
+    const fn for_form(form: Form) -> Engine {
+        Engine {
+            form,
+            tables: Tables::new(),
+            charges: Charges::new(),
+            memo: Memo::new(),
+            seen: Seen::new(),
+            converted: Vec::new(),
+        }
+    }
+
+    /// What it is called in a table.
+    pub fn name(&self) -> &'static str {
+        match self.form {
+            Form::New => "plain",
+            Form::Old => "plain, on the old deck",
+        }
+    }
+
+    /// Tests a deck: 1 to 8 and 18 to 20.
     fn pass(&mut self, deck: &[u8]) -> Result<(), Refusal> {
-        self.tables.read(deck)?;
+        self.pass_as(deck, self.form)
+    }
+
+    fn pass_as(&mut self, deck: &[u8], form: Form) -> Result<(), Refusal> {
+        self.tables.read(deck, form)?;
         self.charges.measure(&self.tables)
     }
 
@@ -192,6 +226,20 @@ impl Engine {
         }
         memory.pending = queue.close();
         Ok((commits, memory.pending == 0))
+    }
+
+    /// Writes an old deck as a new one to the front of the buffer. The answer is the new deck's length.
+    pub fn convert(&mut self, deck: &[u8], buffer: &mut [u8]) -> Result<u32, Refusal> {
+        self.pass_as(deck, Form::Old)?;
+        let conversion = Conversion::new(deck, &self.tables);
+        if conversion.rules() > RULES {
+            return Err(refuse(21));
+        }
+        self.converted.clear();
+        conversion.write(&mut self.converted);
+        let front = buffer.get_mut(..self.converted.len()).ok_or(refuse(22))?;
+        front.copy_from_slice(&self.converted);
+        Ok(self.converted.len() as u32)
     }
 }
 

@@ -127,6 +127,7 @@ fn kind(case: &Case) -> &'static str {
     match case {
         Case::Check { .. } => "check",
         Case::Section { .. } => "section",
+        Case::Convert { .. } => "convert",
         Case::Start { .. } => "start",
         Case::Run { .. } => "list of calls",
         Case::Memory { .. } => "call on any memory",

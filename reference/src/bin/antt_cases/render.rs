@@ -17,6 +17,10 @@ pub fn theorems(name: &str, case: &Case) -> String {
             theorem(name, &format!("line (check {})", bytes(deck)), &format!("ascii \"{line}\\n\""))
         }
         Case::Section { deck, number, answer } => section(name, deck, *number, answer),
+        Case::Convert { deck, length, answer } => {
+            let wanted = answer.as_ref().map_or_else(refused, |new| format!("accepted {}", bytes(new)));
+            theorem(name, &format!("conversion {} {length}", bytes(deck)), &wanted)
+        }
         Case::Start { deck, pool_before, answer, state, pool_after } => theorem(
             name,
             &format!("replied (start {} {})", bytes(deck), numbers(pool_before)),

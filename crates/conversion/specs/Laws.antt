@@ -1,0 +1,4 @@
+-- Laws of the conversion.
+pub mod Renumbering
+pub mod Formed
+pub mod Tests

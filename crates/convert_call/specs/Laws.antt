@@ -1,0 +1,2 @@
+-- Laws of the converter in code.
+pub mod Answers

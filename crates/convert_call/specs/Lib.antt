@@ -1,0 +1,3 @@
+-- The converter in code.
+pub mod Passed
+pub mod Laws
