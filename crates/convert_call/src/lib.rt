@@ -38,9 +38,7 @@ fn write(deck: &[u8], counts: Deck, numbers: &[u8], buffer: &mut [u8]) -> Conver
         return declined(refusals::BUFFER_TOO_SHORT);
     }
     let end = converting::copy(&made, 0, length, buffer, 0);
-    ConvertAnswer::Converted {
-        length: end as u32,
-    }
+    ConvertAnswer::Converted { length: end as u32 }
 }
 
 // The conversion of a deck that the old check passed.
@@ -59,7 +57,12 @@ fn convert_passed(deck: &[u8], counts: Deck, buffer: &mut [u8]) -> ConvertAnswer
 }
 
 // The conversion with a table of rules and a memo that are long enough for the deck.
-pub fn convert_with(deck: &[u8], buffer: &mut [u8], rules: &mut [u64], memo: &mut [u32]) -> ConvertAnswer
+pub fn convert_with(
+    deck: &[u8],
+    buffer: &mut [u8],
+    rules: &mut [u64],
+    memo: &mut [u32],
+) -> ConvertAnswer
     requires { ⌜ ZeroRules (now deck) (now rules) × ZeroMemo (now deck) (now memo) ⌝ }
     ensures { λ r. ⌜ replyOf (convertOutcome r) (now (buffer .exit)) ≡ convert (now (deck .entry)) (now (buffer .entry)) ⌝ }
 {

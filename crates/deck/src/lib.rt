@@ -105,7 +105,8 @@ impl Deck {
         + Deck::PARTS * Deck::PART_BYTES;
 
     // An old deck's rules have default actions.
-    pub const OLD_BYTES: usize = Deck::BYTES + Deck::RULES * (Deck::ACTION_BYTES - Deck::NO_ACTION_BYTES);
+    pub const OLD_BYTES: usize = Deck::BYTES
+        + Deck::RULES * (Deck::ACTION_BYTES - Deck::NO_ACTION_BYTES);
 
     // The constants and the definitions agree.
     pub fn limits() -> Limits

@@ -52,7 +52,12 @@ fn end_call(
 }
 
 // A conversion: the calls that follow have the new deck, with state and pool as they are.
-fn end_convert(deck: &mut [u8; HELD], progress: Progress, length: u32, out: &mut [u8; ROOM]) -> Progress
+fn end_convert(
+    deck: &mut [u8; HELD],
+    progress: Progress,
+    length: u32,
+    out: &mut [u8; ROOM],
+) -> Progress
     requires { ⌜ (progress .host .length ≤ 700000) × (progress .waiting ≤ 65536) × (progress .size ≤ 50000) ⌝ }
     ensures { λ r. ⌜ (r .host .length ≤ 700000) × (r .waiting ≤ 65536) × (r .size ≤ 50000) ⌝ }
 {
