@@ -62,7 +62,7 @@ fn run(name: &str, case: &Case) -> String {
     let called = format!("ran (run {deck} (replicate {pool_length} (pos 7)) {calls})");
     let mut text = theorem(name, &called, &wanted);
     if start.is_ok() {
-        let listed = format!("listing-of (passing {deck}) {pool_length} {calls}");
+        let listed = format!("listing-of (passing New {deck}) {pool_length} {calls}");
         text += &theorem(&format!("{name}-listed"), &listed, &wanted);
     }
     text
