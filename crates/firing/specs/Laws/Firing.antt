@@ -7,9 +7,9 @@ use lib.Dec.{ltb, leb}
 use lib.ListN.{length, length-map}
 use lib.IntN.{ℤ}
 use borrow.Author.Tests.{lt-ltb, le-leb}
-use Rattle.lists.specs.Lists.{lists, all, flatMap, distinct}
+use Rattle.lists.specs.Lists.{lists, all, flatMap, distinct, member}
 use Rattle.lists.specs.Laws.Booleans.{and-both}
-use Rattle.lists.specs.Laws.Alls.{all-none, all-cons, all-append, all-cond, all-every, all-map, all-flatMap}
+use Rattle.lists.specs.Laws.Alls.{all-none, all-cons, all-append, all-cond, all-map, all-flatMap}
 use Rattle.lists.specs.Laws.Members.{all-member}
 use Rattle.deck.specs.Deck.{Deck, Action, Rule, R, N, ruleAt, targets, active}
 use Rattle.deck.specs.Laws.Formed.{Formed, Sound}
@@ -26,43 +26,56 @@ unfolding targets evaluated
 sent-channels values p q a = map-map (λ x. x .channel) (evaluated values p q) a
 
 module _ (d : Deck) (values : List ℤ) (p : ℕ) where
-  -- A test that holds for whatever an action sends holds for whatever a firing adds
-  module _ (test : Update → Bool) (lp : p < N d)
-      (default : (q r : ℕ) → q < N d → all test (sent values p q (ruleAt d r .default)) ≡ true)
-      (action : (q r : ℕ) → q < N d → all test (sent values p q (ruleAt d r .action)) ≡ true) where
-    here-all : (r : ℕ) → all test (firedHere values p (ruleAt d r)) ≡ true
+  -- rule r is active at p for changed channels cs
+  abbrev ActiveFor : List ℕ → ℕ → Type 0
+  ActiveFor cs r = member r (active d p cs) ≡ true
+
+  -- A test that holds for whatever the active rules send holds for whatever a firing adds
+  module _ (test : Update → Bool) (lp : p < N d) (cs : List ℕ)
+      (default : (r : ℕ) → ActiveFor cs r → all test (sent values p p (ruleAt d r .default)) ≡ true)
+      (action : (q r : ℕ) → q < N d → ActiveFor cs r → all test (sent values p q (ruleAt d r .action)) ≡ true) where
+    here-all : (r : ℕ) → ActiveFor cs r → all test (firedHere values p (ruleAt d r)) ≡ true
     unfolding firedHere
-    here-all r =
+    here-all r m =
         let rule = ruleAt d r in
-        all-append test (sent values p p (rule .default)) (cond (not (rule .everywhere) && holds values p p rule) (sent values p p (rule .action)) [])
-        (default p r lp)
-        (all-cond test (not (rule .everywhere) && holds values p p rule) (sent values p p (rule .action)) [] (action p r lp) (all-none test))
+        let holding = not (rule .everywhere) && holds values p p rule in
+        all-append test (sent values p p (rule .default)) (cond holding (sent values p p (rule .action)) [])
+        (default r m)
+        (all-cond test holding (sent values p p (rule .action)) [] (action p r lp m) (all-none test))
 
-    there-all : (r q : ℕ) → q < N d → all test (firedThere values p (ruleAt d r) q) ≡ true
+    there-all : (r q : ℕ) → q < N d → ActiveFor cs r → all test (firedThere values p (ruleAt d r) q) ≡ true
     unfolding firedThere
-    there-all r q lq =
+    there-all r q lq m =
         let rule = ruleAt d r in
-        all-cond test (rule .everywhere && holds values p q rule) (sent values p q (rule .action)) [] (action q r lq) (all-none test)
+        all-cond test (rule .everywhere && holds values p q rule) (sent values p q (rule .action)) [] (action q r lq m) (all-none test)
 
-    others-all : (r : ℕ) → all test (flatMap (firedThere values p (ruleAt d r)) (others d p)) ≡ true
-    others-all r =
+    others-all : (r : ℕ) → ActiveFor cs r → all test (flatMap (firedThere values p (ruleAt d r)) (others d p)) ≡ true
+    others-all r m =
         all-flatMap test (firedThere values p (ruleAt d r)) (others d p)
-        (all-member (λ q. all test (firedThere values p (ruleAt d r) q)) (others d p) .1 (λ q m. there-all r q (others-inside d p q m)))
+        (all-member (λ q. all test (firedThere values p (ruleAt d r) q)) (others d p) .1 (λ q o. there-all r q (others-inside d p q o) m))
 
     -- over the rules that are active
-    rules-all : (f : Rule → List Update) → ((r : ℕ) → all test (f (ruleAt d r)) ≡ true) → (rs : List ℕ) → all test (flatMap f (map (ruleAt d) rs)) ≡ true
-    rules-all f h rs =
-        all-flatMap test f (map (ruleAt d) rs)
-        (all-map (λ r. all test (f r)) (ruleAt d) rs ∙ all-every (λ r. all test (f (ruleAt d r))) h rs)
-
-    pub fired-all : (cs : List ℕ) → all test (fired d values p cs) ≡ true
-    unfolding fired
-    fired-all cs =
+    rules-all : (f : Rule → List Update) → ((r : ℕ) → ActiveFor cs r → all test (f (ruleAt d r)) ≡ true)
+        → all test (flatMap f (map (ruleAt d) (active d p cs))) ≡ true
+    rules-all f h =
         let rs = active d p cs in
-        let rules = map (ruleAt d) rs in
+        all-flatMap test f (map (ruleAt d) rs)
+        (all-map (λ r. all test (f r)) (ruleAt d) rs ∙ all-member (λ r. all test (f (ruleAt d r))) rs .1 h)
+
+    pub fired-active : all test (fired d values p cs) ≡ true
+    unfolding fired
+    fired-active =
+        let rules = map (ruleAt d) (active d p cs) in
         all-append test (flatMap (firedHere values p) rules) (flatMap (λ r. flatMap (firedThere values p r) (others d p)) rules)
-        (rules-all (firedHere values p) here-all rs)
-        (rules-all (λ r. flatMap (firedThere values p r) (others d p)) others-all rs)
+        (rules-all (firedHere values p) here-all)
+        (rules-all (λ r. flatMap (firedThere values p r) (others d p)) others-all)
+
+  -- so does one that holds for whatever any rule sends
+  pub fired-all : (test : Update → Bool) → p < N d
+      → ((q r : ℕ) → q < N d → all test (sent values p q (ruleAt d r .default)) ≡ true)
+      → ((q r : ℕ) → q < N d → all test (sent values p q (ruleAt d r .action)) ≡ true)
+      → (cs : List ℕ) → all test (fired d values p cs) ≡ true
+  fired-all test lp default action cs = fired-active test lp cs (λ r _. default p r lp) (λ q r lq _. action q r lq)
 
   sent-known : (q : ℕ) (a : Action) → q < N d → Sound (R d) a → all (known d) (sent values p q a) ≡ true
   unfolding sent lists known channels

@@ -115,3 +115,10 @@ module _ {A B : Type 0} (f : B → Bool) where
   all-flatMap g [] h = refl
   all-flatMap g (x ∷ l) h =
       all-append f (g x) (flatMap g l) (all-head (λ x. all f (g x)) x l h) (all-flatMap g l (all-tail (λ x. all f (g x)) x l h))
+
+  -- and the other way round
+  pub flatMap-all : (g : A → List B) (l : List A) → all f (flatMap g l) ≡ true → all (λ x. all f (g x)) l ≡ true
+  unfolding lists
+  flatMap-all g [] h = refl
+  flatMap-all g (x ∷ l) h =
+      all-cons (λ x. all f (g x)) x l (all-left f (g x) (flatMap g l) h) (flatMap-all g l (all-right f (g x) (flatMap g l) h))
