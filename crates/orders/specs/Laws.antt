@@ -20,3 +20,5 @@ pub mod Depends
 pub mod Runs
 pub mod Starts
 pub mod Hosts
+pub mod Led
+pub mod StaysPut

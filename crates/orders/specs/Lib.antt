@@ -3,5 +3,7 @@ pub mod Calling
 pub mod Listed
 pub mod Order
 pub mod Calculus
+pub mod StaysPut
 pub mod Laws
 pub mod Cases
+pub mod StaysPutCases

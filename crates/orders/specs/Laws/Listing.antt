@@ -144,7 +144,7 @@ module _ (form : Form) (bytes : List ℕ) (l : Layout) (passes : passing form by
   abbrev C : ℕ
   C = capacity n
 
-  run-agrees : (x : Machine) → Fine d C x → (cs : List Call)
+  pub run-agrees : (x : Machine) → Fine d C x → (cs : List Call)
       → (runFromAs form bytes (store n x) cs .answers ≡ listFrom d C x cs .answers)
       × (runFromAs form bytes (store n x) cs .memory ≡ store n (listFrom d C x cs .machine))
   unfolding runFromAs listFrom
