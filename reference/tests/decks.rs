@@ -3,7 +3,7 @@
 mod common;
 
 use common::model::{evaluate, holds};
-use common::{copy, deck_of, old_check_line};
+use common::{copy, deck_of, old_check_line, ways};
 use reference::charge::Charges;
 use reference::deck::{Deck, Field, Form, Kind as RuleKind, Rule};
 use reference::engine::check_line;
@@ -130,22 +130,6 @@ fn the_longest_old_deck() {
     assert_eq!(old_check_line(&bytes), old_check_line(&bytes[..Deck::OLD_BYTES + 1]));
 }
 
-/// Whether there is a way from one channel to another, by paths of growing length.
-fn reaches(edges: &[u32; 32], from: usize, to: usize) -> bool {
-    let mut ways = vec![vec![false; 32]; 32];
-    for (channel, targets) in edges.iter().enumerate() {
-        (0..32).for_each(|target| ways[channel][target] = targets >> target & 1 == 1);
-    }
-    for middle in 0..32 {
-        for first in 0..32 {
-            for last in 0..32 {
-                ways[first][last] |= ways[first][middle] && ways[middle][last];
-            }
-        }
-    }
-    ways[from][to]
-}
-
 #[test]
 fn lowest_channel_that_reaches_itself() {
     let random = &mut Random::new(14);
@@ -153,8 +137,8 @@ fn lowest_channel_that_reaches_itself() {
     for _ in 0..150 {
         let bytes = deck(Kind::Cyclic, random, Size { channels: 12, rules: 14, parts: 3, expression: 10 });
         let (deck, _) = Deck::read(&bytes).unwrap();
-        let edges = graph::edges(&deck);
-        let lowest = (0..32).find(|&channel| reaches(&edges, channel, channel));
+        let ways = ways(&graph::edges(&deck));
+        let lowest = (0..32).find(|&channel| ways[channel] >> channel & 1 == 1);
         assert_eq!(graph::lowest_on_cycle(&deck), lowest);
         acyclic += usize::from(lowest.is_none());
     }

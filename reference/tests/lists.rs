@@ -3,11 +3,11 @@
 mod common;
 
 use common::model::{holds, rule_charge, Model};
-use common::{copy, deck_of, fresh, fresh_old, is_at_edge, parts_within};
+use common::{copy, deck_of, fresh, fresh_old, is_at_edge, parts_within, Setup};
 use reference::deck::{Deck, Form, Kind as RuleKind, Rule};
 use reference::engine::{Answer, Call, Committed, Settled};
 use reference::expression::{Number, Truth};
-use reference::generate::calls::{any, Known};
+use reference::generate::calls::any;
 use reference::generate::{deck, old_deck, Kind, Size};
 use reference::random::Random;
 use reference::refusal::INPUT_OUTSIDE_LIMIT;
@@ -29,49 +29,6 @@ impl Sums {
             Answer::Committed(_) => self.commits += 1,
             Answer::Settled(settled) => self.commits += u64::from(settled.commits),
             Answer::Refused(_) => {}
-        }
-    }
-}
-
-fn places(random: &mut Random, charge: u32) -> usize {
-    let charge = charge as usize;
-    let least = if random.chance(20) { 1 } else { charge.max(1) };
-    random.between(least, (6 * charge).clamp(2, 65_535))
-}
-
-/// What a list of generated calls needs: a deck that passes, read and known, and a number of places.
-struct Setup {
-    form: Form,
-    bytes: Vec<u8>,
-    deck: Deck,
-    known: Known,
-    places: usize,
-}
-
-impl Setup {
-    fn new(random: &mut Random, kinds: &[Kind], size: Size, most_places: usize) -> Setup {
-        let kind = random.pick(kinds);
-        let bytes = deck(kind, random, size);
-        Setup::of(Form::New, random, bytes, most_places)
-    }
-
-    /// Of an old deck.
-    fn old(random: &mut Random, kinds: &[Kind], size: Size, most_places: usize) -> Setup {
-        let kind = random.pick(kinds);
-        let bytes = old_deck(kind, random, size);
-        Setup::of(Form::Old, random, bytes, most_places)
-    }
-
-    fn of(form: Form, random: &mut Random, bytes: Vec<u8>, most_places: usize) -> Setup {
-        let (deck, _) = form.read(&bytes).unwrap();
-        let places = places(random, form.check(&bytes).unwrap().charge).min(most_places);
-        Setup { form, known: Known::of(&bytes), bytes, deck, places }
-    }
-
-    fn fresh(&self) -> Host<'_> {
-        match self.form {
-            Form::Old => fresh_old(&self.bytes, self.places),
-            Form::New => fresh(&self.bytes, self.places),
         }
     }
 }

@@ -6,6 +6,9 @@ pub mod model;
 use model::holds;
 use reference::deck::{Deck, Form};
 use reference::expression::Truth;
+use reference::generate::calls::Known;
+use reference::generate::{deck, old_deck, Kind, Size};
+use reference::random::Random;
 use reference::script::Host;
 #[allow(unused_imports)]
 pub use reference::stored::{
@@ -26,6 +29,64 @@ pub fn fresh_old(deck: &[u8], places: usize) -> Host<'_> {
 fn started(mut host: Host, places: usize) -> Host {
     assert_eq!(host.start(10 * places), Ok(()));
     host
+}
+
+/// Places for a deck whose largest charge is this: mostly enough for some inputs, now and then too few.
+fn places(random: &mut Random, charge: u32) -> usize {
+    let charge = charge as usize;
+    let least = if random.chance(20) { 1 } else { charge.max(1) };
+    random.between(least, (6 * charge).clamp(2, 65_535))
+}
+
+/// What a list of generated calls needs: a deck that passes, read and known, and a number of places.
+pub struct Setup {
+    pub form: Form,
+    pub bytes: Vec<u8>,
+    pub deck: Deck,
+    pub known: Known,
+    pub places: usize,
+}
+
+impl Setup {
+    pub fn new(random: &mut Random, kinds: &[Kind], size: Size, most_places: usize) -> Setup {
+        let kind = random.pick(kinds);
+        let bytes = deck(kind, random, size);
+        Setup::of(Form::New, random, bytes, most_places)
+    }
+
+    /// Of an old deck.
+    pub fn old(random: &mut Random, kinds: &[Kind], size: Size, most_places: usize) -> Setup {
+        let kind = random.pick(kinds);
+        let bytes = old_deck(kind, random, size);
+        Setup::of(Form::Old, random, bytes, most_places)
+    }
+
+    pub fn of(form: Form, random: &mut Random, bytes: Vec<u8>, most_places: usize) -> Setup {
+        let (deck, _) = form.read(&bytes).unwrap();
+        let places = places(random, form.check(&bytes).unwrap().charge).min(most_places);
+        Setup { form, known: Known::of(&bytes), bytes, deck, places }
+    }
+
+    pub fn fresh(&self) -> Host<'_> {
+        match self.form {
+            Form::Old => fresh_old(&self.bytes, self.places),
+            Form::New => fresh(&self.bytes, self.places),
+        }
+    }
+}
+
+/// For each channel those that there is a way to by one or more edges, in another manner than `graph` finds
+/// them: by paths over a growing set of channels in between.
+pub fn ways(edges: &[u32; Deck::CHANNELS]) -> [u32; Deck::CHANNELS] {
+    let mut ways = *edges;
+    for between in 0..Deck::CHANNELS {
+        for from in 0..Deck::CHANNELS {
+            if ways[from] >> between & 1 == 1 {
+                ways[from] |= ways[between];
+            }
+        }
+    }
+    ways
 }
 
 /// The line of the old check.
