@@ -14,12 +14,12 @@ pub fn edges(deck: &Deck) -> [u32; Deck::CHANNELS] {
     edges
 }
 
-/// The channels that can be reached from this one by one or more edges.
-fn reachable(edges: &[u32; Deck::CHANNELS], from: usize) -> u32 {
-    let mut reached = edges[from];
+/// The channels that can be reached from one of these by one or more edges.
+fn reachable(edges: &[u32; Deck::CHANNELS], from: u32) -> u32 {
+    let mut reached = 0;
     loop {
         let further = (0..Deck::CHANNELS)
-            .filter(|channel| reached >> channel & 1 == 1)
+            .filter(|channel| (from | reached) >> channel & 1 == 1)
             .fold(reached, |set, channel| set | edges[channel]);
         if further == reached {
             return reached;
@@ -31,5 +31,11 @@ fn reachable(edges: &[u32; Deck::CHANNELS], from: usize) -> u32 {
 /// The lowest channel that can reach itself.
 pub fn lowest_on_cycle(deck: &Deck) -> Option<usize> {
     let edges = edges(deck);
-    (0..Deck::CHANNELS).find(|&channel| reachable(&edges, channel) >> channel & 1 == 1)
+    (0..Deck::CHANNELS).find(|&channel| reachable(&edges, 1 << channel) >> channel & 1 == 1)
+}
+
+/// The channels of a deck that are left alone where these are named: not among them, and not reached from one.
+pub fn left_alone(deck: &Deck, named: u32) -> u32 {
+    let known = u32::MAX >> (Deck::CHANNELS - deck.labels.len());
+    known & !named & !reachable(&edges(deck), named)
 }

@@ -2,13 +2,13 @@
 -- is said of these. Assumes nothing.
 use Prim.Native.Nat.{ℕ, _<_}
 use mathlib.Core.Path.{_≡_}
-use mathlib.Core.Bool.{true, false}
+use mathlib.Core.Bool.{Bool, true, false, not, _||_}
 use mathlib.Core.List.{List, [], _∷_, _++_, map}
 use lib.IntN.{ℤ}
-use Rattle.lists.specs.Lists.{flatMap, member}
+use Rattle.lists.specs.Lists.{any, filter, flatMap, below, member}
 use Rattle.refusals.specs.Outcome.{Outcome, refused, accepted}
 use Rattle.deck.specs.Deck.{Deck, R, N}
-use Rattle.graph.specs.Graph.{edge, Reaches}
+use Rattle.graph.specs.Graph.{edge, Reaches, reached}
 use Rattle.pool.specs.Updates.{valueAt, channels}
 use Rattle.pool.specs.Places.{pairsOf, updatesOf}
 use Rattle.pool.specs.States.{Memory}
@@ -35,18 +35,25 @@ pub record LeftAlone (d : Deck) (names : List ℕ) (c : ℕ) : Type 0 where
   pub unnamed : member c names ≡ false
   pub unreached : (a : ℕ) → member a names ≡ true → Reaches (edge d) a c → ⊥
 
+-- the same computed: a channel that was named or is reached from one that was, and those below R that neither holds of
+unfoldable pub led : Deck → List ℕ → ℕ → Bool
+led d names c = member c names || any (λ a. member c (reached (R d) (edge d) (R d) a)) names
+
+unfoldable pub leftAlone : Deck → List ℕ → List ℕ
+leftAlone d names = filter (λ c. not (led d names c)) (below (R d))
+
 -- the channels that pending updates target
 unfoldable pub targeted : Memory → List ℕ
 targeted m = flatMap channels (updatesOf (m .state .pending) (m .pool))
 
--- what is said of such a channel: m is the state and the pool that the calls left, and `kept` the table whose values it has there
+-- what is said of such a channel, m being the state and the pool that the calls left
 pub record StaysPut (d : Deck) (kept : List ℤ) (m : Memory) (c : ℕ) : Type 0 where
-  -- it "keeps its opening value at every part", where these are the values kept
+  -- its value at every part below N is that of the table `kept`; with the opening values it "keeps its opening value at every part"
   pub value : (p : ℕ) → p < N d → valueAt (m .state .values) p c ≡ valueAt kept p c
   -- "No pending update targets such a channel either"
   pub pending : member c (targeted m) ≡ false
 
 -- to open all definitions of this file, on an `unfolding` line
 unfoldable pub naming : Unit {0}
-unfolding namedBy named targeted
+unfolding namedBy named led leftAlone targeted
 naming = tt

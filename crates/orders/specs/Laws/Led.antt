@@ -1,11 +1,11 @@
--- What named channels lead to, as a test that computes: the channels that fail it are those left alone. Assumes nothing.
+-- The channels that names lead to: the test is exact, and an edge from one of them leads to another. Assumes nothing.
 use Prim.Native.Nat.{ℕ, _<_}
 use mathlib.Core.Path.{_≡_, ap}
 use mathlib.Core.Logic.{_↔_, _⊎_, inl, inr, ⊎-elim}
-use mathlib.Core.Bool.{Bool, true, false, not, _||_}
+use mathlib.Core.Bool.{true, false, not}
 use mathlib.Core.List.{List}
 use borrow.Author.Tests.{not-true}
-use Rattle.lists.specs.Lists.{all, any, filter, below, member}
+use Rattle.lists.specs.Lists.{all, member}
 use Rattle.lists.specs.Laws.Booleans.{or-left, or-right, or-cases, or-false-left, not-true→false, contradiction}
 use Rattle.lists.specs.Laws.Members.{all-member, any-intro, any-found}
 use Rattle.lists.specs.Laws.Below.{filter-below}
@@ -13,26 +13,14 @@ use Rattle.deck.specs.Deck.{Deck, R}
 use Rattle.graph.specs.Graph.{edge, Reaches, one, more, reached}
 use Rattle.graph.specs.Laws.Reach.{reached-sound, reached-complete}
 use Rattle.graph.specs.Laws.Cycles.{KnownTargets, edge-inside}
-use Rattle.orders.specs.StaysPut.{LeftAlone}
+use Rattle.orders.specs.StaysPut.{LeftAlone, led, leftAlone}
 
 module _ (d : Deck) (names : List ℕ) where
-  -- channel c is reached from one that was named
-  abbrev fromNamed : ℕ → Bool
-  fromNamed c = any (λ a. member c (reached (R d) (edge d) (R d) a)) names
-
-  -- it was named, or is reached from one that was
-  unfoldable pub led : ℕ → Bool
-  led c = member c names || fromNamed c
-
-  -- the channels that fail the test, as a host lists them
-  unfoldable pub leftAlone : List ℕ
-  leftAlone = filter (λ c. not (led c)) (below (R d))
-
-  pub led-named : all led names ≡ true
+  pub led-named : all (led d names) names ≡ true
   unfolding led
-  led-named = all-member (λ c. member c names || fromNamed c) names .1 (λ c m. or-left (fromNamed c) m)
+  led-named = all-member (led d names) names .1 (λ c m. or-left _ m)
 
-  led-from : (c : ℕ) → led c ≡ true → (member c names ≡ true) ⊎ ((a : ℕ) × (member a names ≡ true) × Reaches (edge d) a c)
+  led-from : (c : ℕ) → led d names c ≡ true → (member c names ≡ true) ⊎ ((a : ℕ) × (member a names ≡ true) × Reaches (edge d) a c)
   unfolding led
   led-from c h =
       ⊎-elim inl
@@ -41,38 +29,38 @@ module _ (d : Deck) (names : List ℕ) where
       inr (found .0, found .1, reached-sound (R d) (edge d) (R d) (found .0) c (found .2)))
       (or-cases (member c names) h)
 
-  not-led : (c : ℕ) → LeftAlone d names c → led c ≡ true → ⊥
+  not-led : (c : ℕ) → LeftAlone d names c → led d names c ≡ true → ⊥
   not-led c alone h =
       ⊎-elim (λ m. contradiction m (alone .unnamed)) (λ (a, m, path). alone .unreached a m path) (led-from c h)
 
   module _ (known : KnownTargets d) where
-    reached-led : (a c : ℕ) → member a names ≡ true → Reaches (edge d) a c → led c ≡ true
+    reached-led : (a c : ℕ) → member a names ≡ true → Reaches (edge d) a c → led d names c ≡ true
     unfolding led
     reached-led a c m path =
         or-right (member c names) (any-intro _ names a m (reached-complete (R d) (edge d) (edge-inside known) path))
 
     -- an edge from a channel that is led to leads on
-    pub led-closed : (a b : ℕ) → led a ≡ true → edge d a b ≡ true → led b ≡ true
+    pub led-closed : (a b : ℕ) → led d names a ≡ true → edge d a b ≡ true → led d names b ≡ true
     led-closed a b h e =
         ⊎-elim (λ m. reached-led a b m (one e)) (λ (n, m, path). reached-led n b m (more path e)) (led-from a h)
 
     -- the test is exact
-    pub left-alone-tested : (c : ℕ) → LeftAlone d names c ↔ ((c < R d) × (led c ≡ false))
+    pub left-alone-tested : (c : ℕ) → LeftAlone d names c ↔ ((c < R d) × (led d names c ≡ false))
     unfolding led
     left-alone-tested c = (
-      λ alone. (alone .channel, not-true→false (led c) (not-led c alone)),
+      λ alone. (alone .channel, not-true→false (led d names c) (not-led c alone)),
       λ (low, other).
           record {
             channel = low;
-            unnamed = or-false-left (member c names) (fromNamed c) other;
+            unnamed = or-false-left (member c names) _ other;
             unreached = λ a m path. contradiction (reached-led a c m path) other;
           },
     )
 
-    pub left-alone-listed : (c : ℕ) → (member c leftAlone ≡ true) ↔ LeftAlone d names c
+    pub left-alone-listed : (c : ℕ) → (member c (leftAlone d names) ≡ true) ↔ LeftAlone d names c
     unfolding leftAlone
     left-alone-listed c =
-        let listed = filter-below (λ c. not (led c)) (R d) c in (
-          λ m. let h = listed .0 m in left-alone-tested c .1 (h .0, not-true (led c) (h .1)),
+        let listed = filter-below (λ c. not (led d names c)) (R d) c in (
+          λ m. let h = listed .0 m in left-alone-tested c .1 (h .0, not-true (led d names c) (h .1)),
           λ alone. let h = left-alone-tested c .0 alone in listed .1 (h .0, ap not (h .1)),
         )

@@ -1,4 +1,4 @@
--- Channels that no accepted input leads to keep their opening values, and stand in no pending update. Assumes nothing.
+-- Channels that accepted inputs neither name nor lead to keep their values, and no pending update targets one. Assumes nothing.
 use Prim.Native.Nat.{ℕ, zero, suc, _<_}
 use mathlib.Core.Path.{_≡_, refl, sym, _∙_, ap, subst}
 use mathlib.Core.Bool.{Bool, true, false}
@@ -44,7 +44,7 @@ use Rattle.calls.specs.Laws.Settling.{repeated, settle-repeats}
 use Rattle.orders.specs.Calling.{Call, input, commit, settle, runFrom, run}
 use Rattle.orders.specs.Listed.{turn, Taken, taken, machineAfter, Listed, inFront, listFrom, listed}
 use Rattle.orders.specs.Order.{Along}
-use Rattle.orders.specs.StaysPut.{namedBy, named, LeftAlone, targeted, StaysPut}
+use Rattle.orders.specs.StaysPut.{namedBy, named, LeftAlone, led, targeted, StaysPut}
 use Rattle.orders.specs.Laws.Agreement.{settling-ends}
 use Rattle.orders.specs.Laws.Taking.{answered, guard, some-pending, taking}
 use Rattle.orders.specs.Laws.Invariants.{CommitKeeps}
@@ -52,7 +52,7 @@ use Rattle.orders.specs.Laws.Listing.{along-ends, run-agrees}
 use Rattle.orders.specs.Laws.Kept.{Tested, passed-formed, passed-acyclic}
 use Rattle.orders.specs.Laws.Order.{order}
 use Rattle.orders.specs.Laws.Hosts.{replied, Trace, order-seen}
-use Rattle.orders.specs.Laws.Led.{led, led-named, led-closed, left-alone-tested}
+use Rattle.orders.specs.Laws.Led.{led-named, led-closed, left-alone-tested}
 
 -- one call in front of a list
 named-front : (c : Call) (cs : List Call) (o : Outcome Taken) (l : Listed)
@@ -61,134 +61,137 @@ unfolding named inFront
 named-front c cs (refused n p) l = refl
 named-front c cs (accepted t) l = refl
 
-module _ (d : Deck) (formed : Formed d) (names : List ℕ) (kept : List ℤ) where
-  -- a channel that the names lead to, and an update of such channels
+module _ (d : Deck) (names : List ℕ) (kept : List ℤ) where
+  -- a channel that was named or is led to, and an update that sets no other
   abbrev isLed : ℕ → Bool
   isLed = led d names
 
-  abbrev moves : Update → Bool
-  moves u = all isLed (channels u)
+  abbrev setsLed : Update → Bool
+  setsLed u = all isLed (channels u)
 
-  -- every other channel has the value that the table `kept` has, and no pending update has such a channel
+  -- every other channel has its value of the table `kept`, and no pending update sets one
   record Untouched (x : Machine) : Type 0 where
     pub value : (p c : ℕ) → p < N d → c < R d → isLed c ≡ false → valueAt (x .values) p c ≡ valueAt kept p c
-    pub pending : all moves (x .pending) ≡ true
+    pub pending : all setsLed (x .pending) ≡ true
+
+  -- in a good state with C places
+  abbrev FineUntouched : ℕ → Machine → Type 0
+  FineUntouched C x = Fine d C x × Untouched x
 
   -- ---- the firing
 
-  sent-moves : (values : List ℤ) (p q : ℕ) (a : Action) → all isLed (targets a) ≡ true → all moves (sent values p q a) ≡ true
+  sent-sets-led : (values : List ℤ) (p q : ℕ) (a : Action) → all isLed (targets a) ≡ true → all setsLed (sent values p q a) ≡ true
   unfolding sent channels
-  sent-moves values p q [] h = all-none moves
-  sent-moves values p q (s ∷ a) h =
-      all-cons moves (record { part = q; pairs = map (evaluated values p q) (s ∷ a) }) []
-      (ap (all isLed) (sent-channels values p q (s ∷ a)) ∙ h) (all-none moves)
+  sent-sets-led values p q [] h = all-none setsLed
+  sent-sets-led values p q (s ∷ a) h =
+      all-cons setsLed (record { part = q; pairs = map (evaluated values p q) (s ∷ a) }) []
+      (ap (all isLed) (sent-channels values p q (s ∷ a)) ∙ h) (all-none setsLed)
 
-  module _ (values : List ℤ) (p : ℕ) (lp : p < N d) (cs : List ℕ) (from : (c : ℕ) → member c cs ≡ true → isLed c ≡ true) where
-    -- whatever an active rule assigns, an edge leads there
-    assigned-led : (r t : ℕ) → member r (active d p cs) ≡ true → assigns d r t ≡ true → isLed t ≡ true
-    assigned-led r t m h =
-        let a = active-member d p cs r .0 m in
-        led-closed d names (known-targets d formed) (a .2 .0) t (from (a .2 .0) (a .2 .1))
-        (edge-intro d r (a .2 .0) t (a .0) (carried-intro d p r lp (a .1)) (a .2 .2) h)
+  module _ (formed : Formed d) where
+    module _ (values : List ℤ) (p : ℕ) (lp : p < N d) (cs : List ℕ) (from : (c : ℕ) → member c cs ≡ true → isLed c ≡ true) where
+      -- whatever an active rule assigns, an edge leads there
+      assigned-led : (r t : ℕ) → member r (active d p cs) ≡ true → assigns d r t ≡ true → isLed t ≡ true
+      assigned-led r t m h =
+          let a = active-member d p cs r .0 m in
+          led-closed d names (known-targets d formed) (a .2 .0) t (from (a .2 .0) (a .2 .1))
+          (edge-intro d r (a .2 .0) t (a .0) (carried-intro d p r lp (a .1)) (a .2 .2) h)
 
-    fired-moves : all moves (fired d values p cs) ≡ true
-    unfolding assigns
-    fired-moves =
-        fired-active d values p moves lp cs
-        (λ r m.
-        let rule = ruleAt d r in
-        sent-moves values p p (rule .default)
-        (all-member isLed (targets (rule .default)) .1 (λ t k. assigned-led r t m (or-left (member t (targets (rule .action))) k))))
-        (λ q r _ m.
-        let rule = ruleAt d r in
-        sent-moves values p q (rule .action)
-        (all-member isLed (targets (rule .action)) .1 (λ t k. assigned-led r t m (or-right (member t (targets (rule .default))) k))))
+      fired-sets-led : all setsLed (fired d values p cs) ≡ true
+      unfolding assigns
+      fired-sets-led =
+          fired-active d values p setsLed lp cs
+          (λ r m.
+          let rule = ruleAt d r in
+          sent-sets-led values p p (rule .default)
+          (all-member isLed (targets (rule .default)) .1 (λ t k. assigned-led r t m (or-left (member t (targets (rule .action))) k))))
+          (λ q r _ m.
+          let rule = ruleAt d r in
+          sent-sets-led values p q (rule .action)
+          (all-member isLed (targets (rule .action)) .1 (λ t k. assigned-led r t m (or-right (member t (targets (rule .default))) k))))
 
-  -- ---- setting channels, and commits
+    -- ---- setting channels, and commits
 
-  set-untouched : (p : ℕ) (l : List Pair) (x : Machine) → p < N d → all (λ c. ltb c (R d)) (channelsIn l) ≡ true
-      → all isLed (channelsIn l) ≡ true → Untouched x → Untouched (setAndFire d p l x)
-  unfolding setAndFire
-  set-untouched p l x lp known leads h =
-      let values = assign p l (x .values) in
-      let cs = changed d p (x .values) values in
-      record {
-        value = λ q c lq lc other. same q c (eqb q p) refl lc other ∙ h .value q c lq lc other;
-        pending = enqueue-all moves (x .pending) (fired d values p cs) (h .pending)
-            (fired-moves values p lp cs (λ c m. each-led c (changed-assigned d (x .values) p l c m)));
-      }
-    where
-      each-led : (c : ℕ) → member c (channelsIn l) ≡ true → isLed c ≡ true
-      each-led = all-member isLed (channelsIn l) .0 leads
+    set-untouched : (p : ℕ) (l : List Pair) (x : Machine) → p < N d → all (λ c. ltb c (R d)) (channelsIn l) ≡ true
+        → all isLed (channelsIn l) ≡ true → Untouched x → Untouched (setAndFire d p l x)
+    unfolding setAndFire
+    set-untouched p l x lp known leads h =
+        let values = assign p l (x .values) in
+        let cs = changed d p (x .values) values in
+        record {
+          value = λ q c lq lc other. same q c (eqb q p) refl lc other ∙ h .value q c lq lc other;
+          pending = enqueue-all setsLed (x .pending) (fired d values p cs) (h .pending)
+              (fired-sets-led values p lp cs (λ c m. each-led c (changed-assigned d (x .values) p l c m)));
+        }
+      where
+        each-led : (c : ℕ) → member c (channelsIn l) ≡ true → isLed c ≡ true
+        each-led = all-member isLed (channelsIn l) .0 leads
 
-      same : (q c : ℕ) (b : Bool) → eqb q p ≡ b → c < R d → isLed c ≡ false
-          → valueAt (assign p l (x .values)) q c ≡ valueAt (x .values) q c
-      same q c false e lc other = assign-part (R d) p q c l (x .values) (formed .channels) (eqb-false q p e) lc known
-      same q c true e lc other =
-          subst (λ j. valueAt (assign p l (x .values)) j c ≡ valueAt (x .values) j c) (sym (eqb-true q p e))
-          (assign-other p c l (x .values) (not-true→false (member c (channelsIn l)) (λ m. contradiction (each-led c m) other)))
+        same : (q c : ℕ) (b : Bool) → eqb q p ≡ b → c < R d → isLed c ≡ false
+            → valueAt (assign p l (x .values)) q c ≡ valueAt (x .values) q c
+        same q c false e lc other = assign-part (R d) p q c l (x .values) (formed .channels) (eqb-false q p e) lc known
+        same q c true e lc other =
+            subst (λ j. valueAt (assign p l (x .values)) j c ≡ valueAt (x .values) j c) (sym (eqb-true q p e))
+            (assign-other p c l (x .values) (not-true→false (member c (channelsIn l)) (λ m. contradiction (each-led c m) other)))
 
-  commit-untouched : (C : ℕ) → CommitKeeps d Untouched C
-  unfolding pick channels
-  commit-untouched C x f h k low =
-      let u = pick k (x .pending) in
-      let has = pick-known d C x k f low in
-      let leads = all-at moves (x .pending) k (record { part = 0; pairs = [] }) (h .pending) low in
-      let out : Untouched (takenOut k x) = record { value = h .value; pending = without-all moves k (x .pending) (h .pending) } in
-      commit-either d k x (λ _ y. Untouched y)
-      (λ _. set-untouched (u .part) (u .pairs) (takenOut k x) (has .part) (has .inside) leads out) (λ _. out)
+    commit-untouched : (C : ℕ) → CommitKeeps d Untouched C
+    unfolding pick channels
+    commit-untouched C x f h k low =
+        let u = pick k (x .pending) in
+        let has = pick-known d C x k f low in
+        let leads = all-at setsLed (x .pending) k (record { part = 0; pairs = [] }) (h .pending) low in
+        let out : Untouched (takenOut k x) = record { value = h .value; pending = without-all setsLed k (x .pending) (h .pending) } in
+        commit-either d k x (λ _ y. Untouched y)
+        (λ _. set-untouched (u .part) (u .pairs) (takenOut k x) (has .part) (has .inside) leads out) (λ _. out)
 
-  -- ---- calls
+    -- ---- calls
 
-  module _ (acyclic : Acyclic d) (C : ℕ) where
-    -- commits of place 0, each with something pending
-    repeated-untouched : (n : ℕ) (x : Machine) → Fine d C x → Untouched x
-        → ((j : ℕ) → j < n → isEmpty (repeated j d x .pending) ≡ false) → Untouched (repeated n d x)
-    unfolding repeated
-    repeated-untouched zero x f h some = h
-    repeated-untouched (suc n) x f h some =
-        let low = some-pending (x .pending) (some 0 (omega arith)) in
-        repeated-untouched n (committed d 0 x .machine) (commit-fine d formed acyclic C 0 x f low) (commit-untouched C x f h 0 low)
-        (λ j l. some (suc j) (omega arith))
+    module _ (acyclic : Acyclic d) (C : ℕ) where
+      -- commits of place 0, each with something pending
+      repeated-untouched : (n : ℕ) (x : Machine) → Fine d C x → Untouched x
+          → ((j : ℕ) → j < n → isEmpty (repeated j d x .pending) ≡ false) → Untouched (repeated n d x)
+      unfolding repeated
+      repeated-untouched zero x f h some = h
+      repeated-untouched (suc n) x f h some =
+          let low = some-pending (x .pending) (some 0 (omega arith)) in
+          repeated-untouched n (committed d 0 x .machine) (commit-fine d formed acyclic C 0 x f low) (commit-untouched C x f h 0 low)
+          (λ j l. some (suc j) (omega arith))
 
-    -- a call that names what the names lead to, or nothing
-    call-untouched : (x : Machine) → Fine d C x → Untouched x → (c : Call) → all isLed (namedBy c (answered (taken d C x c))) ≡ true
-        → Untouched (machineAfter x (taken d C x c))
-    unfolding taken machineAfter namedBy turn
-    call-untouched x f h (input p l) =
-        let goal : Outcome Taken → Type 0 = λ o. all isLed (namedBy (input p l) (answered o)) ≡ true → Untouched (machineAfter x o) in
-        guard goal (ltb p (N d)) unknownPart _ (λ _. h)
-        (λ lp.
-        guard goal (goodInput d l) badInput _ (λ _. h)
-        (λ good.
-        guard goal _ inputOutside _ (λ _. h)
-        (λ _.
-        guard goal _ overCapacity _ (λ _. h)
-        (λ _ leads. set-untouched p (pairsOf l) x (ltb-true p (N d) lp) (input-known d l good) leads h))))
-    call-untouched x f h (commit k) = λ _.
-        guard (λ o. Untouched (machineAfter x o)) (ltb k (length (x .pending))) placeNotPending _ h
-        (λ low. commit-untouched C x f h k (ltb-true k (length (x .pending)) low))
-    call-untouched x f h (settle b) = λ _.
-        let repeats = settle-repeats d b x in
-        guard (λ o. Untouched (machineAfter x o)) (leb b 65535) budgetTooLarge _ h
-        (λ _.
-        subst Untouched (sym (repeats .machine) ∙ settling-ends d b x) (repeated-untouched (settling d b x .made) x f h (repeats .earlier)))
+      -- a call whose names are all led to
+      call-untouched : (x : Machine) → Fine d C x → Untouched x → (c : Call) → all isLed (namedBy c (answered (taken d C x c))) ≡ true
+          → Untouched (machineAfter x (taken d C x c))
+      unfolding taken machineAfter namedBy turn
+      call-untouched x f h (input p l) =
+          let goal : Outcome Taken → Type 0 = λ o. all isLed (namedBy (input p l) (answered o)) ≡ true → Untouched (machineAfter x o) in
+          guard goal (ltb p (N d)) unknownPart _ (λ _. h)
+          (λ lp.
+          guard goal (goodInput d l) badInput _ (λ _. h)
+          (λ good.
+          guard goal _ inputOutside _ (λ _. h)
+          (λ _.
+          guard goal _ overCapacity _ (λ _. h)
+          (λ _ leads. set-untouched p (pairsOf l) x (ltb-true p (N d) lp) (input-known d l good) leads h))))
+      call-untouched x f h (commit k) = λ _.
+          guard (λ o. Untouched (machineAfter x o)) (ltb k (length (x .pending))) placeNotPending _ h
+          (λ low. commit-untouched C x f h k (ltb-true k (length (x .pending)) low))
+      call-untouched x f h (settle b) = λ _.
+          let repeats = settle-repeats d b x in
+          guard (λ o. Untouched (machineAfter x o)) (leb b 65535) budgetTooLarge _ h
+          (λ _.
+          subst Untouched (sym (repeats .machine) ∙ settling-ends d b x)
+          (repeated-untouched (settling d b x .made) x f h (repeats .earlier)))
 
-    abbrev FineUntouched : Machine → Type 0
-    FineUntouched x = Fine d C x × Untouched x
-
-    along-untouched : (x : Machine) → FineUntouched x → (cs : List Call) → all isLed (named cs (listFrom d C x cs .answers)) ≡ true
-        → Along (λ y c. FineUntouched (machineAfter y (taken d C y c))) d C x cs
-    unfolding Along listFrom
-    along-untouched x (f, h) [] leads = tt
-    along-untouched x (f, h) (c ∷ cs) leads =
-        let o = taken d C x c in
-        let rest = listFrom d C (machineAfter x o) cs in
-        let all-led = subst (λ ns. all isLed ns ≡ true) (named-front c cs o rest) leads in
-        let first = all-left isLed (namedBy c (answered o)) (named cs (rest .answers)) all-led in
-        let later = all-right isLed (namedBy c (answered o)) (named cs (rest .answers)) all-led in
-        let after : FineUntouched (machineAfter x o) = (taking d formed acyclic C x f c .fine, call-untouched x f h c first) in
-        (after, along-untouched (machineAfter x o) after cs later)
+      along-untouched : (x : Machine) → FineUntouched C x → (cs : List Call) → all isLed (named cs (listFrom d C x cs .answers)) ≡ true
+          → Along (λ y c. FineUntouched C (machineAfter y (taken d C y c))) d C x cs
+      unfolding Along listFrom
+      along-untouched x (f, h) [] leads = tt
+      along-untouched x (f, h) (c ∷ cs) leads =
+          let o = taken d C x c in
+          let rest = listFrom d C (machineAfter x o) cs in
+          let all-led = subst (λ ns. all isLed ns ≡ true) (named-front c cs o rest) leads in
+          let first = all-left isLed (namedBy c (answered o)) (named cs (rest .answers)) all-led in
+          let later = all-right isLed (namedBy c (answered o)) (named cs (rest .answers)) all-led in
+          let after : FineUntouched C (machineAfter x o) = (taking d formed acyclic C x f c .fine, call-untouched x f h c first) in
+          (after, along-untouched (machineAfter x o) after cs later)
 
 -- ---- lists
 
@@ -203,19 +206,19 @@ module _ (d : Deck) (formed : Formed d) (acyclic : Acyclic d) (n : ℕ) (x : Mac
   abbrev end : Machine
   end = listFrom d C x cs .machine
 
-  list-untouched : Fine d C end × Untouched d formed names (x .values) end
+  list-untouched : FineUntouched d names (x .values) C end
   list-untouched =
       let waiting = flatMap channels (x .pending) in
       let later = named cs (listFrom d C x cs .answers) in
-      let first : Fine d C x × Untouched d formed names (x .values) x = (
+      let first : FineUntouched d names (x .values) C x = (
         fine,
         record {
           value = λ p c lp lc other. refl;
           pending = flatMap-all (led d names) channels (x .pending) (all-left (led d names) waiting later (led-named d names));
         },
       ) in
-      along-ends d C (FineUntouched d formed names (x .values) acyclic C) x first cs
-      (along-untouched d formed names (x .values) acyclic C x first cs (all-right (led d names) waiting later (led-named d names)))
+      along-ends d C (FineUntouched d names (x .values) C) x first cs
+      (along-untouched d names (x .values) formed acyclic C x first cs (all-right (led d names) waiting later (led-named d names)))
 
   list-stays-put : (c : ℕ) → LeftAlone d names c → StaysPut d (x .values) (store n end) c
   unfolding store load targeted

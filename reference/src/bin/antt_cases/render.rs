@@ -1,7 +1,9 @@
 //! Cases as theorems of antt, each to be proved by computing its definition.
 
 use reference::cases::Case;
+use reference::deck::{channel_set, Deck};
 use reference::engine::{Answer, Call, Committed, Settled};
+use reference::graph;
 use reference::refusal::Refusal;
 use reference::state::State;
 use std::fmt::Display;
@@ -26,7 +28,7 @@ pub fn theorems(name: &str, case: &Case) -> String {
             &format!("replied (start {} {})", bytes(deck), numbers(pool_before)),
             &seen(&[started(answer)], state, pool_after),
         ),
-        Case::Run { .. } => run(name, case),
+        Case::Run { .. } => run(name, case) + &alone(name, case),
         Case::Memory { deck, state_before, pool_before, call, answer, state_after, pool_after } => theorem(
             name,
             &format!("replied (made {} {} {})", bytes(deck), memory(state_before, pool_before), a_call(call)),
@@ -66,6 +68,35 @@ fn run(name: &str, case: &Case) -> String {
         text += &theorem(&format!("{name}-listed"), &listed, &wanted);
     }
     text
+}
+
+/// Where the start is accepted: the channels that the calls named, those that are then left alone, and those
+/// that each channel by itself would leave alone.
+fn alone(name: &str, case: &Case) -> String {
+    let Case::Run { deck, start: Ok(()), calls, answers, .. } = case else {
+        return String::new();
+    };
+    let names = names(calls, answers);
+    let (read, _) = Deck::read(deck).unwrap();
+    let alone = |named| {
+        let channels = graph::left_alone(&read, named);
+        list((0..Deck::CHANNELS).filter(|channel| channels >> channel & 1 == 1))
+    };
+    let each = list((0..read.labels.len()).map(|channel| alone(1 << channel)));
+    let (calls, answers) = (list(calls.iter().map(a_call)), list(answers.iter().map(answered)));
+    let found = format!("alone-by (passing New {}) (named {calls} {answers})", bytes(deck));
+    let (names, alone) = (bytes(&names), alone(channel_set(&names)));
+    let wanted = format!("record {{ names = {names}; alone = {alone}; each = {each} }}");
+    theorem(&format!("{name}-alone"), &found, &wanted)
+}
+
+/// The channels of every accepted input's pairs.
+fn names(calls: &[Call], answers: &[Answer]) -> Vec<u8> {
+    let accepted = calls.iter().zip(answers).filter_map(|called| match called {
+        (Call::Input { pairs, .. }, Answer::Added(_)) => Some(pairs),
+        _ => None,
+    });
+    accepted.flat_map(|pairs| pairs.iter().step_by(2)).map(|&channel| channel as u8).collect()
 }
 
 /// The answers, and the numbers that are not 0.
