@@ -22,7 +22,7 @@ namedBy (input p l) (accepted a) = map (λ x. x .channel) (pairsOf l)
 namedBy (commit k) o = []
 namedBy (settle b) o = []
 
--- those that the calls of a list named, each with its answer
+-- those that the calls of a list named, each by its answer
 unfoldable pub named : List Call → List (Outcome Answer) → List ℕ
 named [] answers = []
 named (c ∷ cs) [] = []
@@ -35,10 +35,11 @@ pub record LeftAlone (d : Deck) (names : List ℕ) (c : ℕ) : Type 0 where
   pub unnamed : member c names ≡ false
   pub unreached : (a : ℕ) → member a names ≡ true → Reaches (edge d) a c → ⊥
 
--- the same computed: a channel that was named or is reached from one that was, and those below R that neither holds of
+-- a channel that was named, or is reached from one that was, by computing
 unfoldable pub led : Deck → List ℕ → ℕ → Bool
 led d names c = member c names || any (λ a. member c (reached (R d) (edge d) (R d) a)) names
 
+-- the channels that are left alone, by computing
 unfoldable pub leftAlone : Deck → List ℕ → List ℕ
 leftAlone d names = filter (λ c. not (led d names c)) (below (R d))
 

@@ -1,4 +1,4 @@
--- The channels that names lead to: the test is exact, and an edge from one of them leads to another. Assumes nothing.
+-- What is left alone is computed exactly, and an edge from a channel that is led to leads on. Assumes nothing.
 use Prim.Native.Nat.{ℕ, _<_}
 use mathlib.Core.Path.{_≡_, ap}
 use mathlib.Core.Logic.{_↔_, _⊎_, inl, inr, ⊎-elim}
