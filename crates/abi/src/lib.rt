@@ -118,13 +118,33 @@ fn numbers_of(request: Request, told: Response) -> Numbers
     ensures { λ r. ⌜ numbersAt (r .number) (r .place) (r .first) (r .second) ≡ numbersOf (outcomeTo request told) ⌝ }
 {
     match told {
-        Response::Refused { number, place } => Numbers { number, place, first: 0, second: 0 },
+        Response::Refused { number, place } => Numbers {
+            number,
+            place,
+            first: 0,
+            second: 0,
+        },
         Response::Done { flag, number: n } => {
             let one = as_number(flag);
             match request {
-                Request::Input(_) => Numbers { number: 0, place: 0, first: n, second: 0 },
-                Request::Commit(_) => Numbers { number: 0, place: 0, first: one, second: n },
-                Request::Settle(_) => Numbers { number: 0, place: 0, first: n, second: one },
+                Request::Input(_) => Numbers {
+                    number: 0,
+                    place: 0,
+                    first: n,
+                    second: 0,
+                },
+                Request::Commit(_) => Numbers {
+                    number: 0,
+                    place: 0,
+                    first: one,
+                    second: n,
+                },
+                Request::Settle(_) => Numbers {
+                    number: 0,
+                    place: 0,
+                    first: n,
+                    second: one,
+                },
             }
         }
     }
@@ -144,7 +164,7 @@ fn call(
         ≡ returned (requested (now (deck .entry)) (memoryAt (now (values .entry)) (now (pending .entry)) (now (pool .entry)))
         request (now (pairs .entry))) ⌝ }
 {
-    let told = lent_calls::call_lent(deck, pool, values, pending, request, pairs);
+    let told = calls_lent::call_lent(deck, pool, values, pending, request, pairs);
     let n = numbers_of(request, told);
     write(answer, n.place, n.first, n.second, 0, 0);
     n.number
@@ -164,7 +184,15 @@ pub extern "C" fn reaction_input(
         ≡ returned (Calls.input (now (deck .entry)) (memoryAt (now (values .entry)) (now (pending .entry)) (now (pool .entry)))
         part (now (pairs .entry))) ⌝ }
 {
-    call(deck, pool, values, pending, Request::Input(part), pairs, answer)
+    call(
+        deck,
+        pool,
+        values,
+        pending,
+        Request::Input(part),
+        pairs,
+        answer,
+    )
 }
 
 #[no_mangle]
@@ -180,7 +208,15 @@ pub extern "C" fn reaction_commit(
         ≡ returned (Calls.commit (now (deck .entry)) (memoryAt (now (values .entry)) (now (pending .entry)) (now (pool .entry))) place) ⌝ }
 {
     let none = [0i32; 0];
-    call(deck, pool, values, pending, Request::Commit(place), &none, answer)
+    call(
+        deck,
+        pool,
+        values,
+        pending,
+        Request::Commit(place),
+        &none,
+        answer,
+    )
 }
 
 #[no_mangle]
@@ -196,7 +232,15 @@ pub extern "C" fn reaction_settle(
         ≡ returned (Calls.settle (now (deck .entry)) (memoryAt (now (values .entry)) (now (pending .entry)) (now (pool .entry))) budget) ⌝ }
 {
     let none = [0i32; 0];
-    call(deck, pool, values, pending, Request::Settle(budget), &none, answer)
+    call(
+        deck,
+        pool,
+        values,
+        pending,
+        Request::Settle(budget),
+        &none,
+        answer,
+    )
 }
 
 // The new deck goes to the front of the buffer, and its length is the first answer number.

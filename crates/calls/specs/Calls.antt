@@ -7,7 +7,7 @@ use lib.Dec.{leb, ltb, eqb}
 use lib.ListN.{length, getD, take, drop}
 use lib.IntN.{ℤ, pos, natAbs}
 use lib.Signed.{leZ, ltZ}
-use Rattle.lists.specs.Lists.{all, distinct, isEmpty}
+use Rattle.lists.specs.Lists.{allOf, distinct, isEmpty}
 use Rattle.refusals.specs.Outcome.{Outcome, refused, accepted, _>>=_, _>>_, require}
 use Rattle.refusals.specs.Numbers.{badPool, badState, unknownPart, badInput, inputOutside, overCapacity, placeNotPending}
 use Rattle.refusals.specs.Numbers.{unknownSection, budgetTooLarge}
@@ -86,7 +86,7 @@ goodInput d l =
     leb 2 (length l)
     && leb (length l) (2 * limits .channels)
     && eqb (length l % 2) 0
-    && all (λ c. leZ (pos 0) c && ltZ c (pos (R d))) (channelsOf l)
+    && allOf (λ c. leZ (pos 0) c && ltZ c (pos (R d))) (channelsOf l)
     && distinct (map natAbs (channelsOf l))
 
 -- Input: the values are set and the firing follows. The answer is "charge after less charge before". Document 02, Req 01: an input

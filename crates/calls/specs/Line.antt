@@ -6,7 +6,7 @@ use Prim.Native.String.{String}
 use mathlib.Core.List.{List, [], _∷_, _++_}
 use Rattle.lists.specs.Lists.{flatMap}
 use Rattle.refusals.specs.Outcome.{Outcome, refused, accepted}
-use Rattle.text.specs.Digits.{digits}
+use Rattle.decimal.specs.Digits.{digits}
 use Rattle.calls.specs.Calls.{Answer, passed, started, added, applied, discarded, settled, spent}
 
 -- the bytes of a text

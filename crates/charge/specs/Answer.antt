@@ -18,17 +18,17 @@ unfoldable pub boundOf : Deck → Bound
 boundOf d = boundBy (aboveBound (carriedCharges d)) (largestCharge d)
 
 -- best is the largest charge at the places below k
-pub record Passed (d : Deck) (k best : ℕ) : Type 0 where
+pub record LargestBelow (d : Deck) (k best : ℕ) : Type 0 where
   pub most : (q s : ℕ) → q < N d → s < M d → carries d q s ≡ true → 64 * q + s < k → ruleCharge d q s ≤ best
   pub least : best ≤ largestCharge d
   pub fits : best ≤ 65535
 
 -- the search through part p, when the parts before it were passed
 abbrev pub PartBound : Deck → ℕ → Bound → Type 0
-PartBound d p (Within n) = Passed d (64 * (p + 1)) n
+PartBound d p (Within n) = LargestBelow d (64 * (p + 1)) n
 PartBound d p (Above k) = Above k ≡ boundOf d
 
 -- best is, up to the cap, the largest charge of the rules below k
-pub record RulesPassed (d : Deck) (k best : ℕ) : Type 0 where
+pub record LargestOfRules (d : Deck) (k best : ℕ) : Type 0 where
   pub most : (q s : ℕ) → q < N d → s < M d → carries d q s ≡ true → s < k → capped (ruleCharge d q s) ≤ best
   pub least : best ≤ capped (largestCharge d)

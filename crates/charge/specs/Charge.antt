@@ -4,12 +4,12 @@ use Prim.Native.Nat.{ℕ, zero, suc, _+_, _*_}
 use mathlib.Core.Bool.{not, cond}
 use mathlib.Core.List.{List, [], _∷_, map}
 use lib.Dec.{eqb, ltb}
-use Rattle.lists.specs.Lists.{filter, flatMap, sum, largest, below}
+use Rattle.lists.specs.Lists.{select, flatMap, sumOf, largest, below}
 use Rattle.deck.specs.Deck.{Deck, R, M, N, ruleAt, carries, targets, active}
 
 -- "all other parts", rising
 unfoldable pub others : Deck → ℕ → List ℕ
-others d p = filter (λ q. not (eqb q p)) (below (N d))
+others d p = select (λ q. not (eqb q p)) (below (N d))
 
 -- the parts that rule r's action goes to: p itself for kind 0, all others for kind 1
 unfoldable pub receivers : Deck → ℕ → ℕ → List ℕ
@@ -25,7 +25,7 @@ unfoldable mutual
   -- "1, plus the charge at p of every rule carried by p that has a target of u among its events"
   pub updateBy : ℕ → Deck → ℕ → List ℕ → ℕ
   updateBy zero d p u = 0
-  updateBy (suc k) d p u = 1 + sum (λ r. ruleBy k d p r) (active d p u)
+  updateBy (suc k) d p u = 1 + sumOf (λ r. ruleBy k d p r) (active d p u)
 
   -- "the charge at p of its default action, plus, for kind 0, that of its action at p; for kind 1, the sum of its action's
   -- charges at all other parts"
@@ -34,7 +34,7 @@ unfoldable mutual
   ruleBy (suc k) d p r =
       let default = targets (ruleAt d r .default) in
       let action = targets (ruleAt d r .action) in
-      unlessEmpty default (updateBy k d p default) + sum (λ q. unlessEmpty action (updateBy k d q action)) (receivers d p r)
+      unlessEmpty default (updateBy k d p default) + sumOf (λ q. unlessEmpty action (updateBy k d q action)) (receivers d p r)
 
 -- deep enough on an acyclic deck: along a path of at most R channels updates and rules take turns
 unfoldable pub depth : Deck → ℕ
@@ -55,7 +55,7 @@ pub record Charged : Type 0 where
 unfoldable pub carriedCharges : Deck → List Charged
 carriedCharges d =
     flatMap
-    (λ p. map (λ r. record { place = 64 * p + r; charge = ruleCharge d p r }) (filter (carries d p) (below (M d))))
+    (λ p. map (λ r. record { place = 64 * p + r; charge = ruleCharge d p r }) (select (carries d p) (below (M d))))
     (below (N d))
 
 -- "the largest charge of any carried rule (0 if none)"
@@ -64,7 +64,7 @@ largestCharge d = largest (λ x. x .charge) (carriedCharges d)
 
 -- 8: the places whose charge is above 65,535
 unfoldable pub aboveBound : List Charged → List ℕ
-aboveBound l = map (λ x. x .place) (filter (λ x. ltb 65535 (x .charge)) l)
+aboveBound l = map (λ x. x .place) (select (λ x. ltb 65535 (x .charge)) l)
 
 -- to open all definitions of this file, on an `unfolding` line
 unfoldable pub charges : Unit {0}

@@ -7,7 +7,7 @@ use mathlib.Core.List.{List}
 use lib.Bits.{bitAnd}
 use lib.Dec.{eqb, ltb, leb}
 use lib.ListN.{length, getD, replicate}
-use Rattle.lists.specs.Lists.{any, member, sum, below}
+use Rattle.lists.specs.Lists.{anyOf, member, sumOf, below}
 use Rattle.lists.specs.Bits.{bit}
 use Rattle.deck.specs.Deck.{Deck, M, N}
 use Rattle.deck.specs.Shape.{bitsOf, shapeOf}
@@ -38,7 +38,7 @@ pub record RuleNoted (events r : ℕ) (rules₀ rules : List ℕ) : Type 0 where
 
 -- the rules that listen to a channel of the mask, by column 7
 pub record ListenersAre (rules : List ℕ) (mask s : ℕ) : Type 0 where
-  pub each : (r : ℕ) → bit s r ≡ any (λ c. bit (getD rules (8 * c + 7) 0) r) (bitsOf 32 mask)
+  pub each : (r : ℕ) → bit s r ≡ anyOf (λ c. bit (getD rules (8 * c + 7) 0) r) (bitsOf 32 mask)
 
 -- what the reading pass and the test for cycles gave, with the listeners noted: a row for each of 32 channels and of M rules
 pub record AcyclicTables (rules parts : List ℕ) (R M N : ℕ) : Type 0 where
@@ -83,12 +83,12 @@ UpdateGives rules parts R M N p mask m s =
 -- part p carries rule r, which has a channel of the mask among its events
 abbrev pub hearing : List ℕ → List ℕ → ℕ → ℕ → ℕ → Bool
 hearing rules parts p r mask =
-    bit (getD parts (4 * p) 0) r && any (λ c. member c (bitsOf 32 (getD rules (8 * r) 0))) (bitsOf 32 mask)
+    bit (getD parts (4 * p) 0) r && anyOf (λ c. member c (bitsOf 32 (getD rules (8 * r) 0))) (bitsOf 32 mask)
 
 -- the same for a rule that one of the N parts carries
 abbrev pub listening : List ℕ → List ℕ → ℕ → ℕ → ℕ → Bool
 listening rules parts N r mask =
-    any (λ c. member c (bitsOf 32 (getD rules (8 * r) 0))) (bitsOf 32 mask) && carriedAt parts N r
+    anyOf (λ c. member c (bitsOf 32 (getD rules (8 * r) 0))) (bitsOf 32 mask) && carriedAt parts N r
 
 -- the rules that are active at part p when the channels of the mask change
 pub record ActiveIs (rules parts : List ℕ) (M p mask s : ℕ) : Type 0 where
@@ -124,7 +124,7 @@ pub record RowPut (N r kind : ℕ) (first second m₀ m : List ℕ) : Type 0 whe
   pub long : length m ≡ length m₀
   pub each : (p : ℕ) → p < N
       → getD m (16 * r + p) 0
-      ≡ suc (capped (getD first p 0 + cond (eqb kind 1) (sum (λ q. getD second q 0) (below N) - getD second p 0) (getD second p 0)))
+      ≡ suc (capped (getD first p 0 + cond (eqb kind 1) (sumOf (λ q. getD second q 0) (below N) - getD second p 0) (getD second p 0)))
   pub others : (i : ℕ) → (i < 16 * r) ⊎ (16 * r + N ≤ i) → getD m i 0 ≡ getD m₀ i 0
 
 -- the memo has all that it had

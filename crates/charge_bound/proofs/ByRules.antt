@@ -16,13 +16,13 @@ use Rattle.graph.specs.Masks.{carriedAt}
 use Rattle.charge.specs.declared.Bound.the-variants.{Within}
 use Rattle.charge.specs.Charge.{largestCharge}
 use Rattle.charge.specs.Memo.{AcyclicTables, Memo, RowKnown, RowLargest, capped}
-use Rattle.charge.specs.Answer.{boundOf, Passed, RulesPassed}
+use Rattle.charge.specs.Answer.{boundOf, LargestBelow, LargestOfRules}
 use Rattle.charge.specs.Laws.Largest.{largest-charge}
-use Rattle.listeners.specs.Laws.Listening.{carried-by}
+use Rattle.charge_listeners.specs.Laws.Listening.{carried-by}
 use Rattle.charge_tables.specs.Laws.Entries.{known-at}
 use Rattle.charge_bound.proofs.Search.{few-rules, is-place, passed-all}
 
-pub rules-none : {d : Deck} → RulesPassed d 0 0
+pub rules-none : {d : Deck} → LargestOfRules d 0 0
 rules-none = record { most = λ q s _ _ _ h. absurd (omega arith); least = zero-le }
 
 module _ {rules parts : List ℕ} {R′ M′ N′ : ℕ} (h : AcyclicTables rules parts R′ M′ N′) where
@@ -37,9 +37,9 @@ module _ {rules parts : List ℕ} {R′ M′ N′ : ℕ} (h : AcyclicTables rule
   carries-is q s l m t =
       sym (shape-carries rules parts R′ M′ N′ q s (inside q l) (omega (arith, few-rules h))) ∙ t
 
-  module _ {k best : ℕ} (w : RulesPassed d k best) where
+  module _ {k best : ℕ} (w : LargestOfRules d k best) where
     -- no part carries rule k
-    pub rules-skip : carriedAt parts N′ k ≡ false → RulesPassed d (k + 1) best
+    pub rules-skip : carriedAt parts N′ k ≡ false → LargestOfRules d (k + 1) best
     rules-skip f =
         record {
           most = λ q s l m t v.
@@ -53,7 +53,7 @@ module _ {rules parts : List ℕ} {R′ M′ N′ : ℕ} (h : AcyclicTables rule
         }
 
     pub rules-more : {m : List ℕ} {most : ℕ} → k < M′ → Memo d m → RowKnown N′ k m → RowLargest parts m N′ k best most
-        → RulesPassed d (k + 1) most
+        → LargestOfRules d (k + 1) most
     rules-more {m} {most} b memo known row =
         record {
           most = λ q s l v t u.
@@ -80,7 +80,7 @@ module _ {rules parts : List ℕ} {R′ M′ N′ : ℕ} (h : AcyclicTables rule
     pub rules-within : k ≡ M′ → best < 65536 → Within best ≡ boundOf d
     rules-within e small = passed-all d (few-rules h) all N′ (shape-N rules parts R′ M′ N′) refl
       where
-        all : Passed d (64 * N′) best
+        all : LargestBelow d (64 * N′) best
         all =
             record {
               most = λ q s l m t _. omega (arith, w .most q s l m t (omega (arith, shape-M rules parts R′ M′ N′)));

@@ -16,7 +16,7 @@ use Rattle.deck.specs.Laws.Shape.{shape-M, shape-N, shape-carries}
 use Rattle.charge.specs.declared.Bound.the-variants.{Within, Above}
 use Rattle.charge.specs.Charge.{ruleCharge, carriedCharges, largestCharge, aboveBound}
 use Rattle.charge.specs.Memo.{AcyclicTables, capped}
-use Rattle.charge.specs.Answer.{boundBy, boundOf, Passed}
+use Rattle.charge.specs.Answer.{boundBy, boundOf, LargestBelow}
 use Rattle.charge.specs.Laws.Largest.{AtMost, largest-charge}
 use Rattle.charge.specs.Laws.Bound.{FirstAbove, none-above, first-above}
 
@@ -25,12 +25,12 @@ abbrev pub Carried : Deck → ℕ → ℕ → Type 0
 Carried d p r = (p < N d) × (r < M d) × (carries d p r ≡ true)
 
 module _ (d : Deck) (few : M d ≤ 64) where
-  pub passed-none : Passed d 0 0
+  pub passed-none : LargestBelow d 0 0
   passed-none = record { most = λ q s _ _ _ h. absurd (omega arith); least = zero-le; fits = zero-le }
 
-  module _ {k best : ℕ} (h : Passed d k best) where
+  module _ {k best : ℕ} (h : LargestBelow d k best) where
     -- no rule is carried at the places up to m
-    pub passed-skip : (m : ℕ) → ((q s : ℕ) → Carried d q s → k ≤ 64 * q + s → 64 * q + s < m → ⊥) → Passed d m best
+    pub passed-skip : (m : ℕ) → ((q s : ℕ) → Carried d q s → k ≤ 64 * q + s → 64 * q + s < m → ⊥) → LargestBelow d m best
     passed-skip m none =
         record { most = λ q s l w c v. go q s (l, w, c) v (decLt (64 * q + s) k); least = h .least; fits = h .fits }
       where
@@ -39,9 +39,9 @@ module _ (d : Deck) (few : M d ≤ 64) where
         go q s c v (no l) = absurd (none q s c (omega arith) v)
 
   -- the next place is that of a carried rule
-  module _ {p r best : ℕ} (h : Passed d (64 * p + r) best) (y : Carried d p r) where
+  module _ {p r best : ℕ} (h : LargestBelow d (64 * p + r) best) (y : Carried d p r) where
     pub passed-more : {c b : ℕ} → c ≡ capped (ruleCharge d p r) → (c ≡ 65536 → ⊥) → b ≡ max best c
-        → Passed d (64 * p + r + 1) b
+        → LargestBelow d (64 * p + r + 1) b
     passed-more {c} {b} v n e =
         let charge : c ≡ ruleCharge d p r = omega arith in
         let most = largest-charge d (largestCharge d) .0 (le-refl (largestCharge d)) p r (y .0) (y .1) (y .2) in
@@ -82,7 +82,7 @@ module _ (d : Deck) (few : M d ≤ 64) where
             same (no _) (yes l) = absurd (omega (arith, first .lowest p r (y .0) (y .1) (y .2) l))
             same (no a) (no b) = omega arith
 
-  module _ {k best : ℕ} (h : Passed d k best) where
+  module _ {k best : ℕ} (h : LargestBelow d k best) where
     pub passed-all : (n : ℕ) → N d ≡ n → k ≡ 64 * n → Within best ≡ boundOf d
     unfolding boundOf boundBy
     passed-all n same e =
@@ -109,8 +109,8 @@ module _ {rules parts : List ℕ} {R′ M′ N′ : ℕ} (h : AcyclicTables rule
 
   module _ (p : ℕ) (l : p < N′) {best : ℕ} where
     -- at part p, from rule k on, r is the next one that is carried, or there is none
-    pub passed-next : (k r : ℕ) → k ≤ M′ → NextIn (getD parts (4 * p) 0) k r → Passed deck (64 * p + k) best
-        → Passed deck (64 * p + min r M′) best
+    pub passed-next : (k r : ℕ) → k ≤ M′ → NextIn (getD parts (4 * p) 0) k r → LargestBelow deck (64 * p + k) best
+        → LargestBelow deck (64 * p + min r M′) best
     passed-next k r m n w = passed-skip deck few-rules w (64 * p + min r M′) between
       where
         between : (q s : ℕ) → Carried deck q s → 64 * p + k ≤ 64 * q + s → 64 * q + s < 64 * p + min r M′ → ⊥
@@ -120,7 +120,7 @@ module _ {rules parts : List ℕ} {R′ M′ N′ : ℕ} (h : AcyclicTables rule
             contradiction (ap (λ p. bit (getD parts (4 * p) 0) s) (sym same) ∙ t) (n .passed s (omega arith) (omega arith))
 
     -- all rules of the part are passed
-    pub passed-part : (r : ℕ) → M′ ≤ r → Passed deck (64 * p + min r M′) best → Passed deck (64 * (p + 1)) best
+    pub passed-part : (r : ℕ) → M′ ≤ r → LargestBelow deck (64 * p + min r M′) best → LargestBelow deck (64 * (p + 1)) best
     passed-part r m w =
         passed-skip deck few-rules w (64 * (p + 1))
         (λ q s c a b. omega (arith, c .1, few-rules, shape-M rules parts R′ M′ N′))

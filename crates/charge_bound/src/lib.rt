@@ -5,7 +5,7 @@ ghost use Prim.Native.Nat.{_+_, _*_, _<_, _≤_, max};
 ghost use lib.ListN.{length};
 ghost use Rattle.deck.specs.Shape.{shapeOf};
 ghost use Rattle.charge.specs.Memo.{Memo, Ready, RowKnown, RowLargest};
-ghost use Rattle.charge.specs.Answer.{boundOf, Passed, PartBound, RulesPassed};
+ghost use Rattle.charge.specs.Answer.{boundOf, LargestBelow, PartBound, LargestOfRules};
 use charge::Bound;
 use deck::Deck;
 
@@ -26,8 +26,10 @@ fn part_above(
     p: usize,
     best: u32,
 ) -> Bound
-    requires { ⌜ Ready (now rules) (now parts) channels count «parts_count» (now memo) × (p < «parts_count») × Passed (shapeOf (now rules) (now parts) channels count «parts_count») (64 * p) best ⌝ }
-    ensures { λ b. ⌜ PartBound (shapeOf (now (rules .entry)) (now (parts .entry)) channels count «parts_count») p b × Memo (shapeOf (now (rules .entry)) (now (parts .entry)) channels count «parts_count») (now (memo .exit)) ⌝ }
+    requires { ⌜ Ready (now rules) (now parts) channels count «parts_count» (now memo) × (p < «parts_count»)
+        × LargestBelow (shapeOf (now rules) (now parts) channels count «parts_count») (64 * p) best ⌝ }
+    ensures { λ b. ⌜ PartBound (shapeOf (now (rules .entry)) (now (parts .entry)) channels count «parts_count») p b
+        × Memo (shapeOf (now (rules .entry)) (now (parts .entry)) channels count «parts_count») (now (memo .exit)) ⌝ }
 {
     let carried = parts[Deck::PART_ROW * p];
     let mut most = best;
@@ -56,7 +58,8 @@ fn search_above(
     parts_count: usize,
 ) -> Bound
     requires { ⌜ Ready (now rules) (now parts) channels count «parts_count» (now memo) ⌝ }
-    ensures { λ b. ⌜ (b ≡ boundOf (shapeOf (now (rules .entry)) (now (parts .entry)) channels count «parts_count»)) × Memo (shapeOf (now (rules .entry)) (now (parts .entry)) channels count «parts_count») (now (memo .exit)) ⌝ }
+    ensures { λ b. ⌜ (b ≡ boundOf (shapeOf (now (rules .entry)) (now (parts .entry)) channels count «parts_count»))
+        × Memo (shapeOf (now (rules .entry)) (now (parts .entry)) channels count «parts_count») (now (memo .exit)) ⌝ }
 {
     let mut best: u32 = 0;
     let mut p: usize = 0;
@@ -77,13 +80,14 @@ fn search_above(
 
 // The largest of a number and the charges of rule r at the parts that carry it.
 fn row_largest(parts: &[u64], memo: &[u32], parts_count: usize, r: usize, best: u32) -> u32
-    requires { ⌜ (64 ≤ length (now parts)) × (16 * r + 16 ≤ length (now memo)) × («parts_count» ≤ 16) × (r < 64) × RowKnown «parts_count» r (now memo) ⌝ }
+    requires { ⌜ (64 ≤ length (now parts)) × (16 * r + 16 ≤ length (now memo)) × («parts_count» ≤ 16) × (r < 64)
+        × RowKnown «parts_count» r (now memo) ⌝ }
     ensures { λ most. ⌜ RowLargest (now (parts .entry)) (now (memo .entry)) «parts_count» r best most ⌝ }
 {
     let mut most = best;
     let mut q: usize = 0;
     while q < parts_count {
-        if listeners::carries(parts, q, r) {
+        if charge_listeners::carries(parts, q, r) {
             most = larger(most, memo[Deck::PARTS * r + q] - 1);
         }
         q += 1;
@@ -101,7 +105,8 @@ fn largest(
     parts_count: usize,
 ) -> u32
     requires { ⌜ Ready (now rules) (now parts) channels count «parts_count» (now memo) ⌝ }
-    ensures { λ most. ⌜ RulesPassed (shapeOf (now (rules .entry)) (now (parts .entry)) channels count «parts_count») count most × Memo (shapeOf (now (rules .entry)) (now (parts .entry)) channels count «parts_count») (now (memo .exit)) ⌝ }
+    ensures { λ most. ⌜ LargestOfRules (shapeOf (now (rules .entry)) (now (parts .entry)) channels count «parts_count») count most
+        × Memo (shapeOf (now (rules .entry)) (now (parts .entry)) channels count «parts_count») (now (memo .exit)) ⌝ }
 {
     let carried = graph::carried_by_some(parts, parts_count);
     let mut most: u32 = 0;
@@ -127,7 +132,8 @@ pub fn first_above(
     parts_count: usize,
 ) -> Bound
     requires { ⌜ Ready (now rules) (now parts) channels count «parts_count» (now memo) ⌝ }
-    ensures { λ b. ⌜ (b ≡ boundOf (shapeOf (now (rules .entry)) (now (parts .entry)) channels count «parts_count»)) × Memo (shapeOf (now (rules .entry)) (now (parts .entry)) channels count «parts_count») (now (memo .exit)) ⌝ }
+    ensures { λ b. ⌜ (b ≡ boundOf (shapeOf (now (rules .entry)) (now (parts .entry)) channels count «parts_count»))
+        × Memo (shapeOf (now (rules .entry)) (now (parts .entry)) channels count «parts_count») (now (memo .exit)) ⌝ }
 {
     let most = largest(rules, parts, memo, channels, count, parts_count);
     if most < charge_tables::CAP {

@@ -6,7 +6,7 @@ use mathlib.Core.List.{List}
 use native.Mathlib.Omega.{arith}
 use Rattle.lists.specs.Lists.{largest, member}
 use Rattle.lists.specs.Laws.Booleans.{or-left, or-right}
-use Rattle.lists.specs.Laws.Below.{filter-below}
+use Rattle.lists.specs.Laws.Below.{select-below}
 use Rattle.lists.specs.Laws.Sums.{largest-member, largest-bound}
 use Rattle.deck.specs.Deck.{Deck, R, M, N, active}
 use Rattle.graph.specs.Graph.{edge, assigns}
@@ -43,7 +43,7 @@ module _ {d : Deck} (known : KnownTargets d) (acyclic : Acyclic d) where
   pub falls : (p r : ℕ) (u : List ℕ) → p < N d → r < M d → listens d p u r ≡ true → ruleRank d r < updateRank d u
   unfolding rank above active assigns
   falls p r u l m t =
-      let found = active-member d p u r .0 (filter-below (listens d p u) (M d) r .1 (m, t)) in
+      let found = active-member d p u r .0 (select-below (listens d p u) (M d) r .1 (m, t)) in
       let c = found .2 .0 in
       let carried = carried-intro d p r l (found .1) in
       omega (

@@ -9,14 +9,15 @@ use lib.Bits.{bitAnd}
 use lib.Dec.{eqb}
 use lib.ListN.{length, getD, replicate, length-replicate}
 use borrow.Author.Tests.{eq-eqb, ne-eqb}
-use Rattle.lists.specs.Lists.{sum, below}
+use Rattle.lists.specs.Lists.{sumOf, below}
 use Rattle.lists.specs.Bits.{bit}
-use Rattle.lists.specs.Laws.Steps.{sum-start, sum-next, sum-only}
+use Rattle.lists.specs.Laws.Steps.{sumOf-start, sumOf-next, sumOf-only}
 use Rattle.deck.specs.Deck.{Deck, N}
 use Rattle.deck.specs.Shape.{bitsOf, shapeOf}
 use Rattle.deck.specs.Laws.Shape.{shape-N, shape-kind}
 use Rattle.charge.specs.Charge.{unlessEmpty, updateCharge, ruleCharge}
-use Rattle.charge.specs.Memo.{AcyclicTables, Memo, RowSmall, RowKnown, RowAdded, RowPut, Keeps, Begun, UpdatesGive, RulesGive, listening, capped}
+use Rattle.charge.specs.Memo.{AcyclicTables, Memo, RowSmall, RowKnown, RowAdded, RowPut, Keeps, Begun, UpdatesGive, RulesGive, listening}
+use Rattle.charge.specs.Memo.{capped}
 use Rattle.charge_tables.specs.Laws.Entries.{few-parts, known-at}
 use Rattle.charge_tables.proofs.Sets.{no-channel, some-channel}
 use Rattle.charge_tables.proofs.Terms.{heard, own, given, unless-none, unless-some}
@@ -47,7 +48,7 @@ row-replicated x n k f s few e =
 
 -- the charges of the rules below k that hear an update, at each part, added to 1
 abbrev pub hearsBelow : Deck → ℕ → ℕ → ℕ → ℕ
-hearsBelow d mask k q = 1 + sum (heard d q (bitsOf 32 mask)) (below k)
+hearsBelow d mask k q = 1 + sumOf (heard d q (bitsOf 32 mask)) (below k)
 
 pub record Hearing (d : Deck) (n mask k : ℕ) (xs : List ℕ) : Type 0 where
   pub row : RowOf n (hearsBelow d mask k) k xs
@@ -74,7 +75,7 @@ module _ {rules parts : List ℕ} {R′ M′ N′ : ℕ} (h : AcyclicTables rule
       record {
         row = rw e
             (row-replicated 1 N′ 0 (hearsBelow d mask 0) (omega arith) (h .few-parts)
-            (λ q. omega (arith, sum-start (heard d q (bitsOf 32 mask)))));
+            (λ q. omega (arith, sumOf-start (heard d q (bitsOf 32 mask)))));
       }
 
   module _ {mask k : ℕ} {row : List ℕ} (w : Hearing d N′ mask k row) (b : k < M′) where
@@ -86,7 +87,7 @@ module _ {rules parts : List ℕ} {R′ M′ N′ : ℕ} (h : AcyclicTables rule
             each = λ q l.
                 w .row .each q l
                 ∙ ap capped
-                (omega (arith, sum-next (heard d q (bitsOf 32 mask)) k, not-listening-heard h k b mask f q l));
+                (omega (arith, sumOf-next (heard d q (bitsOf 32 mask)) k, not-listening-heard h k b mask f q l));
           };
         }
 
@@ -108,13 +109,13 @@ module _ {rules parts : List ℕ} {R′ M′ N′ : ℕ} (h : AcyclicTables rule
               added .each q l,
               w .row .each q l,
               listening-heard h k b mask t q l,
-              sum-next (heard d q (bitsOf 32 mask)) k,
+              sumOf-next (heard d q (bitsOf 32 mask)) k,
             )
 
   -- what the action of rule r adds at part p
   share : (r : ℕ) {xs : List ℕ} → RowOf N′ (given d r) 64 xs → (b : Bool) (p : ℕ) → p < N′
-      → capped (cond b (sum (λ q. getD xs q 0) (below N′) - getD xs p 0) (getD xs p 0))
-      ≡ capped (sum (λ q. cond (cond b (not (eqb q p)) (eqb q p)) (given d r q) 0) (below N′))
+      → capped (cond b (sumOf (λ q. getD xs q 0) (below N′) - getD xs p 0) (getD xs p 0))
+      ≡ capped (sumOf (λ q. cond (cond b (not (eqb q p)) (eqb q p)) (given d r q) 0) (below N′))
   share r {xs} two true p l =
       omega (
         arith,
@@ -130,7 +131,7 @@ module _ {rules parts : List ℕ} {R′ M′ N′ : ℕ} (h : AcyclicTables rule
       two .each p l
       ∙ ap capped
       (sym
-      (sum-only (λ q. cond (eqb q p) (given d r q) 0) p (λ q v. ap (λ c. cond c (given d r q) 0) (ne-eqb q p v)) N′ l
+      (sumOf-only (λ q. cond (eqb q p) (given d r q) 0) p (λ q v. ap (λ c. cond c (given d r q) 0) (ne-eqb q p v)) N′ l
       ∙ ap (λ c. cond c (given d r p) 0) (eq-eqb p p refl)))
 
   pub row-written : {r : ℕ} {m n xs ys : List ℕ} → r < M′ → RowOf N′ (λ q. own d q r) 64 xs → RowOf N′ (given d r) 64 ys
@@ -146,7 +147,7 @@ module _ {rules parts : List ℕ} {R′ M′ N′ : ℕ} (h : AcyclicTables rule
       each : (p : ℕ) → p < N′ → getD n (16 * r + p) 0 ≡ suc (capped (ruleCharge d p r))
       each p l =
           let s = share r two (eqb (getD rules (8 * r + 3) 0) 1) p l in
-          let e = ap (λ b. sum (λ q. cond (cond b (not (eqb q p)) (eqb q p)) (given d r q) 0) (below N′))
+          let e = ap (λ b. sumOf (λ q. cond (cond b (not (eqb q p)) (eqb q p)) (given d r q) 0) (below N′))
           (shape-kind rules parts R′ M′ N′ r b) in
           put .each p l ∙ ap suc (omega (arith, one .each p l, s, e, rule-all h p l r))
 

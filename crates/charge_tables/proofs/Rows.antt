@@ -12,10 +12,10 @@ use lib.Dec.{eqb}
 use lib.ListN.{length, getD, set, replicate, length-set}
 use borrow.Author.Tests.{eq-eqb, ne-eqb}
 use lib.Seq.{getD-set-same, getD-set-other}
-use Rattle.lists.specs.Lists.{sum, below}
+use Rattle.lists.specs.Lists.{sumOf, below}
 use Rattle.lists.specs.Bits.{bit}
-use Rattle.lists.specs.Laws.Sums.{sum-cong, sum-plus}
-use Rattle.lists.specs.Laws.Steps.{sum-start, sum-next, sum-only}
+use Rattle.lists.specs.Laws.Sums.{sumOf-cong, sumOf-plus}
+use Rattle.lists.specs.Laws.Steps.{sumOf-start, sumOf-next, sumOf-only}
 use Rattle.charge.specs.Memo.{RowSmall, RowKnown, RowAdded, RowPut, capped}
 
 pub small-inside : {r q n : ℕ} {row : List ℕ} → RowSmall r row → q < n → n ≤ 16 → q < length row
@@ -127,7 +127,7 @@ module _ {parts m : List ℕ} {N r : ℕ} {row₀ row : List ℕ} {k : ℕ} (h :
 -- what it has at part p: of the charges in `second` the part's own, or the sum of the others
 abbrev pub entry : ℕ → ℕ → List ℕ → List ℕ → ℕ → ℕ
 entry N kind first second p =
-    suc (capped (getD first p 0 + cond (eqb kind 1) (sum (λ q. getD second q 0) (below N) - getD second p 0) (getD second p 0)))
+    suc (capped (getD first p 0 + cond (eqb kind 1) (sumOf (λ q. getD second q 0) (below N) - getD second p 0) (getD second p 0)))
 
 -- it was written at the first k parts
 pub record Putting (N r kind : ℕ) (first second m₀ m : List ℕ) (k : ℕ) : Type 0 where
@@ -159,11 +159,11 @@ share-only false total own = refl
 -- ---- sums over the parts
 
 -- the part p, and the others
-pub sum-parted : (f : ℕ → ℕ) (n p : ℕ) → p < n → sum f (below n) ≡ f p + sum (λ q. cond (not (eqb q p)) (f q) 0) (below n)
+pub sum-parted : (f : ℕ → ℕ) (n p : ℕ) → p < n → sumOf f (below n) ≡ f p + sumOf (λ q. cond (not (eqb q p)) (f q) 0) (below n)
 sum-parted f n p l =
-    let one = sum-only only p (λ q h. ap (λ b. cond b (f q) 0) (ne-eqb q p h)) n l in
+    let one = sumOf-only only p (λ q h. ap (λ b. cond b (f q) 0) (ne-eqb q p h)) n l in
     let this : only p ≡ f p = ap (λ b. cond b (f p) 0) (eq-eqb p p refl) in
-    let both = sum-cong f (λ q. only q + other q) (below n) (λ q _. split (eqb q p) (f q)) ∙ sum-plus only other (below n) in
+    let both = sumOf-cong f (λ q. only q + other q) (below n) (λ q _. split (eqb q p) (f q)) ∙ sumOf-plus only other (below n) in
     omega arith
   where
     only : ℕ → ℕ
@@ -177,21 +177,21 @@ sum-parted f n p l =
     split false x = omega arith
 
 -- numbers up to b
-pub sum-most : (f : ℕ → ℕ) (b n : ℕ) → ((q : ℕ) → f q ≤ b) → sum f (below n) ≤ n * b
-sum-most f b zero h = omega (arith, sum-start f)
+pub sum-most : (f : ℕ → ℕ) (b n : ℕ) → ((q : ℕ) → f q ≤ b) → sumOf f (below n) ≤ n * b
+sum-most f b zero h = omega (arith, sumOf-start f)
 sum-most f b (suc n) h =
-    let e = ap (λ k. sum f (below k)) (sym (add-one n)) in
-    omega (arith, e, sum-next f n, h n, sum-most f b n h)
+    let e = ap (λ k. sumOf f (below k)) (sym (add-one n)) in
+    omega (arith, e, sumOf-next f n, h n, sum-most f b n h)
 
 -- terms that agree up to the cap have sums that do
 pub sum-capped : (f g : ℕ → ℕ) (n : ℕ) → ((q : ℕ) → q < n → capped (f q) ≡ capped (g q))
-    → capped (sum f (below n)) ≡ capped (sum g (below n))
-sum-capped f g zero h = ap capped (sum-start f ∙ sym (sum-start g))
+    → capped (sumOf f (below n)) ≡ capped (sumOf g (below n))
+sum-capped f g zero h = ap capped (sumOf-start f ∙ sym (sumOf-start g))
 sum-capped f g (suc n) h =
-    let e = ap (λ k. sum f (below k)) (sym (add-one n)) in
-    let i = ap (λ k. sum g (below k)) (sym (add-one n)) in
-    omega (arith, e, i, sum-next f n, sum-next g n, h n (omega arith), sum-capped f g n (λ q l. h q (omega arith)))
+    let e = ap (λ k. sumOf f (below k)) (sym (add-one n)) in
+    let i = ap (λ k. sumOf g (below k)) (sym (add-one n)) in
+    omega (arith, e, i, sumOf-next f n, sumOf-next g n, h n (omega arith), sum-capped f g n (λ q l. h q (omega arith)))
 
 module _ {row : List ℕ} {n : ℕ} (h : RowSmall 64 row) (few : n ≤ 16) where
-  pub row-most : sum (λ q. getD row q 0) (below n) ≤ 67108880
+  pub row-most : sumOf (λ q. getD row q 0) (below n) ≤ 67108880
   row-most = omega (arith, sum-most (λ q. getD row q 0) 4194305 n (λ q. omega (arith, h .each q)))

@@ -5,15 +5,15 @@ use mathlib.Core.Bool.{true, false, _&&_, and-true}
 use mathlib.Core.List.{[]}
 use native.Mathlib.Omega.{arith}
 use lib.Bits.{bitAnd, and-le-r}
-use Rattle.lists.specs.Lists.{lists, all, below}
+use Rattle.lists.specs.Lists.{lists, allOf, below}
 use Rattle.lists.specs.Bits.{bit}
-use Rattle.lists.specs.Laws.Members.{all-member}
+use Rattle.lists.specs.Laws.Members.{allOf-member}
 use Rattle.lists.specs.Laws.Below.{below-member, none-below}
 use Rattle.lists.specs.Laws.Bits.{bit-and, bit-zero, no-bits}
 use Rattle.deck.specs.Shape.{bitsOf}
 
 -- the mask of all 32 channels
-full : all (bit 4294967295) (below 32) ≡ true
+full : allOf (bit 4294967295) (below 32) ≡ true
 unfolding lists bit
 full = refl
 
@@ -21,7 +21,7 @@ module _ (x : ℕ) where
   low-bit : (c : ℕ) → c < 32 → bit (bitAnd x 4294967295) c ≡ bit x c
   low-bit c h =
       bit-and x 4294967295 c
-      ∙ ap (λ b. bit x c && b) (all-member (bit 4294967295) (below 32) .0 full c (below-member 32 c .0 h))
+      ∙ ap (λ b. bit x c && b) (allOf-member (bit 4294967295) (below 32) .0 full c (below-member 32 c .0 h))
       ∙ and-true (bit x c)
 
   all-clear : ((c : ℕ) → c < 32 → bit x c ≡ false) → bitAnd x 4294967295 ≡ 0

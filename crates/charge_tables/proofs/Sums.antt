@@ -3,8 +3,8 @@ use Prim.Native.Nat.{ℕ, _+_, _≤_}
 use mathlib.Core.Path.{_≡_, ap, _∙_}
 use mathlib.Core.List.{List}
 use native.Mathlib.Omega.{arith}
-use Rattle.lists.specs.Lists.{sum, below}
-use Rattle.lists.specs.Laws.Steps.{sum-start, sum-next}
+use Rattle.lists.specs.Lists.{sumOf, below}
+use Rattle.lists.specs.Laws.Steps.{sumOf-start, sumOf-next}
 use Rattle.deck.specs.Deck.{Deck}
 use Rattle.charge.specs.Memo.{Answered, capped}
 
@@ -20,15 +20,15 @@ plus h c e = record { value = e ∙ (let a = h .value in let b = c .value in ome
 
 -- to x the terms of f below k are added
 pub record Summing (d : Deck) (x : ℕ) (f : ℕ → ℕ) (m : List ℕ) (s k : ℕ) : Type 0 where
-  pub sum : Answered d (x + sum f (below k)) m s
+  pub soFar : Answered d (x + sumOf f (below k)) m s
 
 module _ {d : Deck} {x : ℕ} {f : ℕ → ℕ} {m : List ℕ} {s : ℕ} where
   pub none-yet : Answered d x m s → Summing d x f m s 0
-  none-yet h = record { sum = same h (omega (arith, sum-start f)) }
+  none-yet h = record { soFar = same h (omega (arith, sumOf-start f)) }
 
   module _ {k : ℕ} (h : Summing d x f m s k) where
     pub skip : f k ≡ 0 → Summing d x f m s (k + 1)
-    skip e = record { sum = same (h .sum) (omega (arith, sum-next f k, e)) }
+    skip e = record { soFar = same (h .soFar) (omega (arith, sumOf-next f k, e)) }
 
     pub more : {y z t : ℕ} {n : List ℕ} → f k ≡ y → Answered d y n z → t ≡ capped (s + z) → Summing d x f n t (k + 1)
-    more q c e = record { sum = same (plus (h .sum) c e) (omega (arith, sum-next f k, q)) }
+    more q c e = record { soFar = same (plus (h .soFar) c e) (omega (arith, sumOf-next f k, q)) }

@@ -5,10 +5,10 @@ use mathlib.Core.Bool.{Bool, true, false, _&&_, cond, and-true}
 use mathlib.Core.List.{List}
 use native.Mathlib.Omega.{arith}
 use lib.ListN.{getD}
-use Rattle.lists.specs.Lists.{any, sum, below, member}
+use Rattle.lists.specs.Lists.{anyOf, sumOf, below, member}
 use Rattle.lists.specs.Bits.{bit}
 use Rattle.lists.specs.Laws.Booleans.{contradiction, not-true→false, and-both, and-left, and-right}
-use Rattle.lists.specs.Laws.Below.{any-below}
+use Rattle.lists.specs.Laws.Below.{anyOf-below}
 use Rattle.deck.specs.Deck.{Deck, N}
 use Rattle.deck.specs.Shape.{bitsOf, shapeOf}
 use Rattle.deck.specs.Laws.Shape.{shape-M, shape-N}
@@ -16,8 +16,9 @@ use Rattle.graph.specs.Masks.{carriedAt}
 use Rattle.charge.specs.Charge.{unlessEmpty, updateCharge, ruleCharge}
 use Rattle.charge.specs.Memo.{AcyclicTables, hearing, listening}
 use Rattle.charge.specs.Laws.Equations.{defaults, actions}
-use Rattle.listeners.specs.Laws.Listening.{carried-by}
-use Rattle.charge_tables.proofs.Terms.{heard, own, given, sent, when-no, when-yes, update-is, rule-is, defaults-are, actions-are, listens-is}
+use Rattle.charge_listeners.specs.Laws.Listening.{carried-by}
+use Rattle.charge_tables.proofs.Terms.{heard, own, given, sent, when-no, when-yes, update-is, rule-is, defaults-are, actions-are}
+use Rattle.charge_tables.proofs.Terms.{listens-is}
 use Rattle.charge_tables.proofs.Heights.{rank, updateRank, ruleRank, falls}
 
 module _ {rules parts : List ℕ} {R′ M′ N′ : ℕ} (h : AcyclicTables rules parts R′ M′ N′) where
@@ -28,14 +29,14 @@ module _ {rules parts : List ℕ} {R′ M′ N′ : ℕ} (h : AcyclicTables rule
   inside p l = omega (arith, shape-N rules parts R′ M′ N′)
 
   module _ (p : ℕ) (l : p < N′) where
-    pub update-all : (u : List ℕ) → 1 + sum (heard d p u) (below M′) ≡ updateCharge d p u
+    pub update-all : (u : List ℕ) → 1 + sumOf (heard d p u) (below M′) ≡ updateCharge d p u
     update-all u =
-        ap (λ n. 1 + sum (heard d p u) (below n)) (sym (shape-M rules parts R′ M′ N′))
+        ap (λ n. 1 + sumOf (heard d p u) (below n)) (sym (shape-M rules parts R′ M′ N′))
         ∙ update-is (h .known) (h .acyclic) p (inside p l) u
 
-    pub rule-all : (r : ℕ) → own d p r + sum (sent d p r) (below N′) ≡ ruleCharge d p r
+    pub rule-all : (r : ℕ) → own d p r + sumOf (sent d p r) (below N′) ≡ ruleCharge d p r
     rule-all r =
-        ap (λ n. own d p r + sum (sent d p r) (below n)) (sym (shape-N rules parts R′ M′ N′))
+        ap (λ n. own d p r + sumOf (sent d p r) (below n)) (sym (shape-N rules parts R′ M′ N′))
         ∙ rule-is (h .known) (h .acyclic) p (inside p l) r
 
   module _ (r : ℕ) (k : r < M′) where
@@ -93,7 +94,7 @@ module _ {rules parts : List ℕ} {R′ M′ N′ : ℕ} (h : AcyclicTables rule
 
       -- the test for all parts
       abbrev common : Bool
-      common = any (λ c. member c (bitsOf 32 (getD rules (8 * r) 0))) u
+      common = anyOf (λ c. member c (bitsOf 32 (getD rules (8 * r) 0))) u
 
       pub listening-carried : listening rules parts N′ r mask ≡ true → carriedAt parts N′ r ≡ true
       listening-carried t = and-right common (carriedAt parts N′ r) t
@@ -101,7 +102,7 @@ module _ {rules parts : List ℕ} {R′ M′ N′ : ℕ} (h : AcyclicTables rule
       pub listening-falls : listening rules parts N′ r mask ≡ true → ruleRank d r < updateRank d u
       unfolding carriedAt
       listening-falls t =
-          let found = any-below (λ q. bit (getD parts (4 * q) 0) r) N′ .0 (and-right common _ t) in
+          let found = anyOf-below (λ q. bit (getD parts (4 * q) 0) r) N′ .0 (and-right common _ t) in
           rule-falls (found .0) (found .1) (and-both (found .2) (and-left common _ t))
 
       pub listening-heard : listening rules parts N′ r mask ≡ true → (q : ℕ) → q < N′

@@ -7,9 +7,9 @@ use native.Mathlib.Omega.{arith}
 use lib.Dec.{eqb}
 use lib.ListN.{getD}
 use borrow.Author.Tests.{eq-eqb, ne-eqb}
-use Rattle.lists.specs.Lists.{any, sum, below, member}
+use Rattle.lists.specs.Lists.{anyOf, sumOf, below, member}
 use Rattle.lists.specs.Bits.{bit}
-use Rattle.lists.specs.Laws.Steps.{sum-filtered, sum-only}
+use Rattle.lists.specs.Laws.Steps.{sumOf-filtered, sumOf-only}
 use Rattle.deck.specs.Deck.{Deck, M, N, ruleAt, carries, targets, active}
 use Rattle.deck.specs.Shape.{bitsOf, ruleShape, shapeOf}
 use Rattle.deck.specs.Laws.Shape.{setting-targets, shape-rule, shape-carries}
@@ -20,7 +20,7 @@ use Rattle.charge.specs.Laws.Equations.{defaults, actions, charge-of-update, ch
 module _ (d : Deck) where
   -- rule r at part p listens to an update of u; what it adds to the update's charge
   abbrev pub listens : ℕ → List ℕ → ℕ → Bool
-  listens p u r = carries d p r && any (λ c. member c (ruleAt d r .events)) u
+  listens p u r = carries d p r && anyOf (λ c. member c (ruleAt d r .events)) u
 
   abbrev pub heard : ℕ → List ℕ → ℕ → ℕ
   heard p u r = cond (listens p u r) (ruleCharge d p r) 0
@@ -41,18 +41,18 @@ module _ (d : Deck) where
   sent p r q = cond (reaches p r q) (given r q) 0
 
   received : (f : ℕ → ℕ) (p r : ℕ) → p < N d
-      → sum f (receivers d p r) ≡ sum (λ q. cond (reaches p r q) (f q) 0) (below (N d))
-  unfolding receivers others sum
+      → sumOf f (receivers d p r) ≡ sumOf (λ q. cond (reaches p r q) (f q) 0) (below (N d))
+  unfolding receivers others sumOf
   received f p r l = go (ruleAt d r .everywhere)
     where
       only : ℕ → ℕ
       only q = cond (eqb q p) (f q) 0
 
-      go : (b : Bool) → sum f (cond b (others d p) (p ∷ []))
-          ≡ sum (λ q. cond (cond b (not (eqb q p)) (eqb q p)) (f q) 0) (below (N d))
-      go true = sum-filtered f (λ q. not (eqb q p)) (below (N d))
+      go : (b : Bool) → sumOf f (cond b (others d p) (p ∷ []))
+          ≡ sumOf (λ q. cond (cond b (not (eqb q p)) (eqb q p)) (f q) 0) (below (N d))
+      go true = sumOf-filtered f (λ q. not (eqb q p)) (below (N d))
       go false =
-          let one = sum-only only p (λ q h. ap (λ b. cond b (f q) 0) (ne-eqb q p h)) (N d) l in
+          let one = sumOf-only only p (λ q h. ap (λ b. cond b (f q) 0) (ne-eqb q p h)) (N d) l in
           let this : only p ≡ f p = ap (λ b. cond b (f p) 0) (eq-eqb p p refl) in
           omega (arith, one, this)
 
@@ -73,14 +73,14 @@ pub when-yes : (b : Bool) (x : ℕ) → b ≡ true → cond b x 0 ≡ x
 when-yes b x e = ap (λ b. cond b x 0) e
 
 module _ {d : Deck} (known : KnownTargets d) (acyclic : Acyclic d) (p : ℕ) (l : p < N d) where
-  pub update-is : (u : List ℕ) → 1 + sum (heard d p u) (below (M d)) ≡ updateCharge d p u
+  pub update-is : (u : List ℕ) → 1 + sumOf (heard d p u) (below (M d)) ≡ updateCharge d p u
   unfolding active
   update-is u =
       sym
       (charge-of-update known acyclic p u l
-      ∙ ap (λ x. 1 + x) (sum-filtered (ruleCharge d p) (listens d p u) (below (M d))))
+      ∙ ap (λ x. 1 + x) (sumOf-filtered (ruleCharge d p) (listens d p u) (below (M d))))
 
-  pub rule-is : (r : ℕ) → own d p r + sum (sent d p r) (below (N d)) ≡ ruleCharge d p r
+  pub rule-is : (r : ℕ) → own d p r + sumOf (sent d p r) (below (N d)) ≡ ruleCharge d p r
   rule-is r = sym (charge-of-rule known acyclic p r l ∙ ap (λ x. own d p r + x) (received d _ p r l))
 
 -- the same in the numbers of the tables
@@ -97,9 +97,9 @@ module _ (rules parts : List ℕ) (R′ M′ N′ : ℕ) (r : ℕ) (h : r < M′
   actions-are = ap (λ x. targets (x .action)) (shape-rule rules parts R′ M′ N′ r h) ∙ setting-targets _
 
   pub listens-is : (p : ℕ) (u : List ℕ) → p < N′ → M′ ≤ 64
-      → listens d p u r ≡ (bit (getD parts (4 * p) 0) r && any (λ c. member c (bitsOf 32 (getD rules (8 * r) 0))) u)
+      → listens d p u r ≡ (bit (getD parts (4 * p) 0) r && anyOf (λ c. member c (bitsOf 32 (getD rules (8 * r) 0))) u)
   unfolding ruleShape
   listens-is p u l m =
       ap₂ (λ a b. a && b)
       (shape-carries rules parts R′ M′ N′ p r l (omega arith))
-      (ap (λ x. any (λ c. member c (x .events)) u) (shape-rule rules parts R′ M′ N′ r h))
+      (ap (λ x. anyOf (λ c. member c (x .events)) u) (shape-rule rules parts R′ M′ N′ r h))

@@ -5,7 +5,7 @@ ghost use mathlib.Core.Bool.{true, cond};
 ghost use Prim.Native.Nat.{_+_, _*_, _-_, _<_, _≤_};
 ghost use lib.Dec.{eqb};
 ghost use lib.ListN.{length, getD, replicate};
-ghost use Rattle.lists.specs.Lists.{sum, below};
+ghost use Rattle.lists.specs.Lists.{sumOf, below};
 ghost use Rattle.graph.specs.Masks.{carriedAt};
 ghost use Rattle.charge.specs.Memo.{Ready, UpdateGives, RulesGive, Begun, UpdatesGive, RowSmall, RowKnown, RowAdded, RowPut, capped};
 use deck::Deck;
@@ -24,12 +24,13 @@ pub fn capped_sum(a: u32, b: u32) -> u32
 
 // Row r of the memo added to the charges of an update, at the parts that carry rule r.
 fn add_row(sums: &mut [u32], parts: &[u64], memo: &[u32], parts_count: usize, r: usize)
-    requires { ⌜ (64 ≤ length (now parts)) × (16 * r + 16 ≤ length (now memo)) × («parts_count» ≤ 16) × (r < 64) × RowSmall r (now sums) × RowKnown «parts_count» r (now memo) ⌝ }
+    requires { ⌜ (64 ≤ length (now parts)) × (16 * r + 16 ≤ length (now memo)) × («parts_count» ≤ 16) × (r < 64) × RowSmall r (now sums)
+        × RowKnown «parts_count» r (now memo) ⌝ }
     ensures { λ _. ⌜ RowAdded (now (parts .entry)) (now (memo .entry)) «parts_count» r (now (sums .entry)) (now (sums .exit)) ⌝ }
 {
     let mut q: usize = 0;
     while q < parts_count {
-        if listeners::carries(parts, q, r) {
+        if charge_listeners::carries(parts, q, r) {
             sums[q] = sums[q] + (memo[Deck::PARTS * r + q] - 1);
         }
         q += 1;
@@ -58,9 +59,10 @@ fn update_charges(
     sums: &mut [u32],
 )
     requires { ⌜ Ready (now rules) (now parts) channels count «parts_count» (now memo) × (now sums ≡ replicate 16 1) ⌝ }
-    ensures { λ _. ⌜ UpdatesGive (now (rules .entry)) (now (parts .entry)) channels count «parts_count» mask (now (memo .entry)) (now (memo .exit)) (now (sums .exit)) ⌝ }
+    ensures { λ _. ⌜ UpdatesGive (now (rules .entry)) (now (parts .entry)) channels count «parts_count» mask (now (memo .entry))
+        (now (memo .exit)) (now (sums .exit)) ⌝ }
 {
-    let set = listeners::listeners(rules, mask);
+    let set = charge_listeners::listeners(rules, mask);
     let mut left = set;
     let mut r = lists::lowest(left);
     while r < count {
@@ -74,7 +76,7 @@ fn update_charges(
 // The charges of a row, added up.
 fn row_sum(row: &[u32], parts_count: usize) -> u32
     requires { ⌜ RowSmall 64 (now row) × («parts_count» ≤ 16) ⌝ }
-    ensures { λ s. ⌜ s ≡ sum (λ q. getD (now (row .entry)) q 0) (below «parts_count») ⌝ }
+    ensures { λ s. ⌜ s ≡ sumOf (λ q. getD (now (row .entry)) q 0) (below «parts_count») ⌝ }
 {
     let mut total: u32 = 0;
     let mut q: usize = 0;
@@ -88,7 +90,7 @@ fn row_sum(row: &[u32], parts_count: usize) -> u32
 // The same where the kind of a rule needs it, else 0.
 fn total_for(kind: u64, row: &[u32], parts_count: usize) -> u32
     requires { ⌜ RowSmall 64 (now row) × («parts_count» ≤ 16) ⌝ }
-    ensures { λ s. ⌜ s ≡ cond (eqb kind 1) (sum (λ q. getD (now (row .entry)) q 0) (below «parts_count»)) 0 ⌝ }
+    ensures { λ s. ⌜ s ≡ cond (eqb kind 1) (sumOf (λ q. getD (now (row .entry)) q 0) (below «parts_count»)) 0 ⌝ }
 {
     if kind == 1 {
         row_sum(row, parts_count)
@@ -107,7 +109,8 @@ fn share(kind: u64, total: u32, own: u32) -> u32
 
 // Row r of the memo: at each part the charge of the default action, and what the action adds.
 fn put_row(memo: &mut [u32], parts_count: usize, r: usize, kind: u64, first: &[u32], second: &[u32])
-    requires { ⌜ (16 * r + 16 ≤ length (now memo)) × («parts_count» ≤ 16) × (r < 64) × RowSmall 64 (now first) × RowSmall 64 (now second) ⌝ }
+    requires { ⌜ (16 * r + 16 ≤ length (now memo)) × («parts_count» ≤ 16) × (r < 64) × RowSmall 64 (now first)
+        × RowSmall 64 (now second) ⌝ }
     ensures { λ _. ⌜ RowPut «parts_count» r kind (now (first .entry)) (now (second .entry)) (now (memo .entry)) (now (memo .exit)) ⌝ }
 {
     let total = total_for(kind, second, parts_count);
@@ -130,8 +133,10 @@ fn rule_charges(
     parts_count: usize,
     r: usize,
 )
-    requires { ⌜ Ready (now rules) (now parts) channels count «parts_count» (now memo) × (r < count) × (carriedAt (now parts) «parts_count» r ≡ true) ⌝ }
-    ensures { λ _. ⌜ RulesGive (now (rules .entry)) (now (parts .entry)) channels count «parts_count» r (now (memo .entry)) (now (memo .exit)) ⌝ }
+    requires { ⌜ Ready (now rules) (now parts) channels count «parts_count» (now memo) × (r < count)
+        × (carriedAt (now parts) «parts_count» r ≡ true) ⌝ }
+    ensures { λ _. ⌜ RulesGive (now (rules .entry)) (now (parts .entry)) channels count «parts_count» r (now (memo .entry))
+        (now (memo .exit)) ⌝ }
 {
     if memo[Deck::PARTS * r] != 0 {
         return;
@@ -141,12 +146,37 @@ fn rule_charges(
     let mut first = begin(default);
     let mut second = begin(action);
     if default & 4294967295 != 0 {
-        update_charges(rules, parts, memo, channels, count, parts_count, default, &mut first);
+        update_charges(
+            rules,
+            parts,
+            memo,
+            channels,
+            count,
+            parts_count,
+            default,
+            &mut first,
+        );
     }
     if action & 4294967295 != 0 {
-        update_charges(rules, parts, memo, channels, count, parts_count, action, &mut second);
+        update_charges(
+            rules,
+            parts,
+            memo,
+            channels,
+            count,
+            parts_count,
+            action,
+            &mut second,
+        );
     }
-    put_row(memo, parts_count, r, rules[Deck::RULE_ROW * r + 3], &first, &second);
+    put_row(
+        memo,
+        parts_count,
+        r,
+        rules[Deck::RULE_ROW * r + 3],
+        &first,
+        &second,
+    );
 }
 
 // The charges of rule r at all parts, if they are not in the memo yet. Mostly they are, and this test costs no call.
@@ -159,8 +189,10 @@ pub fn known_charges(
     parts_count: usize,
     r: usize,
 )
-    requires { ⌜ Ready (now rules) (now parts) channels count «parts_count» (now memo) × (r < count) × (carriedAt (now parts) «parts_count» r ≡ true) ⌝ }
-    ensures { λ _. ⌜ RulesGive (now (rules .entry)) (now (parts .entry)) channels count «parts_count» r (now (memo .entry)) (now (memo .exit)) ⌝ }
+    requires { ⌜ Ready (now rules) (now parts) channels count «parts_count» (now memo) × (r < count)
+        × (carriedAt (now parts) «parts_count» r ≡ true) ⌝ }
+    ensures { λ _. ⌜ RulesGive (now (rules .entry)) (now (parts .entry)) channels count «parts_count» r (now (memo .entry))
+        (now (memo .exit)) ⌝ }
 {
     if memo[Deck::PARTS * r] != 0 {
         return;
@@ -182,7 +214,7 @@ pub fn update_charge(
     requires { ⌜ Ready (now rules) (now parts) channels count «parts_count» (now memo) × (p < «parts_count») ⌝ }
     ensures { λ s. ⌜ UpdateGives (now (rules .entry)) (now (parts .entry)) channels count «parts_count» p mask (now (memo .exit)) s ⌝ }
 {
-    let set = listeners::active(rules, parts, channels, count, parts_count, p, mask);
+    let set = charge_listeners::active(rules, parts, channels, count, parts_count, p, mask);
     let mut total: u32 = 1;
     let mut left = set;
     let mut r = lists::lowest(left);

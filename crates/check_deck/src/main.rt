@@ -1,4 +1,4 @@
 // Reads a deck from standard input and prints one line: `passed R M N CHARGE` or `refused NUMBER PLACE`.
 fn main() {
-    report::report(libc::STDIN_FILENO);
+    check_line::report(libc::STDIN_FILENO);
 }

@@ -11,7 +11,7 @@ fn check_file(i: usize) {
     }
     io::write_all(STDOUT_FILENO, &name[..n]);
     io::write_all(STDOUT_FILENO, b" ");
-    report::report(fd);
+    check_line::report(fd);
     libc::close(fd);
 }
 

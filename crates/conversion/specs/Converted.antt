@@ -4,7 +4,7 @@ use Prim.Native.Nat.{ℕ}
 use mathlib.Core.Bool.{true, false}
 use mathlib.Core.List.{List, [], _∷_, map}
 use lib.ListN.{length, take}
-use Rattle.lists.specs.Lists.{sum, flatMap, from}
+use Rattle.lists.specs.Lists.{sumOf, flatMap, from}
 use Rattle.expression.specs.Syntax.{constant}
 use Rattle.deck.specs.Deck.{Action, Rule, Part, Deck, ruleAt}
 
@@ -27,7 +27,7 @@ split r = splitBy (r .default) r
 
 -- how many rules come of the first r: old rule r becomes the rules from that number on
 unfoldable pub newNumber : Deck → ℕ → ℕ
-newNumber d r = sum (λ x. length (split x)) (take r (d .rules))
+newNumber d r = sumOf (λ x. length (split x)) (take r (d .rules))
 
 -- the numbers of what rule r became
 unfoldable pub newNumbers : Deck → ℕ → List ℕ

@@ -4,10 +4,10 @@ ghost use Prim.Native.Nat.{_≤_};
 ghost use lib.ListN.{length};
 ghost use Rattle.deck.specs.Limits.{limits};
 ghost use Rattle.conversion.specs.Laws.Tests.{Fits};
-use answer_lines::Answer;
 use conversion::ConvertAnswer;
 use deck::Deck;
-use report::Input;
+use descriptors::Input;
+use replay_text::answers::Answer;
 
 // Writes the first n bytes.
 fn write_first(fd: i32, bytes: &[u8], n: usize) -> bool
@@ -32,7 +32,7 @@ fn write_deck(deck: &[u8; Deck::BYTES], n: usize)
 
 fn refuse(number: u32, place: u32) {
     let mut text = [0u8; 64];
-    let n = answer_lines::put_answer(Answer::Refused(number, place), &mut text);
+    let n = replay_text::answers::put_answer(Answer::Refused(number, place), &mut text);
     write_line(&text, n);
 }
 
@@ -55,7 +55,7 @@ fn convert(deck: &[u8]) {
 // One byte more than the longest old deck already shows the fault.
 fn main() {
     let mut old = [0u8; Deck::OLD_BYTES + 1];
-    let Input::Bytes(n) = report::read_all(libc::STDIN_FILENO, &mut old) else {
+    let Input::Bytes(n) = descriptors::read_all(libc::STDIN_FILENO, &mut old) else {
         os::fail(b"cannot read the deck");
         return;
     };

@@ -4,7 +4,7 @@ use mathlib.Core.Bool.{Bool, true, false, _&&_}
 use mathlib.Core.List.{List, [], map}
 use lib.ListN.{length, getD}
 use lib.IntN.{ℤ}
-use Rattle.lists.specs.Lists.{any, below, filter, member}
+use Rattle.lists.specs.Lists.{anyOf, below, select, member}
 use Rattle.expression.specs.Syntax.{Num, Truth, constant}
 
 pub record Assignment : Type 0 where
@@ -60,7 +60,7 @@ targets a = map (λ s. s .target) a
 
 -- the rules that part p carries and that have one of the channels cs among their events, in rule order
 unfoldable pub active : Deck → ℕ → List ℕ → List ℕ
-active d p cs = filter (λ r. carries d p r && any (λ c. member c (ruleAt d r .events)) cs) (below (M d))
+active d p cs = select (λ r. carries d p r && anyOf (λ c. member c (ruleAt d r .events)) cs) (below (M d))
 
 -- to open all definitions of this file, on an `unfolding` line
 unfoldable pub decks : Unit {0}

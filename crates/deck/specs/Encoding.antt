@@ -4,7 +4,7 @@ use mathlib.Core.Bool.{Bool, true, false, _&&_}
 use mathlib.Core.List.{List, [], _∷_, _++_}
 use lib.Dec.{leb, ltb, eqb}
 use lib.ListN.{length}
-use Rattle.lists.specs.Lists.{all, flatMap, distinct}
+use Rattle.lists.specs.Lists.{allOf, flatMap, distinct}
 use Rattle.expression.specs.Syntax.{Truth}
 use Rattle.expression.specs.Reading.{Scope}
 use Rattle.expression.specs.Encoding.{encodeValue, encodeNum, encodeTruth, fits, goodNum, goodTruth}
@@ -64,17 +64,17 @@ isRising lo hi [] = true
 isRising lo hi (c ∷ cs) = leb lo c && ltb c hi && isRising (suc c) hi cs
 
 -- an expression has 1 to 64 bytes
-unfoldable pub goodLength : List ℕ → Bool
-goodLength bytes = inRange 1 (limits .expression) (length bytes)
+unfoldable pub fittingLength : List ℕ → Bool
+fittingLength bytes = inRange 1 (limits .expression) (length bytes)
 
 unfoldable pub goodAssignment : Scope → Assignment → Bool
-goodAssignment sc s = ltb (s .target) (sc .owns) && goodNum sc (s .value) && goodLength (encodeNum (s .value))
+goodAssignment sc s = ltb (s .target) (sc .owns) && goodNum sc (s .value) && fittingLength (encodeNum (s .value))
 
 unfoldable pub goodAction : Scope → Action → Bool
-goodAction sc a = leb (length a) (limits .assignments) && all (goodAssignment sc) a && distinct (targets a)
+goodAction sc a = leb (length a) (limits .assignments) && allOf (goodAssignment sc) a && distinct (targets a)
 
 unfoldable pub goodCondition : Scope → Truth → Bool
-goodCondition sc t = goodTruth sc t && goodLength (encodeTruth t)
+goodCondition sc t = goodTruth sc t && fittingLength (encodeTruth t)
 
 unfoldable pub goodRule : ℕ → Rule → Bool
 goodRule R r =
@@ -87,7 +87,7 @@ goodRule R r =
 unfoldable pub goodPart : ℕ → ℕ → Part → Bool
 goodPart R M p =
     eqb (length (p .opening)) R
-    && all fits (p .opening)
+    && allOf fits (p .opening)
     && leb (length (p .carried)) M
     && isRising 0 M (p .carried)
     && goodCondition (ownOnly R) (p .limit)
@@ -95,20 +95,21 @@ goodPart R M p =
 unfoldable pub wellFormed : Deck → Bool
 wellFormed d =
     inRange 1 (limits .channels) (R d)
-    && all (inRange 33 126) (d .labels)
+    && allOf (inRange 33 126) (d .labels)
     && leb (M d) (limits .rules)
-    && all (goodRule (R d)) (d .rules)
+    && allOf (goodRule (R d)) (d .rules)
     && inRange 1 (limits .parts) (N d)
-    && all (goodPart (R d) (M d)) (d .parts)
+    && allOf (goodPart (R d) (M d)) (d .parts)
 
 -- what a form asks besides: a new deck has no default action
 unfoldable pub suitsRule : Form → Rule → Bool
 suitsRule f r = allows f (length (r .default))
 
 unfoldable pub suits : Form → Deck → Bool
-suits f d = all (suitsRule f) (d .rules)
+suits f d = allOf (suitsRule f) (d .rules)
 
 -- to open all definitions of this file, on an `unfolding` line
 unfoldable pub encodings : Unit {0}
-unfolding encodeExpression encodeAssignment encodeAction encodeRule encodePart encodeChannels encodeRules encodeParts encode inRange isRising goodLength goodAssignment goodAction goodCondition goodRule goodPart wellFormed suitsRule suits
+unfolding encodeExpression encodeAssignment encodeAction encodeRule encodePart encodeChannels encodeRules encodeParts encode inRange
+    isRising fittingLength goodAssignment goodAction goodCondition goodRule goodPart wellFormed suitsRule suits
 encodings = tt

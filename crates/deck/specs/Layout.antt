@@ -16,7 +16,7 @@ use Rattle.deck.specs.Limits.{limits}
 use Rattle.deck.specs.declared.Form.{Form}
 use Rattle.deck.specs.declared.Form.the-variants.{Old, New}
 use Rattle.deck.specs.Deck.{Action, Rule, Part, Deck}
-use Rattle.deck.specs.Reader.{Got, Reader, _>>=_, _>>_, give, fault, here, require, byte, end, number, times, rising, value}
+use Rattle.deck.specs.Reader.{Got, Reader, _>>=_, _>>_, give, fault, here, expect, byte, end, number, repeats, rising, value}
 
 -- what an expression is to be: how its bytes are read, and their first fault from an offset on. Bytes that are not read have one
 pub record Expected (A : Type 0) : Type 0 where
@@ -41,7 +41,7 @@ unfoldable pub expression : {A : Type 0} → Expected A → Reader A
 expression e = do
   n ← number 1 (suc (limits .expression))
   at ← here
-  bytes ← times n byte
+  bytes ← repeats n byte
   judged (e .whole bytes) (e .find bytes at) (e .has-fault bytes at)
 
 -- "Far channels stand only in the condition and action of an everywhere task"
@@ -61,7 +61,7 @@ assignments sc zero ts = give []
 assignments sc (suc n) ts = do
   at ← here
   t ← number 0 (sc .owns)
-  require (not (member t ts)) repeatedTarget at
+  expect (not (member t ts)) repeatedTarget at
   e ← expression (numbers sc)
   rest ← assignments sc n (t ∷ ts)
   give (record { target = t; value = e } ∷ rest)
@@ -82,7 +82,7 @@ unfoldable pub defaultAction : Form → ℕ → Reader Action
 defaultAction f R = do
   at ← here
   n ← number 0 (suc (limits .assignments))
-  require (allows f n) defaultRetired at
+  expect (allows f n) defaultRetired at
   assignments (ownOnly R) n []
 
 -- "event count 1 to 8, then strictly rising channel numbers; a default action; a kind byte; a condition; an action"
@@ -101,7 +101,7 @@ rule f R = do
 -- "R opening values, a count 0 to M of carried rules, their strictly rising numbers, and a limit"
 unfoldable pub part : ℕ → ℕ → Reader Part
 part R M = do
-  opening ← times R value
+  opening ← repeats R value
   n ← number 0 (suc M)
   carried ← rising n 0 M
   limit ← expression (truths (ownOnly R))
@@ -117,13 +117,13 @@ pub record Layout : Type 0 where
 unfoldable pub sections : Form → Reader Layout
 sections f = do
   R ← number 1 (suc (limits .channels))
-  labels ← times R (number 33 127)
+  labels ← repeats R (number 33 127)
   rulesAt ← here
   M ← number 0 (suc (limits .rules))
-  rules ← times M (rule f R)
+  rules ← repeats M (rule f R)
   partsAt ← here
   N ← number 1 (suc (limits .parts))
-  parts ← times N (part R M)
+  parts ← repeats N (part R M)
   end
   give (record { deck = record { labels = labels; rules = rules; parts = parts }; rulesAt = rulesAt; partsAt = partsAt })
 

@@ -16,11 +16,11 @@ use Rattle.expression.specs.Answers.{isGot}
 use Rattle.deck.specs.declared.Form.{Form}
 use Rattle.deck.specs.Limits.{limits}
 use Rattle.deck.specs.Deck.{Assignment, Action, Rule, Part, targets}
-use Rattle.deck.specs.Reader.{Got, Reader, _>>=_, _>>_, give, here, require, end, number, times, rising, value}
+use Rattle.deck.specs.Reader.{Got, Reader, _>>=_, _>>_, give, here, expect, end, number, repeats, rising, value}
 use Rattle.deck.specs.Layout.{numbers, truths, expression, ownOnly, taskScope, action, Layout, defaultAction}
 use Rattle.deck.specs.Encoding.{kindByte}
-use Rattle.deck.specs.declared.Step.{Step}
-use Rattle.deck.specs.declared.Step.the-variants.{Next, Fault}
+use Rattle.deck.specs.declared.Advance.{Advance}
+use Rattle.deck.specs.declared.Advance.the-variants.{Next, Fault}
 use Rattle.deck.specs.declared.Front.{Front}
 use Rattle.deck.specs.declared.Loaded.{Loaded}
 use Rattle.deck.specs.declared.Loaded.the-variants.{Whole, Wrong}
@@ -43,7 +43,7 @@ unfoldable pub assignment : Scope → List ℕ → Reader Assignment
 assignment sc ts = do
   at ← here
   t ← number 0 (sc .owns)
-  require (not (member t ts)) repeatedTarget at
+  expect (not (member t ts)) repeatedTarget at
   e ← expression (numbers sc)
   give (record { target = t; value = e })
 
@@ -107,7 +107,7 @@ pub record MarkedPart : Type 0 where
 unfoldable pub markedPart : ℕ → ℕ → Reader MarkedPart
 markedPart R M = do
   openingAt ← here
-  opening ← times R value
+  opening ← repeats R value
   n ← number 0 (suc M)
   carried ← rising n 0 M
   limitAt ← here
@@ -125,10 +125,10 @@ pub record MarkedFront : Type 0 where
 unfoldable pub markedFront : Form → Reader MarkedFront
 markedFront f = do
   R ← number 1 (suc (limits .channels))
-  labels ← times R (number 33 127)
+  labels ← repeats R (number 33 127)
   rulesAt ← here
   M ← number 0 (suc (limits .rules))
-  rules ← times M (markedRule f R)
+  rules ← repeats M (markedRule f R)
   give (record { channels = R; labels = labels; rulesAt = rulesAt; count = M; rules = rules })
 
 -- all three sections: the count of the last one, and its offset
@@ -143,7 +143,7 @@ markedSections f = do
   front ← markedFront f
   partsAt ← here
   N ← number 1 (suc (limits .parts))
-  parts ← times N (markedPart (front .channels) (front .count))
+  parts ← repeats N (markedPart (front .channels) (front .count))
   end
   give (record { front = front; partsAt = partsAt; count = N; parts = parts })
 
@@ -178,7 +178,7 @@ partRow m = maskOf (m .part .carried) ∷ m .openingAt ∷ m .limitAt ∷ 0 ∷ 
 -- ---- what a function of the pass answers: the place after what was read, or the fault
 
 -- o is the reader's outcome at some place of s. Where it is accepted, the value has P
-abbrev pub Reads : {A : Type 0} → List ℕ → Outcome (Got A) → (A → Type 0) → Step → Type 0
+abbrev pub Reads : {A : Type 0} → List ℕ → Outcome (Got A) → (A → Type 0) → Advance → Type 0
 Reads {A} s o P (Next n) = (a : A) × (o ≡ accepted (record { value = a; rest = drop n s; at = n })) × (n ≤ length s) × P a
 Reads s o P (Fault number place) = o ≡ refused number place
 
@@ -187,7 +187,7 @@ abbrev pub ReadsTo : {A : Type 0} → List ℕ → Outcome (Got A) → ℕ → T
 ReadsTo s o n = (n ≡ 0 → ⊥) → Reads s o (λ _. Unit {0}) (Next n)
 
 -- an assignment, mask being the set of the targets so far
-abbrev pub ReadsAssignment : Scope → List ℕ → ℕ → ℕ → ℕ → Step → Type 0
+abbrev pub ReadsAssignment : Scope → List ℕ → ℕ → ℕ → ℕ → Advance → Type 0
 ReadsAssignment sc s at mask target step =
     (ts : List ℕ) → ((c : ℕ) → bit mask c ≡ member c ts)
     → Reads s (assignment sc ts (drop at s) at) (λ a. (target ≡ a .target) × (a .target < sc .owns)) step
@@ -199,7 +199,7 @@ ReadsFront f s r after before =
     (λ m.
     (r .channels ≡ m .channels)
     × (r .rules ≡ m .count)
-    × (r .second ≡ m .rulesAt)
+    × (r .«rules_at» ≡ m .rulesAt)
     × (m .channels ≤ 32)
     × (m .count ≤ 64)
     × (after ≡ flatMap ruleRow (m .rules) ++ drop (8 * m .count) before))
@@ -214,8 +214,8 @@ Loads f s rules rules₀ parts parts₀ (Whole d) =
       channels = m .front .channels;
       rules = m .front .count;
       parts = m .count;
-      second = m .front .rulesAt;
-      third = m .partsAt;
+      «rules_at» = m .front .rulesAt;
+      «parts_at» = m .partsAt;
     })
     × (rules ≡ flatMap ruleRow (m .front .rules) ++ drop (8 * m .front .count) rules₀)
     × (parts ≡ flatMap partRow (m .parts) ++ drop (4 * m .count) parts₀)
@@ -234,21 +234,22 @@ pub record FewRules (s : List ℕ) (b : Bool) : Type 0 where
   pub low : b ≡ true → rulesAt s ≤ 16
 
 -- a fault of the pass, as the whole pass answers it
-abbrev pub wrongOf : Step → Loaded
+abbrev pub wrongOf : Advance → Loaded
 wrongOf (Next n) = Wrong 0 n
 wrongOf (Fault number place) = Wrong number place
 
 -- the offset of a section's count, by those of the second and the third; from 3 on, the deck's end
 unfoldable pub offsetOf : ℕ → ℕ → ℕ → ℕ → ℕ
-offsetOf second third end k = getD (0 ∷ second ∷ third ∷ []) k end
+offsetOf rulesAt partsAt end k = getD (0 ∷ rulesAt ∷ partsAt ∷ []) k end
 
 -- "the stretch of the caller's deck from that section's count to its end"
 unfoldable pub stretchOf : ℕ → ℕ → List ℕ → ℕ → List ℕ
-stretchOf second third bytes k =
-    let from = offsetOf second third (length bytes) k in
-    take (offsetOf second third (length bytes) (suc k) - from) (drop from bytes)
+stretchOf rulesAt partsAt bytes k =
+    let from = offsetOf rulesAt partsAt (length bytes) k in
+    take (offsetOf rulesAt partsAt (length bytes) (suc k) - from) (drop from bytes)
 
 -- to open all definitions of this file, on an `unfolding` line
 unfoldable pub marks : Unit {0}
-unfolding expressionFor scopeOf assignment markedTask markedRule ruleOf markedPart markedFront markedSections unmarked ruleRow partRow offsetOf stretchOf
+unfolding expressionFor scopeOf assignment markedTask markedRule ruleOf markedPart markedFront markedSections unmarked ruleRow partRow
+    offsetOf stretchOf
 marks = tt

@@ -39,9 +39,9 @@ fault n p s at = refused n p
 unfoldable pub here : Reader ℕ
 here s at = accepted (record { value = at; rest = s; at = at })
 
-unfoldable pub require : Bool → ℕ → ℕ → Reader (Unit {0})
-require true n p = give tt
-require false n p = fault n p
+unfoldable pub expect : Bool → ℕ → ℕ → Reader (Unit {0})
+expect true n p = give tt
+expect false n p = fault n p
 
 -- 1: where no byte is left the offset is the deck's length
 unfoldable pub byte : Reader ℕ
@@ -58,14 +58,14 @@ unfoldable pub number : ℕ → ℕ → Reader ℕ
 number lo hi = do
   at ← here
   b ← byte
-  require (leb lo b && ltb b hi) outOfRange at
+  expect (leb lo b && ltb b hi) outOfRange at
   give b
 
-unfoldable pub times : {A : Type 0} → ℕ → Reader A → Reader (List A)
-times zero r = give []
-times (suc n) r = do
+unfoldable pub repeats : {A : Type 0} → ℕ → Reader A → Reader (List A)
+repeats zero r = give []
+repeats (suc n) r = do
   x ← r
-  xs ← times n r
+  xs ← repeats n r
   give (x ∷ xs)
 
 -- n strictly rising numbers from lo to below hi
@@ -87,5 +87,5 @@ value = do
 
 -- to open all definitions of this file, on an `unfolding` line
 unfoldable pub readers : Unit {0}
-unfolding andThen _>>=_ _>>_ give fault here require byte end number times rising value
+unfolding andThen _>>=_ _>>_ give fault here expect byte end number repeats rising value
 readers = tt

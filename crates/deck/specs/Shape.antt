@@ -6,14 +6,14 @@ use mathlib.Core.List.{List, [], map}
 use lib.Dec.{eqb}
 use lib.ListN.{getD, replicate}
 use lib.IntN.{pos}
-use Rattle.lists.specs.Lists.{filter, below}
+use Rattle.lists.specs.Lists.{select, below}
 use Rattle.lists.specs.Bits.{bit}
 use Rattle.expression.specs.Syntax.{literal, constant}
 use Rattle.deck.specs.Deck.{Action, Rule, Part, Deck}
 
 -- the numbers below n in a set
 unfoldable pub bitsOf : ℕ → ℕ → List ℕ
-bitsOf n m = filter (bit m) (below n)
+bitsOf n m = select (bit m) (below n)
 
 -- an action with these targets
 unfoldable pub setting : List ℕ → Action

@@ -1,5 +1,5 @@
 // The deck's types, with the definitions of specs/. The associated constants of `Deck` are the largest numbers of document 01, "The
-// deck", and the lengths that follow; the crate `reading` reads a deck's bytes.
+// deck", and the lengths that follow; the crate `deck_reading` reads a deck's bytes.
 ghost use mathlib.Core.Path.{_≡_};
 ghost use Rattle.deck.specs.Limits.{limits};
 
@@ -14,16 +14,16 @@ pub struct Deck {
     pub channels: usize,
     pub rules: usize,
     pub parts: usize,
-    pub second: usize,
-    pub third: usize,
+    pub rules_at: usize,
+    pub parts_at: usize,
 }
 
 // The first two sections of a deck, and the place after them.
 pub struct Front {
     pub channels: usize,
     pub rules: usize,
-    pub second: usize,
-    pub step: Step,
+    pub rules_at: usize,
+    pub step: Advance,
 }
 
 // A deck that was read, or the first fault.
@@ -33,7 +33,7 @@ pub enum Loaded {
 }
 
 // What reading comes to: the place after what was read, or the first fault.
-pub enum Step {
+pub enum Advance {
     Next(usize),
     Fault { number: u32, place: usize },
 }
@@ -130,11 +130,11 @@ impl Deck {
 // A byte that was read, and the place after it.
 pub struct Byte {
     pub value: usize,
-    pub step: Step,
+    pub step: Advance,
 }
 
 // A set of small numbers, and the place after the list that named them.
 pub struct Set {
     pub mask: u64,
-    pub step: Step,
+    pub step: Advance,
 }

@@ -1,5 +1,5 @@
 // The seven published calls. Types of their answers and definitions are in `calls` and, for convert, in `conversion`; behind check,
-// section and start is `deck_calls`, behind convert `convert_call`, behind the others `lent_calls`.
+// section and start is `calls_deck`, behind convert `conversion_call`, behind the others `calls_lent`.
 ghost use Prim.Native.Nat.{ℕ};
 ghost use mathlib.Core.Path.{_≡_};
 ghost use Rattle.deck.specs.Stretch.{LiesAt};
@@ -25,14 +25,14 @@ use pool::State;
 pub fn check(deck: &[u8]) -> CheckAnswer
     ensures { λ r. ⌜ checkOutcome r ≡ Calls.check (now (deck .entry)) ⌝ }
 {
-    if reading::few_rules(deck) {
-        let mut short = [0u64; passing::SHORT_RULES];
+    if deck_reading::few_rules(deck) {
+        let mut short = [0u64; passing::SHORT_RULE_TABLE];
         let mut small = [0u32; passing::SHORT_MEMO];
-        return deck_calls::check_with(deck, &mut short, &mut small);
+        return calls_deck::check_with(deck, &mut short, &mut small);
     }
-    let mut rules = [0u64; passing::RULES];
+    let mut rules = [0u64; passing::RULE_TABLE];
     let mut memo = [0u32; passing::MEMO];
-    deck_calls::check_with(deck, &mut rules, &mut memo)
+    calls_deck::check_with(deck, &mut rules, &mut memo)
 }
 
 // The stretch of the deck from a section's count to its end, in the lent deck itself; empty where it is refused. The refusal's
@@ -41,14 +41,14 @@ pub fn section<'a>(deck: &'a [u8], number: u32, refusal: &mut u32, place: &mut u
     ensures { λ r. ⌜ (sectionOf (now r) (now (refusal .exit)) (now (place .exit)) ≡ Calls.section (now (deck .entry)) number)
         × LiesAt (deck .entry .ptr) (r .ptr) (Calls.sectionFrom (now (deck .entry)) number) ⌝ }
 {
-    if reading::few_rules(deck) {
-        let mut short = [0u64; passing::SHORT_RULES];
+    if deck_reading::few_rules(deck) {
+        let mut short = [0u64; passing::SHORT_RULE_TABLE];
         let mut small = [0u32; passing::SHORT_MEMO];
-        return deck_calls::section_with(deck, number, refusal, place, &mut short, &mut small);
+        return calls_deck::section_with(deck, number, refusal, place, &mut short, &mut small);
     }
-    let mut rules = [0u64; passing::RULES];
+    let mut rules = [0u64; passing::RULE_TABLE];
     let mut memo = [0u32; passing::MEMO];
-    deck_calls::section_with(deck, number, refusal, place, &mut rules, &mut memo)
+    calls_deck::section_with(deck, number, refusal, place, &mut rules, &mut memo)
 }
 
 // The opening values, nothing pending, and the pool all 0. A refused start hands back a state of zeros.
@@ -56,14 +56,14 @@ pub fn start(deck: &[u8], pool: &mut [i32]) -> Started
     ensures { λ r. ⌜ replyOf (startOutcome (r .answer)) (r .state) (now (pool .exit))
         ≡ Calls.start (now (deck .entry)) (now (pool .entry)) ⌝ }
 {
-    if reading::few_rules(deck) {
-        let mut short = [0u64; passing::SHORT_RULES];
+    if deck_reading::few_rules(deck) {
+        let mut short = [0u64; passing::SHORT_RULE_TABLE];
         let mut small = [0u32; passing::SHORT_MEMO];
-        return deck_calls::start_with(deck, pool, &mut short, &mut small);
+        return calls_deck::start_with(deck, pool, &mut short, &mut small);
     }
-    let mut rules = [0u64; passing::RULES];
+    let mut rules = [0u64; passing::RULE_TABLE];
     let mut memo = [0u32; passing::MEMO];
-    deck_calls::start_with(deck, pool, &mut rules, &mut memo)
+    calls_deck::start_with(deck, pool, &mut rules, &mut memo)
 }
 
 // What input, commit and settle answer, each in its own words.
@@ -113,7 +113,14 @@ pub fn input(deck: &[u8], pool: &mut [i32], state: State, part: u32, pairs: &[i3
 {
     let mut values = state.values;
     let mut pending = state.pending;
-    let told = lent_calls::call_lent(deck, pool, &mut values, &mut pending, Request::Input(part), pairs);
+    let told = calls_lent::call_lent(
+        deck,
+        pool,
+        &mut values,
+        &mut pending,
+        Request::Input(part),
+        pairs,
+    );
     let answer = input_answer(told);
     let later = State {
         values: values,
@@ -133,7 +140,14 @@ pub fn commit(deck: &[u8], pool: &mut [i32], state: State, place: u32) -> Commit
     let mut values = state.values;
     let mut pending = state.pending;
     let none = [0i32; 0];
-    let told = lent_calls::call_lent(deck, pool, &mut values, &mut pending, Request::Commit(place), &none);
+    let told = calls_lent::call_lent(
+        deck,
+        pool,
+        &mut values,
+        &mut pending,
+        Request::Commit(place),
+        &none,
+    );
     let answer = commit_answer(told);
     let later = State {
         values: values,
@@ -154,7 +168,14 @@ pub fn settle(deck: &[u8], pool: &mut [i32], state: State, budget: u32) -> Settl
     let mut values = state.values;
     let mut pending = state.pending;
     let none = [0i32; 0];
-    let told = lent_calls::call_lent(deck, pool, &mut values, &mut pending, Request::Settle(budget), &none);
+    let told = calls_lent::call_lent(
+        deck,
+        pool,
+        &mut values,
+        &mut pending,
+        Request::Settle(budget),
+        &none,
+    );
     let answer = settle_answer(told);
     let later = State {
         values: values,
@@ -172,12 +193,12 @@ pub fn convert(deck: &[u8], buffer: &mut [u8]) -> ConvertAnswer
     ensures { λ r. ⌜ Conversion.replyOf (Conversion.convertOutcome r) (now (buffer .exit))
         ≡ Conversion.convert (now (deck .entry)) (now (buffer .entry)) ⌝ }
 {
-    if reading::few_rules(deck) {
-        let mut short = [0u64; passing::SHORT_RULES];
+    if deck_reading::few_rules(deck) {
+        let mut short = [0u64; passing::SHORT_RULE_TABLE];
         let mut small = [0u32; passing::SHORT_MEMO];
-        return convert_call::convert_with(deck, buffer, &mut short, &mut small);
+        return conversion_call::convert_with(deck, buffer, &mut short, &mut small);
     }
-    let mut rules = [0u64; passing::RULES];
+    let mut rules = [0u64; passing::RULE_TABLE];
     let mut memo = [0u32; passing::MEMO];
-    convert_call::convert_with(deck, buffer, &mut rules, &mut memo)
+    conversion_call::convert_with(deck, buffer, &mut rules, &mut memo)
 }

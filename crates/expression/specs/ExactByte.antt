@@ -7,7 +7,7 @@ use mathlib.Core.Bool.{Bool, true, false}
 use mathlib.Core.List.{List, _++_}
 use lib.Dec.{ltb}
 use lib.ListN.{length, take}
-use Rattle.lists.specs.Lists.{all}
+use Rattle.lists.specs.Lists.{allOf}
 use Rattle.refusals.specs.Numbers.{unknownByte, wrongType, wrongEnd}
 use Rattle.expression.specs.Faults.{Found, faulty}
 
@@ -18,7 +18,7 @@ InExpression n = (n ≡ unknownByte) ⊎ ((n ≡ wrongType) ⊎ (n ≡ wrongEnd)
 -- with at least one byte more the bytes `before` are an expression, without regard to the 64 bytes that one may have
 pub record Completed (whole : List ℕ → Bool) (before : List ℕ) : Type 0 where
   pub more : List ℕ
-  pub bytes : all (λ b. ltb b 256) more ≡ true
+  pub bytes : allOf (λ b. ltb b 256) more ≡ true
   pub some : 0 < length more
   pub sound : whole (before ++ more) ≡ true
 

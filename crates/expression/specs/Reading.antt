@@ -47,14 +47,16 @@ channelAt n s at = onlyIf (ltb at (length s)) (onlyIf (ltb (getD s at 0) n) (got
 -- "Numbers: 0 literal, 1 own channel, 2 far channel, 3 sum, 4 difference, 5 product, 6 negation"
 abbrev pub numOp : ℕ → NumOp
 numOp b =
-    getD (OfNum.Literal ∷ OfNum.Own ∷ OfNum.Far ∷ OfNum.Two Sum ∷ OfNum.Two Difference ∷ OfNum.Two Product ∷ OfNum.Negation ∷ []) b OfNum.Unknown
+    getD (OfNum.Literal ∷ OfNum.Own ∷ OfNum.Far ∷ OfNum.Two Sum ∷ OfNum.Two Difference ∷ OfNum.Two Product ∷ OfNum.Negation
+    ∷ []) b OfNum.Unknown
 
 -- "Truths: 16 false, 17 true, 18 not, 19 and, 20 or, 21 less, 22 equal"
 abbrev pub truthOp : ℕ → TruthOp
 truthOp b =
     cond (ltb b 16) OfTruth.Unknown
     (getD
-    (OfTruth.Constant false ∷ OfTruth.Constant true ∷ OfTruth.Not ∷ OfTruth.Both And ∷ OfTruth.Both Or ∷ OfTruth.Two Less ∷ OfTruth.Two Equal ∷ [])
+    (OfTruth.Constant false ∷ OfTruth.Constant true ∷ OfTruth.Not ∷ OfTruth.Both And ∷ OfTruth.Both Or ∷ OfTruth.Two Less
+    ∷ OfTruth.Two Equal ∷ [])
     (b - 16)
     OfTruth.Unknown)
 

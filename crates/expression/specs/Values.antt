@@ -24,9 +24,9 @@ abbrev pub join : Join → Bool → Bool → Bool
 join And a b = a && b
 join Or a b = a || b
 
-abbrev pub compare : Compare → ℤ → ℤ → Bool
-compare Less a b = ltZ a b
-compare Equal a b = eqZ a b
+abbrev pub comparison : Compare → ℤ → ℤ → Bool
+comparison Less a b = ltZ a b
+comparison Equal a b = eqZ a b
 
 unfoldable pub numValue : (ℕ → ℤ) → (ℕ → ℤ) → Num → ℤ
 numValue owns fars (literal z) = z
@@ -39,7 +39,7 @@ unfoldable pub truthValue : (ℕ → ℤ) → (ℕ → ℤ) → Truth → Bool
 truthValue owns fars (constant b) = b
 truthValue owns fars (opposite t) = not (truthValue owns fars t)
 truthValue owns fars (both k t u) = join k (truthValue owns fars t) (truthValue owns fars u)
-truthValue owns fars (compared k a b) = compare k (numValue owns fars a) (numValue owns fars b)
+truthValue owns fars (compared k a b) = comparison k (numValue owns fars a) (numValue owns fars b)
 
 -- to open all definitions of this file, and those that clamp, on an `unfolding` line
 unfoldable pub evaluation : Unit {0}

@@ -1,5 +1,6 @@
 // Expressions: their operators, what evaluator, type check and the search for a fault answer, and the numbers that bytes make. The
-// definitions are in specs/; the functions themselves are in the crates `evaluation`, `type_check` and `fault_search`.
+// definitions are in specs/; the functions themselves are in the crates `expression_values`, `expression_types` and
+// `expression_faults`.
 ghost use mathlib.Core.Path.{_≡_};
 ghost use Rattle.expression.specs.Reading.{numOp, truthOp, word, signed};
 

@@ -5,7 +5,7 @@ use mathlib.Core.Bool.{not}
 use mathlib.Core.List.{List, map}
 use lib.ListN.{length, getD, take}
 use lib.IntN.{ℤ, pos}
-use Rattle.lists.specs.Lists.{filter, eqZ}
+use Rattle.lists.specs.Lists.{select, eqZ}
 use Rattle.lists.specs.Bits.{maskOf}
 use Rattle.expression.specs.Syntax.{Num}
 use Rattle.expression.specs.Reading.{wholeNum}
@@ -45,7 +45,7 @@ heldPairs p values l = map (λ a. record { channel = a .channel; value = valueAt
 
 -- the channels of the pairs that hold another value
 unfoldable pub channelsSet : ℕ → List ℤ → List Pair → List ℕ
-channelsSet p values l = map (λ a. a .channel) (filter (λ a. not (eqZ (valueAt values p (a .channel)) (a .value))) l)
+channelsSet p values l = map (λ a. a .channel) (select (λ a. not (eqZ (valueAt values p (a .channel)) (a .value))) l)
 
 -- r is the set of the channels that the pairs change at part p, and `back` begins with the pairs that set them back
 pub record Compared (p : ℕ) (pairs values back : List ℤ) (r : ℕ) : Type 0 where

@@ -5,7 +5,7 @@ use mathlib.Core.List.{List, [], _∷_, _++_, map}
 use lib.Dec.{ltb}
 use lib.ListN.{length, getD, take, drop}
 use lib.IntN.{ℤ}
-use Rattle.lists.specs.Lists.{filter, flatMap, below, eqZ}
+use Rattle.lists.specs.Lists.{select, flatMap, below, eqZ}
 use Rattle.expression.specs.Values.{numValue, truthValue}
 use Rattle.deck.specs.Deck.{Deck, Action, Assignment, Rule, R, ruleAt, active}
 use Rattle.charge.specs.Charge.{others}
@@ -48,7 +48,7 @@ enqueue us (u ∷ new) = enqueue (cond (isAmong u us) us (us ++ u ∷ [])) new
 
 -- "The changed channels are those whose value differs"
 unfoldable pub changed : Deck → ℕ → List ℤ → List ℤ → List ℕ
-changed d p before after = filter (λ c. not (eqZ (valueAt before p c) (valueAt after p c))) (below (R d))
+changed d p before after = select (λ c. not (eqZ (valueAt before p c) (valueAt after p c))) (below (R d))
 
 -- the values of part p are set, and the firing follows
 unfoldable pub setAndFire : Deck → ℕ → List Pair → Machine → Machine

@@ -6,9 +6,9 @@ use mathlib.Core.List.{List}
 use native.Mathlib.Omega.{arith}
 use lib.Bits.{bitOr}
 use lib.ListN.{getD, replicate, length-replicate, getD-replicate}
-use Rattle.lists.specs.Lists.{lists, any, filter, below, firstOr}
+use Rattle.lists.specs.Lists.{lists, anyOf, select, below, firstOr}
 use Rattle.lists.specs.Bits.{bit}
-use Rattle.lists.specs.Laws.Agreement.{any-more}
+use Rattle.lists.specs.Laws.Agreement.{anyOf-more}
 use Rattle.lists.specs.Laws.Bits.{bit-or, bit-zero}
 use Rattle.deck.specs.Shape.{shapeOf}
 use Rattle.deck.specs.Laws.Shape.{shape-R}
@@ -34,11 +34,11 @@ module _ {rules parts xs : List ℕ} {n r : ℕ} (h : Drawn rules parts n r xs) 
 
   -- the edges of the rules below r
   drawn : ℕ → ℕ → Bool
-  drawn a b = any (drawnBy rules parts n a b) (below r)
+  drawn a b = anyOf (drawnBy rules parts n a b) (below r)
 
-  one-more : (a b : ℕ) → any (drawnBy rules parts n a b) (below (r + 1)) ≡ (drawn a b || carriedAt parts n r && makes a b)
+  one-more : (a b : ℕ) → anyOf (drawnBy rules parts n a b) (below (r + 1)) ≡ (drawn a b || carriedAt parts n r && makes a b)
   unfolding drawn makes drawnBy
-  one-more a b = any-more (drawnBy rules parts n a b) r
+  one-more a b = anyOf-more (drawnBy rules parts n a b) r
 
   pub drawn-skip : carriedAt parts n r ≡ false → Drawn rules parts n (r + 1) xs
   unfolding drawn
@@ -66,11 +66,11 @@ module _ {rules parts xs : List ℕ} {n r : ℕ} (h : Drawn rules parts n r xs) 
 
 -- what is found in the table is what the definition finds in the shape
 pub drawn-cycle : {rules parts xs : List ℕ} {R′ M′ N′ : ℕ} → R′ ≤ 32 → M′ ≤ 64 → Drawn rules parts N′ M′ xs
-    → firstOr R′ (filter (reachesItself R′ (edgeAt xs)) (below R′)) ≡ firstCycle (shapeOf rules parts R′ M′ N′)
+    → firstOr R′ (select (reachesItself R′ (edgeAt xs)) (below R′)) ≡ firstCycle (shapeOf rules parts R′ M′ N′)
 unfolding firstCycle cyclic
 drawn-cycle {rules} {parts} {xs} {R′} {M′} {N′} channels few h =
     let e = edge (shapeOf rules parts R′ M′ N′) in
     ap (firstOr R′)
     (cyclic-agree R′ (edgeAt xs) e
     (λ a b la lb. h .each a b (omega arith) ∙ sym (shape-edge rules parts R′ M′ N′ a b few (omega arith) (omega arith))))
-    ∙ sym (ap (λ n. firstOr n (filter (reachesItself n e) (below n))) (shape-R rules parts R′ M′ N′))
+    ∙ sym (ap (λ n. firstOr n (select (reachesItself n e) (below n))) (shape-R rules parts R′ M′ N′))

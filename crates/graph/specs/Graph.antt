@@ -3,12 +3,12 @@ use Prim.Native.Nat.{ℕ, zero, suc}
 use mathlib.Core.Bool.{Bool, true, _&&_, _||_}
 use mathlib.Core.Path.{_≡_}
 use mathlib.Core.List.{List, [], _∷_}
-use Rattle.lists.specs.Lists.{any, filter, below, member}
+use Rattle.lists.specs.Lists.{anyOf, select, below, member}
 use Rattle.deck.specs.Deck.{Deck, R, M, N, ruleAt, carries, targets}
 
 -- some part carries rule r. "Part numbers play no role"
 unfoldable pub carried : Deck → ℕ → Bool
-carried d r = any (λ p. carries d p r) (below (N d))
+carried d r = anyOf (λ p. carries d p r) (below (N d))
 
 -- rule r has b among the targets of either action
 unfoldable pub assigns : Deck → ℕ → ℕ → Bool
@@ -16,7 +16,7 @@ assigns d r b = member b (targets (ruleAt d r .default)) || member b (targets (r
 
 -- "There is an edge from channel a to b when some carried rule has a among its events and b among the targets of either action"
 unfoldable pub edge : Deck → ℕ → ℕ → Bool
-edge d a b = any (λ r. carried d r && (member a (ruleAt d r .events) && assigns d r b)) (below (M d))
+edge d a b = anyOf (λ r. carried d r && (member a (ruleAt d r .events) && assigns d r b)) (below (M d))
 
 -- "by one or more edges", e being the test for an edge
 pub data Reaches (e : ℕ → ℕ → Bool) (a : ℕ) : ℕ → Type 0 where
@@ -28,7 +28,7 @@ unfoldable pub reached : ℕ → (ℕ → ℕ → Bool) → ℕ → ℕ → List
 reached n e zero a = []
 reached n e (suc k) a =
     let before = a ∷ reached n e k a in
-    filter (λ c. any (λ b. e b c) before) (below n)
+    select (λ c. anyOf (λ b. e b c) before) (below n)
 
 -- a channel can reach itself: no path needs more than n edges
 unfoldable pub reachesItself : ℕ → (ℕ → ℕ → Bool) → ℕ → Bool
@@ -36,7 +36,7 @@ reachesItself n e a = member a (reached n e n a)
 
 -- 7: the channels that can reach themselves, lowest first
 unfoldable pub cyclic : Deck → List ℕ
-cyclic d = filter (reachesItself (R d) (edge d)) (below (R d))
+cyclic d = select (reachesItself (R d) (edge d)) (below (R d))
 
 -- to open all definitions of this file, on an `unfolding` line
 unfoldable pub graphs : Unit {0}

@@ -6,7 +6,7 @@ use mathlib.Core.Bool.{Bool, true, _&&_, _||_}
 use mathlib.Core.List.{List}
 use lib.Dec.{ltb}
 use lib.ListN.{length, getD}
-use Rattle.lists.specs.Lists.{any, below}
+use Rattle.lists.specs.Lists.{anyOf, below}
 use Rattle.lists.specs.Bits.{bit}
 
 -- the tables have the deck's M rules, and 16 parts, of which the first N are the deck's
@@ -27,7 +27,7 @@ pub record Added (events targets : ℕ) (xs ys : List ℕ) : Type 0 where
 
 -- one of the N parts carries rule r
 unfoldable pub carriedAt : List ℕ → ℕ → ℕ → Bool
-carriedAt parts N r = any (λ p. bit (getD parts (4 * p) 0) r) (below N)
+carriedAt parts N r = anyOf (λ p. bit (getD parts (4 * p) 0) r) (below N)
 
 -- the rules that one of the N parts carries
 pub record CarriedIs (parts : List ℕ) (N s : ℕ) : Type 0 where
@@ -42,7 +42,7 @@ drawnBy rules parts N a b r =
 -- the table has the edges of the first k rules
 pub record Drawn (rules parts : List ℕ) (N k : ℕ) (edges : List ℕ) : Type 0 where
   pub long : length edges ≡ 32
-  pub each : (a b : ℕ) → a < 32 → edgeAt edges a b ≡ any (drawnBy rules parts N a b) (below k)
+  pub each : (a b : ℕ) → a < 32 → edgeAt edges a b ≡ anyOf (drawnBy rules parts N a b) (below k)
 
 -- the edges that lead to channels below n
 unfoldable pub inner : ℕ → (ℕ → ℕ → Bool) → ℕ → ℕ → Bool

@@ -6,7 +6,7 @@
 ghost use mathlib.Core.Path.{_≡_};
 ghost use Prim.Native.Nat.{_≤_, _<_};
 ghost use lib.ListN.{length};
-ghost use Rattle.lists.specs.Lists.{filter, below, firstOr};
+ghost use Rattle.lists.specs.Lists.{select, below, firstOr};
 ghost use Rattle.deck.specs.Shape.{shapeOf};
 ghost use Rattle.graph.specs.Graph.{reachesItself};
 ghost use Rattle.graph.specs.FirstCycle.{firstCycle};
@@ -77,7 +77,7 @@ fn spread(edges: &[u64], channels: usize, fresh: u64, seen: u64) -> u64
 // and a round that sees nothing new is the last.
 fn lowest_cycle(edges: &[u64], channels: usize) -> usize
     requires { ⌜ (length (now edges) ≡ 32) × (channels ≤ 32) ⌝ }
-    ensures { λ r. ⌜ r ≡ firstOr channels (filter (reachesItself channels (edgeAt (now (edges .entry)))) (below channels)) ⌝ }
+    ensures { λ r. ⌜ r ≡ firstOr channels (select (reachesItself channels (edgeAt (now (edges .entry)))) (below channels)) ⌝ }
 {
     let mut start: usize = 0;
     'search: while start < channels {

@@ -6,22 +6,22 @@ use lib.Dec.{eqb}
 use lib.IntN.{ℤ, pos, negsuc}
 
 -- the test holds for every element; for some element
-unfoldable pub all : {A : Type 0} → (A → Bool) → List A → Bool
-all f [] = true
-all f (x ∷ xs) = f x && all f xs
+unfoldable pub allOf : {A : Type 0} → (A → Bool) → List A → Bool
+allOf f [] = true
+allOf f (x ∷ xs) = f x && allOf f xs
 
-unfoldable pub any : {A : Type 0} → (A → Bool) → List A → Bool
-any f [] = false
-any f (x ∷ xs) = f x || any f xs
+unfoldable pub anyOf : {A : Type 0} → (A → Bool) → List A → Bool
+anyOf f [] = false
+anyOf f (x ∷ xs) = f x || anyOf f xs
 
 -- the elements that pass the test, in their order. One recursive call, since both arms of a test are computed
 unfoldable pub keep : {A : Type 0} → Bool → A → List A → List A
 keep true x xs = x ∷ xs
 keep false x xs = xs
 
-unfoldable pub filter : {A : Type 0} → (A → Bool) → List A → List A
-filter f [] = []
-filter f (x ∷ xs) = keep (f x) x (filter f xs)
+unfoldable pub select : {A : Type 0} → (A → Bool) → List A → List A
+select f [] = []
+select f (x ∷ xs) = keep (f x) x (select f xs)
 
 -- the lists that f gives, one behind the other
 unfoldable pub flatMap : {A B : Type 0} → (A → List B) → List A → List B
@@ -29,9 +29,9 @@ flatMap f [] = []
 flatMap f (x ∷ xs) = f x ++ flatMap f xs
 
 -- the sum, and the largest, of f over a list; 0 for the empty one
-unfoldable pub sum : {A : Type 0} → (A → ℕ) → List A → ℕ
-sum f [] = 0
-sum f (x ∷ xs) = f x + sum f xs
+unfoldable pub sumOf : {A : Type 0} → (A → ℕ) → List A → ℕ
+sumOf f [] = 0
+sumOf f (x ∷ xs) = f x + sumOf f xs
 
 unfoldable pub largest : {A : Type 0} → (A → ℕ) → List A → ℕ
 largest f [] = 0
@@ -55,7 +55,7 @@ unfoldable pub below : ℕ → List ℕ
 below n = from 0 n
 
 unfoldable pub member : ℕ → List ℕ → Bool
-member x xs = any (eqb x) xs
+member x xs = anyOf (eqb x) xs
 
 -- no number stands twice
 unfoldable pub distinct : List ℕ → Bool
@@ -77,5 +77,5 @@ eqList f (x ∷ xs) (y ∷ ys) = f x y && eqList f xs ys
 
 -- to open all definitions of this file, on an `unfolding` line
 unfoldable pub lists : Unit {0}
-unfolding all any keep filter flatMap sum largest firstOr isEmpty from below member distinct eqZ eqList
+unfolding allOf anyOf keep select flatMap sumOf largest firstOr isEmpty from below member distinct eqZ eqList
 lists = tt

@@ -7,7 +7,7 @@ use mathlib.Core.Bool.{Bool, true, false, not, _&&_, _||_, cond}
 use mathlib.Core.List.{List, [], _∷_, map}
 use lib.Dec.{eqb}
 use lib.IntN.{ℤ}
-use Rattle.lists.specs.Lists.{any, filter, below, member, isEmpty, eqZ, eqList}
+use Rattle.lists.specs.Lists.{anyOf, select, below, member, isEmpty, eqZ, eqList}
 use Rattle.expression.specs.Syntax.{Num, literal, own, far, two, negation}
 use Rattle.expression.specs.Syntax.{Truth, constant, opposite, both, compared}
 use Rattle.expression.specs.Values.{numValue, truthValue}
@@ -32,7 +32,7 @@ Agree n s s′ = (c : ℕ) → c < n → s c ≡ s′ c
 
 -- an update is a list of pairs; it is in a finite set of them
 abbrev pub In : List Pair → List (List Pair) → Type 0
-In u us = any (eqList eqPair u) us ≡ true
+In u us = anyOf (eqList eqPair u) us ≡ true
 
 -- ---- evaluation
 
@@ -41,7 +41,7 @@ unfoldable pub evaluate : State → Action → List Pair
 evaluate s a = map (λ x. record { channel = x .target; value = numValue s s (x .value) }) a
 
 unfoldable pub updatesFrom : State → List Action → List (List Pair)
-updatesFrom s actions = filter (λ u. not (isEmpty u)) (map (evaluate s) actions)
+updatesFrom s actions = select (λ u. not (isEmpty u)) (map (evaluate s) actions)
 
 -- Σ ⊨ φ
 unfoldable pub satisfies : State → Truth → Bool
@@ -49,14 +49,14 @@ satisfies s t = truthValue s s t
 
 -- Active(R, X), X being a set of resources by its test
 unfoldable pub activeRules : List Rule → (ℕ → Bool) → List Rule
-activeRules rs X = filter (λ r. any X (r .events)) rs
+activeRules rs X = select (λ r. anyOf X (r .events)) rs
 
 unfoldable pub defUpds : List Rule → (ℕ → Bool) → State → List (List Pair)
 defUpds rs X s = updatesFrom s (map (λ r. r .default) (activeRules rs X))
 
 unfoldable pub localUpds : List Rule → (ℕ → Bool) → State → List (List Pair)
 localUpds rs X s =
-    updatesFrom s (map (λ r. r .action) (filter (λ r. not (r .everywhere) && satisfies s (r .condition)) (activeRules rs X)))
+    updatesFrom s (map (λ r. r .action) (select (λ r. not (r .everywhere) && satisfies s (r .condition)) (activeRules rs X)))
 
 -- ---- tasks and their partial evaluation
 
@@ -86,11 +86,11 @@ partialTask s r =
     }
 
 unfoldable pub extTasks : List Rule → (ℕ → Bool) → State → List Task
-extTasks rs X s = map (partialTask s) (filter (λ r. r .everywhere) (activeRules rs X))
+extTasks rs X s = map (partialTask s) (select (λ r. r .everywhere) (activeRules rs X))
 
 -- what a list of tasks comes to at a node: {⟦act⟧Σ | taskᵢ = φ : act ∧ Σ ⊨ φ}
 unfoldable pub discovered : List Task → State → List (List Pair)
-discovered ts s = updatesFrom s (map (λ t. t .action) (filter (λ t. satisfies s (t .condition)) ts))
+discovered ts s = updatesFrom s (map (λ t. t .action) (select (λ t. satisfies s (t .condition)) ts))
 
 -- ---- nodes
 
@@ -169,7 +169,7 @@ System = ℕ → Node
 
 unfoldable pub programOf : Deck → ℕ → Program
 programOf d p =
-    record { channels = R d; rules = map (ruleAt d) (filter (carries d p) (below (M d))); invariant = partAt d p .limit }
+    record { channels = R d; rules = map (ruleAt d) (select (carries d p) (below (M d))); invariant = partAt d p .limit }
 
 -- (STEP): the node p acts, and every other node discovers the tasks of the label, in one step
 pub record Step (d : Deck) (S : System) (p : ℕ) (α : Label) (S′ : System) : Type 1 where
@@ -193,4 +193,4 @@ leads a b r = member a (r .events) && (member b (targets (r .default)) || member
 
 -- (x₁, x₂) ∈ E: some rule of some of the n nodes leads from x₁ to x₂
 unfoldable pub depends : ℕ → (ℕ → Program) → ℕ → ℕ → Bool
-depends n P a b = any (λ i. any (leads a b) (P i .rules)) (below n)
+depends n P a b = anyOf (λ i. anyOf (leads a b) (P i .rules)) (below n)

@@ -5,7 +5,7 @@ use mathlib.Core.Bool.{Bool, cond}
 use mathlib.Core.List.{List, [], _∷_, _++_}
 use lib.Dec.{leb, ltb}
 use lib.ListN.{length}
-use Rattle.lists.specs.Lists.{sum, isEmpty}
+use Rattle.lists.specs.Lists.{sumOf, isEmpty}
 use Rattle.refusals.specs.Outcome.{Outcome, refused, accepted, _>>=_, _>>_, require}
 use Rattle.refusals.specs.Numbers.{unknownPart, badInput, inputOutside, overCapacity, placeNotPending, budgetTooLarge}
 use Rattle.deck.specs.Deck.{Deck, N}
@@ -105,7 +105,7 @@ commitsOf (accepted (settled n)) = n
 commitsOf (accepted (spent n)) = n
 
 unfoldable pub commitsMade : Listed → ℕ
-commitsMade l = sum commitsOf (l .answers)
+commitsMade l = sumOf commitsOf (l .answers)
 
 -- "Charge added is the sum of the charges added that accepted inputs answer"
 unfoldable pub addedOf : Outcome Answer → ℕ
@@ -119,7 +119,7 @@ addedOf (accepted (settled n)) = 0
 addedOf (accepted (spent n)) = 0
 
 unfoldable pub chargeAdded : Listed → ℕ
-chargeAdded l = sum addedOf (l .answers)
+chargeAdded l = sumOf addedOf (l .answers)
 
 -- "Charge pending is that of the state reached"
 unfoldable pub chargePending : Deck → Listed → ℕ

@@ -7,7 +7,7 @@ use mathlib.Core.List.{List, [], _∷_}
 use lib.Dec.{leb}
 use lib.ListN.{length}
 use lib.IntN.{ℤ}
-use Rattle.lists.specs.Lists.{all}
+use Rattle.lists.specs.Lists.{allOf}
 use Rattle.refusals.specs.Outcome.{Outcome, refused, accepted}
 use Rattle.refusals.specs.Numbers.{placeNotPending}
 use Rattle.deck.specs.Deck.{Deck, N}
@@ -67,13 +67,15 @@ pub record Order (bytes : List ℕ) (d : Deck) (pool : List ℤ) (cs : List Call
   pub answers : run bytes pool cs .answers ≡ listed d (length pool) cs .answers
   pub memory : run bytes pool cs .memory ≡ store (length pool) (listed d (length pool) cs .machine)
   -- commits made and charge pending are at most the charge added
-  pub bound : commitsMade (listed d (length pool) cs) + chargePending d (listed d (length pool) cs) ≤ chargeAdded (listed d (length pool) cs)
+  pub bound : commitsMade (listed d (length pool) cs) + chargePending d (listed d (length pool) cs)
+      ≤ chargeAdded (listed d (length pool) cs)
   -- each pending update has a charge of at least 1, so that as many commits are paid for as are pending
-  pub each-charged : all (hasCharge d) (listed d (length pool) cs .machine .pending) ≡ true
+  pub each-charged : allOf (hasCharge d) (listed d (length pool) cs .machine .pending) ≡ true
   -- a commit is refused exactly when its place is not below the pending number
-  pub commit-refused : Along (RefusedAsPlaced d (capacity (length pool))) d (capacity (length pool)) (record { values = openingValues d; pending = [] }) cs
+  pub commit-refused : Along (RefusedAsPlaced d (capacity (length pool))) d (capacity (length pool))
+      (record { values = openingValues d; pending = [] }) cs
   -- each applied commit, within a settle too, leaves its part within its limit
-  pub stays-within : all (leavesWithin d) (listed d (length pool) cs .turns) ≡ true
+  pub stays-within : allOf (leavesWithin d) (listed d (length pool) cs .turns) ≡ true
   -- an accepted settle with a budget of at least the charge pending before it ends settled
   pub settles : Along (Settles d (capacity (length pool))) d (capacity (length pool)) (record { values = openingValues d; pending = [] }) cs
   -- after every call, every part is within its limit

@@ -5,7 +5,7 @@ use mathlib.Core.Path.{_≡_}
 use mathlib.Core.Bool.{Bool, true, false, not, _||_}
 use mathlib.Core.List.{List, [], _∷_, _++_, map}
 use lib.IntN.{ℤ}
-use Rattle.lists.specs.Lists.{any, filter, flatMap, below, member}
+use Rattle.lists.specs.Lists.{anyOf, select, flatMap, below, member}
 use Rattle.refusals.specs.Outcome.{Outcome, refused, accepted}
 use Rattle.deck.specs.Deck.{Deck, R, N}
 use Rattle.graph.specs.Graph.{edge, Reaches, reached}
@@ -37,11 +37,11 @@ pub record LeftAlone (d : Deck) (names : List ℕ) (c : ℕ) : Type 0 where
 
 -- a channel that was named, or is reached from one that was, by computing
 unfoldable pub led : Deck → List ℕ → ℕ → Bool
-led d names c = member c names || any (λ a. member c (reached (R d) (edge d) (R d) a)) names
+led d names c = member c names || anyOf (λ a. member c (reached (R d) (edge d) (R d) a)) names
 
 -- the channels that are left alone, by computing
 unfoldable pub leftAlone : Deck → List ℕ → List ℕ
-leftAlone d names = filter (λ c. not (led d names c)) (below (R d))
+leftAlone d names = select (λ c. not (led d names c)) (below (R d))
 
 -- the channels that pending updates target
 unfoldable pub targeted : Memory → List ℕ

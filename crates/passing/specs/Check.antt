@@ -4,7 +4,7 @@ use Prim.Native.Nat.{ℕ, _-_, _*_}
 use mathlib.Core.Bool.{Bool, not}
 use mathlib.Core.List.{List, _++_}
 use lib.IntN.{ℤ}
-use Rattle.lists.specs.Lists.{filter, flatMap, below}
+use Rattle.lists.specs.Lists.{select, flatMap, below}
 use Rattle.refusals.specs.Outcome.{Outcome, accepted, _>>=_, _>>_, requireNone}
 use Rattle.refusals.specs.Numbers.{opensOutside, cyclicGraph, overcharged}
 use Rattle.expression.specs.Values.{truthValue}
@@ -28,7 +28,7 @@ openingValues d =
 
 -- 6: the parts that open outside their limit, lowest first
 unfoldable pub outside : Deck → List ℕ
-outside d = filter (λ p. not (within d p (openingValues d))) (below (N d))
+outside d = select (λ p. not (within d p (openingValues d))) (below (N d))
 
 -- the deck that the bytes hold, if it passes: 1 to 4, 18, 19 and in a new deck 20 in reading order, then 5, 6, 7 and 8
 unfoldable pub passing : Form → List ℕ → Outcome Layout

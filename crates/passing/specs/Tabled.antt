@@ -6,7 +6,7 @@ use mathlib.Core.List.{List, []}
 use lib.ListN.{length, getD}
 use Rattle.refusals.specs.Outcome.{Outcome, refused, accepted}
 use Rattle.deck.specs.Deck.{Deck, R, M, N, ruleAt, partAt}
-use Rattle.deck.specs.Reader.{times, value}
+use Rattle.deck.specs.Reader.{repeats, value}
 use Rattle.deck.specs.Layout.{truths, Layout, expression, ownOnly, taskScope, action, read}
 use Rattle.deck.specs.Tables.{TablesOf, Ranged}
 use Rattle.deck.specs.declared.Deck as Counted
@@ -38,8 +38,8 @@ pub record Counts (l : Layout) (k : Counted.Deck) : Type 0 where
   pub channels : k .channels ≡ R (l .deck)
   pub rules : k .rules ≡ M (l .deck)
   pub parts : k .parts ≡ N (l .deck)
-  pub second : k .second ≡ l .rulesAt
-  pub third : k .third ≡ l .partsAt
+  pub rulesAt : k .«rules_at» ≡ l .rulesAt
+  pub partsAt : k .«parts_at» ≡ l .partsAt
   pub some : 1 ≤ R (l .deck)
   pub formed : Formed (l .deck)
   pub scoped : Scoped (l .deck)
@@ -47,7 +47,7 @@ pub record Counts (l : Layout) (k : Counted.Deck) : Type 0 where
 -- a row of four numbers for each part: the second is the offset of its opening values, the third that of its limit
 pub record PartTable (s : List ℕ) (d : Deck) (parts : List ℕ) : Type 0 where
   pub long : length parts ≡ 64
-  pub opening : (p : ℕ) → p < N d → ReadsAt s (times (R d) value) (getD parts (4 * p + 1) 0) (partAt d p .opening)
+  pub opening : (p : ℕ) → p < N d → ReadsAt s (repeats (R d) value) (getD parts (4 * p + 1) 0) (partAt d p .opening)
   pub limit : (p : ℕ) → p < N d → ReadsAt s (expression (truths (ownOnly (R d)))) (getD parts (4 * p + 2) 0) (partAt d p .limit)
 
 -- a row of eight numbers for each rule: the fifth, sixth and seventh are the offsets of default action, condition and action.

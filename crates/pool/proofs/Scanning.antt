@@ -16,7 +16,7 @@ use mir.Syntax.{w32}
 use mir.Val.{ofZ, toZ}
 use mir.ValLaws.{toZ-ofZ}
 use borrow.Author.Tests.{eqb-true, eqb-false, ne-eqb}
-use Rattle.lists.specs.Lists.{lists, all, eqZ, eqList}
+use Rattle.lists.specs.Lists.{lists, allOf, eqZ, eqList}
 use Rattle.lists.specs.Laws.Booleans.{not-true→false, true-or-false}
 use Rattle.lists.specs.Laws.Equalities.{eqZ-true, eqZ-refl}
 use Rattle.pool.specs.Places.{isZero}
@@ -31,16 +31,16 @@ eqZ-false x y h = not-true→false (eqZ x y) (λ t. h (eqZ-true x y t))
 -- ---- zeros, with a flag that is set if there was no other number before
 
 module _ (l : List ℤ) (i : ℕ) (clear : Bool) (h : i < length l) where
-  pub zero-next : getD l i (pos 0) ≡ pos 0 → (clear && all isZero (drop (i + 1) l)) ≡ (clear && all isZero (drop i l))
+  pub zero-next : getD l i (pos 0) ≡ pos 0 → (clear && allOf isZero (drop (i + 1) l)) ≡ (clear && allOf isZero (drop i l))
   unfolding lists isZero
   zero-next e = rw (drop-cons l i (pos 0) h, e, add-one) refl
 
-  pub zero-not : (getD l i (pos 0) ≡ pos 0 → ⊥) → false ≡ (clear && all isZero (drop i l))
-  unfolding all isZero
+  pub zero-not : (getD l i (pos 0) ≡ pos 0 → ⊥) → false ≡ (clear && allOf isZero (drop i l))
+  unfolding allOf isZero
   zero-not n = rw (drop-cons l i (pos 0) h, eqZ-false (getD l i (pos 0)) (pos 0) n, and-false) refl
 
-pub zero-end : (l : List ℤ) (i : ℕ) (clear : Bool) → length l ≤ i → clear ≡ (clear && all isZero (drop i l))
-unfolding all
+pub zero-end : (l : List ℤ) (i : ℕ) (clear : Bool) → length l ≤ i → clear ≡ (clear && allOf isZero (drop i l))
+unfolding allOf
 zero-end l i clear h = rw (drop-of-length-le l h, and-true) refl
 
 -- ---- zeros, by the bits of all numbers together
@@ -61,47 +61,49 @@ or-none a b =
 
 -- the bits of one number more
 pub zero-turn : (l : List ℤ) (i bits : ℕ) → i < length l → mag (getD l i (pos 0)) < 2 ^ 31
-    → (eqb (bitOr bits (ofZ w32 (getD l i (pos 0)))) 0 && all isZero (drop (i + 1) l)) ≡ (eqb bits 0 && all isZero (drop i l))
+    → (eqb (bitOr bits (ofZ w32 (getD l i (pos 0)))) 0 && allOf isZero (drop (i + 1) l)) ≡ (eqb bits 0 && allOf isZero (drop i l))
 zero-turn l i bits h fits =
     let x = ofZ w32 (getD l i (pos 0)) in
     let same = bits-same (getD l i (pos 0)) (pos 0) fits (omega arith) in
     ⊎-elim
-    (λ w. let e = eqb-true x 0 w in ap (λ b. b && all isZero (drop (i + 1) l)) (none bits x e) ∙ zero-next l i (eqb bits 0) h (same e))
-    (λ w. let e = eqb-false x 0 w in ap (λ b. b && all isZero (drop (i + 1) l)) (some bits x e)
+    (λ w. let e = eqb-true x 0 w in ap (λ b. b && allOf isZero (drop (i + 1) l)) (none bits x e) ∙ zero-next l i (eqb bits 0) h (same e))
+    (λ w. let e = eqb-false x 0 w in ap (λ b. b && allOf isZero (drop (i + 1) l)) (some bits x e)
     ∙ zero-not l i (eqb bits 0) h (λ q. e (ap (ofZ w32) q)))
     (true-or-false (eqb x 0))
 
 -- cut at an index
-zero-cut : (n : ℕ) (l : List ℤ) → (all isZero (take n l) && all isZero (drop n l)) ≡ all isZero l
-unfolding all
+zero-cut : (n : ℕ) (l : List ℤ) → (allOf isZero (take n l) && allOf isZero (drop n l)) ≡ allOf isZero l
+unfolding allOf
 zero-cut zero l = refl
 zero-cut (suc n) [] = refl
-zero-cut (suc n) (x ∷ l) = behind (isZero x) (all isZero (take n l)) (all isZero (drop n l)) (zero-cut n l)
+zero-cut (suc n) (x ∷ l) = behind (isZero x) (allOf isZero (take n l)) (allOf isZero (drop n l)) (zero-cut n l)
   where
     behind : (b p q : Bool) {r : Bool} → (p && q) ≡ r → ((b && p) && q) ≡ (b && r)
     behind true p q e = e
     behind false p q e = refl
 
 -- two halves, behind which only zeros stand
-pub zero-halves : (l : List ℤ) (half : ℕ) → all isZero (drop (2 * half) l) ≡ true
-    → (all isZero (take half l) && all isZero (take (2 * half - half) (drop half l))) ≡ all isZero l
+pub zero-halves : (l : List ℤ) (half : ℕ) → allOf isZero (drop (2 * half) l) ≡ true
+    → (allOf isZero (take half l) && allOf isZero (take (2 * half - half) (drop half l))) ≡ allOf isZero l
 zero-halves l half h =
     let n : 2 * half - half ≡ half = omega arith in
     let m : half + half ≡ 2 * half = omega arith in
-    let rest = ap (all isZero) (drop-drop half half l ∙ ap (λ k. drop k l) m) ∙ h in
-    let second = sym (and-true (all isZero (take half (drop half l)))) ∙ ap (λ b. all isZero (take half (drop half l)) && b) (sym rest) ∙ zero-cut half (drop half l) in
-    ap (λ k. all isZero (take half l) && all isZero (take k (drop half l))) n ∙ ap (λ b. all isZero (take half l) && b) second ∙ zero-cut half l
+    let rest = ap (allOf isZero) (drop-drop half half l ∙ ap (λ k. drop k l) m) ∙ h in
+    let second = sym (and-true (allOf isZero (take half (drop half l))))
+    ∙ ap (λ b. allOf isZero (take half (drop half l)) && b) (sym rest) ∙ zero-cut half (drop half l) in
+    ap (λ k. allOf isZero (take half l) && allOf isZero (take k (drop half l))) n ∙ ap (λ b. allOf isZero (take half l) && b) second
+    ∙ zero-cut half l
 
 -- another number stands behind them
-pub zero-behind : (l : List ℤ) (n : ℕ) → all isZero (drop n l) ≡ false → false ≡ all isZero l
-zero-behind l n h = sym (and-false (all isZero (take n l))) ∙ ap (λ b. all isZero (take n l) && b) (sym h) ∙ zero-cut n l
+pub zero-behind : (l : List ℤ) (n : ℕ) → allOf isZero (drop n l) ≡ false → false ≡ allOf isZero l
+zero-behind l n h = sym (and-false (allOf isZero (take n l))) ∙ ap (λ b. allOf isZero (take n l) && b) (sym h) ∙ zero-cut n l
 
 -- the last number
 pub zero-last : (l : List ℤ) (i : ℕ) → i < length l → length l ≤ i + 1 → mag (getD l i (pos 0)) < 2 ^ 31
-    → eqb (ofZ w32 (getD l i (pos 0))) 0 ≡ all isZero (drop i l)
+    → eqb (ofZ w32 (getD l i (pos 0))) 0 ≡ allOf isZero (drop i l)
 zero-last l i h m fits =
     zero-end l (i + 1) (eqb (ofZ w32 (getD l i (pos 0))) 0) m
-    ∙ ap (λ x. eqb x 0 && all isZero (drop (i + 1) l)) (sym (or-zero-l (ofZ w32 (getD l i (pos 0)))))
+    ∙ ap (λ x. eqb x 0 && allOf isZero (drop (i + 1) l)) (sym (or-zero-l (ofZ w32 (getD l i (pos 0)))))
     ∙ zero-turn l i 0 h fits
 
 -- ---- equal numbers

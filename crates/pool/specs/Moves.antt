@@ -6,7 +6,7 @@ use mathlib.Core.List.{List, _++_}
 use lib.Seq.{paste}
 use lib.ListN.{length, take, drop}
 use lib.IntN.{ℤ}
-use Rattle.lists.specs.Lists.{all}
+use Rattle.lists.specs.Lists.{allOf}
 use Rattle.pool.specs.Updates.{Update}
 use Rattle.pool.specs.Places.{poolOf}
 use Rattle.pool.specs.Laws.Places.{short}
@@ -22,5 +22,5 @@ moved pool at distance count = paste pool at (drop (at + distance) pool) count
 -- the pool holds exactly these updates, zeros behind them
 pub record Laid (pool : List ℤ) (us : List Update) : Type 0 where
   pub is : pool ≡ poolOf (length pool) us
-  pub short : all short us ≡ true
+  pub short : allOf short us ≡ true
   pub room : 10 * length us ≤ length pool

@@ -21,7 +21,8 @@ capacity n = n / limits .place
 -- An update as it is written: "part, assignment count 1 to 4, then four pairs of channel and value, unused numbers 0"
 unfoldable pub place : Update → List ℤ
 place u =
-    pos (u .part) ∷ pos (length (u .pairs)) ∷ flatMap (λ a. pos (a .channel) ∷ a .value ∷ []) (u .pairs) ++ zeros (2 * (limits .assignments - length (u .pairs)))
+    pos (u .part) ∷ pos (length (u .pairs)) ∷ flatMap (λ a. pos (a .channel) ∷ a .value ∷ []) (u .pairs)
+    ++ zeros (2 * (limits .assignments - length (u .pairs)))
 
 -- a pool of n numbers with these updates in front. "Places from the pending number on are all 0"
 unfoldable pub poolOf : ℕ → List Update → List ℤ

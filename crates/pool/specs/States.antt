@@ -6,7 +6,7 @@ use mathlib.Core.List.{List, [], _∷_}
 use lib.Dec.{leb, ltb, eqb}
 use lib.ListN.{length, drop}
 use lib.IntN.{ℤ}
-use Rattle.lists.specs.Lists.{all, distinct, isEmpty}
+use Rattle.lists.specs.Lists.{allOf, distinct, isEmpty}
 use Rattle.deck.specs.Limits.{limits}
 use Rattle.deck.specs.Deck.{Deck, R, N}
 use Rattle.pool.specs.declared.State.{State}
@@ -42,7 +42,7 @@ unusedZero d i (v ∷ vs) = (ltb (i / limits .channels) (N d) && ltb (i % limits
 -- "on a known part with different known channels", one at least
 unfoldable pub known : Deck → Update → Bool
 known d u =
-    ltb (u .part) (N d) && not (isEmpty (u .pairs)) && all (λ c. ltb c (R d)) (channels u) && distinct (channels u)
+    ltb (u .part) (N d) && not (isEmpty (u .pairs)) && allOf (λ c. ltb c (R d)) (channels u) && distinct (channels u)
 
 -- 10: "A good state has these zeros, at most C pending updates, each on a known part with different known channels, no two
 -- equal, and a charge of at most C"
@@ -54,9 +54,9 @@ good d m =
     eqb (length (m .state .values)) (limits .values)
     && unusedZero d 0 (m .state .values)
     && leb n C
-    && all wellWritten (places n (m .pool))
-    && all isZero (drop (limits .place * n) (m .pool))
-    && all (known d) us
+    && allOf wellWritten (places n (m .pool))
+    && allOf isZero (drop (limits .place * n) (m .pool))
+    && allOf (known d) us
     && allDifferent us
     && leb (charge d us) C
 

@@ -5,7 +5,7 @@ use mathlib.Core.List.{List, [], _∷_, map}
 use lib.Dec.{eqb}
 use lib.ListN.{getD, set}
 use lib.IntN.{ℤ, pos}
-use Rattle.lists.specs.Lists.{any, sum, eqZ, eqList}
+use Rattle.lists.specs.Lists.{anyOf, sumOf, eqZ, eqList}
 use Rattle.deck.specs.Limits.{limits}
 use Rattle.deck.specs.Deck.{Deck}
 use Rattle.charge.specs.Charge.{updateCharge}
@@ -42,7 +42,7 @@ unfoldable pub eqUpdate : Update → Update → Bool
 eqUpdate u w = eqb (u .part) (w .part) && eqList eqPair (u .pairs) (w .pairs)
 
 unfoldable pub isAmong : Update → List Update → Bool
-isAmong u us = any (eqUpdate u) us
+isAmong u us = anyOf (eqUpdate u) us
 
 -- "no two equal"
 unfoldable pub allDifferent : List Update → Bool
@@ -51,7 +51,7 @@ allDifferent (u ∷ us) = not (isAmong u us) && allDifferent us
 
 -- "The charge of a state is the sum over its pending updates"
 unfoldable pub charge : Deck → List Update → ℕ
-charge d us = sum (λ u. updateCharge d (u .part) (channels u)) us
+charge d us = sumOf (λ u. updateCharge d (u .part) (channels u)) us
 
 -- to open all definitions of this file, on an `unfolding` line
 unfoldable pub updates : Unit {0}

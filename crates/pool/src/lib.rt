@@ -4,7 +4,7 @@ ghost use mathlib.Core.Bool.{_&&_};
 ghost use mathlib.Core.List.{_++_};
 ghost use Prim.Native.Nat.{_+_, _*_, _≤_, _<_};
 ghost use lib.ListN.{length, take, drop};
-ghost use Rattle.lists.specs.Lists.{all, eqZ, eqList};
+ghost use Rattle.lists.specs.Lists.{allOf, eqZ, eqList};
 ghost use Rattle.pool.specs.Places.{zeros, isZero};
 ghost use Rattle.pool.specs.States.{goodLength};
 ghost use Rattle.pool.specs.Moves.{written, moved};
@@ -101,7 +101,7 @@ pub fn clear(tail: &mut [i32])
 // two lists to enough of them in each turn.
 fn both_zero(a: &[i32], b: &[i32]) -> bool
     requires { ⌜ length (now a) ≡ length (now b) ⌝ }
-    ensures { λ r. ⌜ r ≡ (all isZero (now (a .entry)) && all isZero (now (b .entry))) ⌝ }
+    ensures { λ r. ⌜ r ≡ (allOf isZero (now (a .entry)) && allOf isZero (now (b .entry))) ⌝ }
 {
     let n = a.len();
     let mut first: i32 = 0;
@@ -120,7 +120,7 @@ fn both_zero(a: &[i32], b: &[i32]) -> bool
 // Whether the number at an index is 0, or the list ends there.
 fn last_zero(tail: &[i32], end: usize) -> bool
     requires { ⌜ length (now tail) ≤ end + 1 ⌝ }
-    ensures { λ r. ⌜ r ≡ all isZero (drop end (now (tail .entry))) ⌝ }
+    ensures { λ r. ⌜ r ≡ allOf isZero (drop end (now (tail .entry))) ⌝ }
 {
     if end < tail.len() {
         return tail[end] == 0;
@@ -130,7 +130,7 @@ fn last_zero(tail: &[i32], end: usize) -> bool
 
 // Whether the pool's tail is zeros: its two halves, and the number that they may leave.
 pub fn all_zero(tail: &[i32]) -> bool
-    ensures { λ r. ⌜ r ≡ all isZero (now (tail .entry)) ⌝ }
+    ensures { λ r. ⌜ r ≡ allOf isZero (now (tail .entry)) ⌝ }
 {
     let half = tail.len() / 2;
     let end = 2 * half;

@@ -12,6 +12,6 @@ fn main() {
         os::fail(&name[..n]);
         return;
     }
-    playback::replay(deck, libc::STDIN_FILENO);
+    replay_calls::replay(deck, libc::STDIN_FILENO);
     libc::close(deck);
 }

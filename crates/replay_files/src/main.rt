@@ -25,7 +25,7 @@ fn replay_files(i: usize) {
     if i < usize::MAX {
         let calls = open_arg(i + 1, true);
         if calls >= 0 {
-            playback::replay(deck, calls);
+            replay_calls::replay(deck, calls);
             libc::close(calls);
         }
     }

@@ -18,5 +18,11 @@ numbers-of-spec =
     (λ c. search needs)
     (λ c. rw (c .before .told .given .1) refl)
     (λ c. rw (c .before .before .before .before .told2 .given .1, c .enum-told .given .1) refl)
-    (λ c. rw (c .before .before .before .before .told2 .given .1, c .enum-told2 .given .1) (commit-numbers _ (c .before .before .as-number .ensures)))
-    (λ c. rw (c .before .before .before .before .told2 .given .1, c .enum-told3 .given .1) (settle-numbers _ (c .before .before .as-number .ensures))))
+    (λ c. rw (
+      c .before .before .before .before .told2 .given .1,
+      c .enum-told2 .given .1,
+    ) (commit-numbers _ (c .before .before .as-number .ensures)))
+    (λ c. rw (
+      c .before .before .before .before .told2 .given .1,
+      c .enum-told3 .given .1,
+    ) (settle-numbers _ (c .before .before .as-number .ensures))))

@@ -13,10 +13,10 @@ use Rattle.abi.specs.Returned.{answeredOf, answered, bit, numbersAt, ret
 use Rattle.abi.specs.Returned.{returnedConversionOf, convertedNumbers, returnedConversion}
 
 -- the array holds the numbers of an outcome
-abbrev Holds : List ℕ → Outcome Answer → Type 0
-Holds array o = array ≡ numbersOf o .place ∷ numbersOf o .values
+abbrev AnswerHolds : List ℕ → Outcome Answer → Type 0
+AnswerHolds array o = array ≡ numbersOf o .place ∷ numbersOf o .values
 
-pub written : {o r : Outcome Answer} {array : List ℕ} → Holds array o → o ≡ r → answeredOf (numbersOf o .number) array ≡ answered r
+pub written : {o r : Outcome Answer} {array : List ℕ} → AnswerHolds array o → o ≡ r → answeredOf (numbersOf o .number) array ≡ answered r
 written {o} w e = ap (answeredOf (numbersOf o .number)) w ∙ ap answered e
 
 pub section-written : {stretch array : List ℕ} {number place : ℕ} {s : Section} → array ≡ place ∷ 0 ∷ 0 ∷ 0 ∷ 0 ∷ []
@@ -25,14 +25,14 @@ section-written {stretch} {number = number} w e = ap (returnedSectionOf stretch 
 
 -- the array is written, and the call left the state where the host holds it
 pub left : {o : Outcome Answer} {values pool : List ℤ} {pending : ℕ} {array : List ℕ} {r : Reply}
-    → Holds array o → replyAt o values pending pool ≡ r
+    → AnswerHolds array o → replyAt o values pending pool ≡ r
     → returnedOf (numbersOf o .number) array (memoryAt values pending pool) ≡ returned r
 left {o} {values} {pool} {pending} w e =
     ap (λ a. returnedOf (numbersOf o .number) a (memoryAt values pending pool)) w ∙ ap returned e
 
 -- the array is written, and the state is stored
 pub stored : {o : Outcome Answer} {st : State} {values pool : List ℤ} {pending : ℕ} {array : List ℕ} {r : Reply}
-    → Holds array o → (values ≡ st .values) × (pending ≡ st .pending) → replyOf o st pool ≡ r
+    → AnswerHolds array o → (values ≡ st .values) × (pending ≡ st .pending) → replyOf o st pool ≡ r
     → returnedOf (numbersOf o .number) array (memoryAt values pending pool) ≡ returned r
 stored {o} {pool = pool} w h e = left w (ap₂ (λ v n. replyAt o v n pool) (h .0) (h .1) ∙ e)
 

@@ -9,9 +9,9 @@ use lib.ListN.{length}
 use lib.IntN.{ℤ, pos, negsuc, natAbs}
 use lib.Signed.{leZ, ltZ}
 use borrow.Author.Tests.{leb-true, eqb-true}
-use Rattle.lists.specs.Lists.{all, distinct}
+use Rattle.lists.specs.Lists.{allOf, distinct}
 use Rattle.lists.specs.Laws.Booleans.{and-left, and-right}
-use Rattle.lists.specs.Laws.Alls.{all-none, all-cons, all-head, all-tail}
+use Rattle.lists.specs.Laws.Alls.{allOf-none, allOf-cons, allOf-head, allOf-tail}
 use Rattle.deck.specs.Deck.{Deck, R}
 use Rattle.pool.specs.Places.{pairsOf}
 use Rattle.pool.specs.Laws.Values.{channelsIn}
@@ -25,13 +25,13 @@ pub inside-known : (n : ℕ) (c : ℤ) → inside n c ≡ true → ltb (natAbs c
 inside-known n (pos a) h = and-right (leb 0 a) (ltb a n) h
 inside-known n (negsuc a) h = absurd (false≢true h)
 
-pairs-known : (n : ℕ) (l : List ℤ) → all (inside n) (channelsOf l) ≡ true → all (λ c. ltb c n) (channelsIn (pairsOf l)) ≡ true
+pairs-known : (n : ℕ) (l : List ℤ) → allOf (inside n) (channelsOf l) ≡ true → allOf (λ c. ltb c n) (channelsIn (pairsOf l)) ≡ true
 unfolding channelsOf pairsOf
-pairs-known n [] h = all-none (λ c. ltb c n)
-pairs-known n (c ∷ []) h = all-none (λ c. ltb c n)
+pairs-known n [] h = allOf-none (λ c. ltb c n)
+pairs-known n (c ∷ []) h = allOf-none (λ c. ltb c n)
 pairs-known n (c ∷ v ∷ l) h =
-    all-cons (λ c. ltb c n) (natAbs c) (channelsIn (pairsOf l)) (inside-known n c (all-head (inside n) c (channelsOf l) h))
-    (pairs-known n l (all-tail (inside n) c (channelsOf l) h))
+    allOf-cons (λ c. ltb c n) (natAbs c) (channelsIn (pairsOf l)) (inside-known n c (allOf-head (inside n) c (channelsOf l) h))
+    (pairs-known n l (allOf-tail (inside n) c (channelsOf l) h))
 
 -- every pair has a channel
 pairs-channels : (l : List ℤ) → length l % 2 ≡ 0 → channelsIn (pairsOf l) ≡ map natAbs (channelsOf l)
@@ -48,7 +48,7 @@ module _ (d : Deck) (l : List ℤ) (h : goodInput d l ≡ true) where
   even = eqb (length l % 2) 0
 
   abbrev known : Bool
-  known = all (inside (R d)) (channelsOf l)
+  known = allOf (inside (R d)) (channelsOf l)
 
   abbrev different : Bool
   different = distinct (map natAbs (channelsOf l))
@@ -69,7 +69,7 @@ module _ (d : Deck) (l : List ℤ) (h : goodInput d l ≡ true) where
   pub input-inside : known ≡ true
   input-inside = and-right (short && even) known (tests .0)
 
-  pub input-known : all (λ c. ltb c (R d)) (channelsIn (pairsOf l)) ≡ true
+  pub input-known : allOf (λ c. ltb c (R d)) (channelsIn (pairsOf l)) ≡ true
   input-known = pairs-known (R d) l input-inside
 
   pub input-different : distinct (channelsIn (pairsOf l)) ≡ true

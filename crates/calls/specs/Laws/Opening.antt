@@ -9,9 +9,9 @@ use lib.Dec.{eqb}
 use lib.ListN.{length, replicate, length-append, length-replicate}
 use lib.IntN.{ℤ, pos}
 use borrow.Author.Tests.{eqb-true}
-use Rattle.lists.specs.Lists.{lists, all, flatMap}
+use Rattle.lists.specs.Lists.{lists, allOf, flatMap}
 use Rattle.lists.specs.Laws.Booleans.{and-both, and-left, and-right, or-left, or-right}
-use Rattle.lists.specs.Laws.Alls.{all-head, all-tail}
+use Rattle.lists.specs.Laws.Alls.{allOf-head, allOf-tail}
 use Rattle.lists.specs.Laws.Equalities.{eqZ-refl}
 use Rattle.deck.specs.Deck.{Deck, Part, R, N}
 use Rattle.deck.specs.Laws.Formed.{Formed}
@@ -56,29 +56,36 @@ module _ (d : Deck) where
   row-length : R d ≤ 32 → (p : Part) → eqb (length (p .opening)) (R d) ≡ true → length (row p) ≡ 32
   unfolding zeros
   row-length few p h =
-      omega (arith, length-append (p .opening) (replicate (32 - R d) (pos 0)), length-replicate (32 - R d) (pos 0), eqb-true (length (p .opening)) (R d) h)
+      omega (
+        arith,
+        length-append (p .opening) (replicate (32 - R d) (pos 0)),
+        length-replicate (32 - R d) (pos 0),
+        eqb-true (length (p .opening)) (R d) h,
+      )
 
-  rows-length : R d ≤ 32 → (ps : List Part) → all (λ p. eqb (length (p .opening)) (R d)) ps ≡ true → length (flatMap row ps) ≡ 32 * length ps
+  rows-length : R d ≤ 32 → (ps : List Part) → allOf (λ p. eqb (length (p .opening)) (R d)) ps ≡ true
+      → length (flatMap row ps) ≡ 32 * length ps
   unfolding lists
   rows-length few [] h = refl
   rows-length few (p ∷ ps) h =
       omega (
         arith,
         length-append (row p) (flatMap row ps),
-        row-length few p (all-head (λ p. eqb (length (p .opening)) (R d)) p ps h),
-        rows-length few ps (all-tail (λ p. eqb (length (p .opening)) (R d)) p ps h),
+        row-length few p (allOf-head (λ p. eqb (length (p .opening)) (R d)) p ps h),
+        rows-length few ps (allOf-tail (λ p. eqb (length (p .opening)) (R d)) p ps h),
       )
 
-  unused-rows : R d ≤ 32 → (k : ℕ) (ps : List Part) → k + length ps ≤ N d → all (λ p. eqb (length (p .opening)) (R d)) ps ≡ true
+  unused-rows : R d ≤ 32 → (k : ℕ) (ps : List Part) → k + length ps ≤ N d → allOf (λ p. eqb (length (p .opening)) (R d)) ps ≡ true
       → unusedZero d (32 * k) (flatMap row ps) ≡ true
   unfolding lists zeros
   unused-rows few k [] h e = unused-zeros (32 * k) 0
   unused-rows few k (p ∷ ps) h e =
-      let long = all-head (λ p. eqb (length (p .opening)) (R d)) p ps e in
-      let rest = all-tail (λ p. eqb (length (p .opening)) (R d)) p ps e in
+      let long = allOf-head (λ p. eqb (length (p .opening)) (R d)) p ps e in
+      let rest = allOf-tail (λ p. eqb (length (p .opening)) (R d)) p ps e in
       unused-append (32 * k) (row p) (flatMap row ps)
       (unused-append (32 * k) (p .opening) (zeros (32 - R d))
-      (ap (λ i. unusedZero d i (p .opening)) (sym (add-zero (32 * k))) ∙ unused-part few k 0 (p .opening) (omega arith) (omega (arith, eqb-true (length (p .opening)) (R d) long)))
+      (ap (λ i. unusedZero d i (p .opening)) (sym (add-zero (32 * k)))
+      ∙ unused-part few k 0 (p .opening) (omega arith) (omega (arith, eqb-true (length (p .opening)) (R d) long)))
       (unused-zeros (32 * k + length (p .opening)) (32 - R d)))
       (ap (λ i. unusedZero d i (flatMap row ps)) (next (row-length few p long)) ∙ unused-rows few (suc k) ps (omega arith) rest)
     where
@@ -98,7 +105,9 @@ module _ (d : Deck) where
           rows-length (f .channels) (d .parts) (f .openings),
           f .parts,
         );
-        unused = unused-append 0 rows (zeros tail) (unused-rows (f .channels) 0 (d .parts) (omega arith) (f .openings)) (unused-zeros (0 + length rows) tail);
+        unused =
+            unused-append 0 rows (zeros tail) (unused-rows (f .channels) 0 (d .parts) (omega arith) (f .openings))
+            (unused-zeros (0 + length rows) tail);
         known = refl;
         short = refl;
         different = refl;

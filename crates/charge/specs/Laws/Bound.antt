@@ -8,11 +8,11 @@ use native.Mathlib.Nat.{eq-or-lt-of-le}
 use native.Mathlib.Omega.{arith}
 use lib.Dec.{ltb}
 use borrow.Author.Tests.{ltb-true, ltb-false}
-use Rattle.lists.specs.Lists.{filter, flatMap, below, member}
+use Rattle.lists.specs.Lists.{select, flatMap, below, member}
 use Rattle.lists.specs.Laws.Booleans.{and-left, and-right, not-true→false}
-use Rattle.lists.specs.Laws.Filters.{filter-filter, filter-map}
-use Rattle.lists.specs.Laws.Below.{below-member, none-below, filter-first}
-use Rattle.lists.specs.Laws.FlatMaps.{filter-flatMap, map-flatMap, flatMap-none, flatMap-first}
+use Rattle.lists.specs.Laws.Filters.{select-select, select-map}
+use Rattle.lists.specs.Laws.Below.{below-member, none-below, select-first}
+use Rattle.lists.specs.Laws.FlatMaps.{select-flatMap, map-flatMap, flatMap-none, flatMap-first}
 use Rattle.deck.specs.Deck.{Deck, M, N, carries}
 use Rattle.charge.specs.Charge.{Charged, ruleCharge, carriedCharges, aboveBound}
 use Rattle.charge.specs.Laws.Largest.{AtMost, carriedAt}
@@ -40,25 +40,25 @@ module _ (d : Deck) where
   tooLarge p r = carries d p r && ltb 65535 (ruleCharge d p r)
 
   placesAt : ℕ → List ℕ
-  placesAt p = map (λ r. 64 * p + r) (filter (tooLarge p) (below (M d)))
+  placesAt p = map (λ r. 64 * p + r) (select (tooLarge p) (below (M d)))
 
   charged : ℕ → ℕ → Charged
   charged p r = record { place = 64 * p + r; charge = ruleCharge d p r }
 
   above-at : (p : ℕ)
-      → map (λ x. x .place) (filter (λ x. ltb 65535 (x .charge)) (map (charged p) (carriedAt d p))) ≡ placesAt p
+      → map (λ x. x .place) (select (λ x. ltb 65535 (x .charge)) (map (charged p) (carriedAt d p))) ≡ placesAt p
   unfolding placesAt tooLarge charged carriedAt
   above-at p =
       let above : ℕ → Bool = λ r. ltb 65535 (ruleCharge d p r) in
-      ap (map (λ x. x .place)) (filter-map (λ x. ltb 65535 (x .charge)) (charged p) (carriedAt d p))
-      ∙ map-map (λ x. x .place) (charged p) (filter above (carriedAt d p))
-      ∙ ap (map (λ r. 64 * p + r)) (filter-filter above (carries d p) (below (M d)))
+      ap (map (λ x. x .place)) (select-map (λ x. ltb 65535 (x .charge)) (charged p) (carriedAt d p))
+      ∙ map-map (λ x. x .place) (charged p) (select above (carriedAt d p))
+      ∙ ap (map (λ r. 64 * p + r)) (select-select above (carries d p) (below (M d)))
 
   above-is : aboveBound (carriedCharges d) ≡ flatMap placesAt (below (N d))
   unfolding aboveBound carriedCharges charged carriedAt
   above-is =
       ap (map (λ x. x .place))
-      (filter-flatMap (λ x. ltb 65535 (x .charge)) (λ p. map (charged p) (carriedAt d p)) (below (N d)))
+      (select-flatMap (λ x. ltb 65535 (x .charge)) (λ p. map (charged p) (carriedAt d p)) (below (N d)))
       ∙ map-flatMap (λ x. x .place) _ (below (N d))
       ∙ ap (λ f. flatMap f (below (N d))) (fun-ext above-at)
 
@@ -75,7 +75,7 @@ module _ (d : Deck) where
   none-at : (p : ℕ) → (placesAt p ≡ []) ↔ ((r : ℕ) → r < M d → tooLarge p r ≡ false)
   unfolding placesAt
   none-at p =
-      let empty = map-eq-nil-iff (λ r. 64 * p + r) {l = filter (tooLarge p) (below (M d))} in
+      let empty = map-eq-nil-iff (λ r. 64 * p + r) {l = select (tooLarge p) (below (M d))} in
       let none = none-below (tooLarge p) (M d) in
       (λ h. none .0 (empty .0 h), λ h. empty .1 (none .1 h))
 
@@ -102,8 +102,8 @@ module _ (d : Deck) where
       → (r : ℕ) × (x ≡ 64 * p + r) × (r < M d) × (tooLarge p r ≡ true) × ((s : ℕ) → s < r → tooLarge p s ≡ false)
   unfolding placesAt
   first-at p x xs e =
-      let head = map-head (λ r. 64 * p + r) (filter (tooLarge p) (below (M d))) x xs e in
-      let first = filter-first (tooLarge p) (M d) (head .0) (head .1) (head .2) in
+      let head = map-head (λ r. 64 * p + r) (select (tooLarge p) (below (M d))) x xs e in
+      let first = select-first (tooLarge p) (M d) (head .0) (head .1) (head .2) in
       (head .0, head .3, first .1, first .0, first .2)
 
   pub first-above : M d ≤ 64 → (x : ℕ) (xs : List ℕ) → aboveBound (carriedCharges d) ≡ x ∷ xs → FirstAbove d x

@@ -7,11 +7,11 @@ use mathlib.Core.Bool.{Bool, true, false, not, cond}
 use mathlib.Core.List.{List, [], _∷_}
 use native.Mathlib.Omega.{arith}
 use lib.Dec.{eqb}
-use Rattle.lists.specs.Lists.{sum, member}
+use Rattle.lists.specs.Lists.{sumOf, member}
 use Rattle.lists.specs.Laws.Booleans.{or-left, or-right}
 use Rattle.lists.specs.Laws.Members.{member-empty, member-cases}
-use Rattle.lists.specs.Laws.Below.{filter-below}
-use Rattle.lists.specs.Laws.Sums.{sum-cong}
+use Rattle.lists.specs.Laws.Below.{select-below}
+use Rattle.lists.specs.Laws.Sums.{sumOf-cong}
 use Rattle.deck.specs.Deck.{Deck, R, N, ruleAt, targets, active}
 use Rattle.graph.specs.Graph.{assigns, edge}
 use Rattle.graph.specs.Laws.Reach.{height, height-most, height-less, height-falls}
@@ -29,13 +29,13 @@ module _ (d : Deck) where
   actions r = targets (ruleAt d r .action)
 
   -- one step of each definition
-  pub update-step : (k p : ℕ) (u : List ℕ) → updateBy (suc k) d p u ≡ 1 + sum (ruleBy k d p) (active d p u)
+  pub update-step : (k p : ℕ) (u : List ℕ) → updateBy (suc k) d p u ≡ 1 + sumOf (ruleBy k d p) (active d p u)
   unfolding updateBy
   update-step k p u = refl
 
   pub rule-step : (k p r : ℕ) → ruleBy (suc k) d p r
       ≡ unlessEmpty (defaults r) (updateBy k d p (defaults r))
-      + sum (λ q. unlessEmpty (actions r) (updateBy k d q (actions r))) (receivers d p r)
+      + sumOf (λ q. unlessEmpty (actions r) (updateBy k d q (actions r))) (receivers d p r)
   unfolding updateBy
   rule-step k p r = refl
 
@@ -50,7 +50,7 @@ module _ (d : Deck) where
   -- a rule's action goes to parts of the deck
   pub others-inside : (p q : ℕ) → member q (others d p) ≡ true → q < N d
   unfolding others
-  others-inside p q m = filter-below (λ q. not (eqb q p)) (N d) q .0 m .0
+  others-inside p q m = select-below (λ q. not (eqb q p)) (N d) q .0 m .0
 
   receivers-inside : (p q r : ℕ) → p < N d → member q (receivers d p r) ≡ true → q < N d
   unfolding receivers
@@ -93,10 +93,10 @@ module _ {d : Deck} (known : KnownTargets d) (acyclic : Acyclic d) where
 
   -- charges that are as deep as those of the definition, by the same two equations at every part
   record Equated (U : ℕ → ℕ → List ℕ → ℕ) (Q : ℕ → ℕ → ℕ → ℕ) : Type 0 where
-    pub update : (k p : ℕ) (u : List ℕ) → p < N d → U (suc k) p u ≡ 1 + sum (Q k p) (active d p u)
+    pub update : (k p : ℕ) (u : List ℕ) → p < N d → U (suc k) p u ≡ 1 + sumOf (Q k p) (active d p u)
     pub rule : (k p r : ℕ) → p < N d → Q (suc k) p r
         ≡ unlessEmpty (defaults d r) (U k p (defaults d r))
-        + sum (λ q. unlessEmpty (actions d r) (U k q (actions d r))) (receivers d p r)
+        + sumOf (λ q. unlessEmpty (actions d r) (U k q (actions d r))) (receivers d p r)
 
   module _ (U : ℕ → ℕ → List ℕ → ℕ) (Q : ℕ → ℕ → ℕ → ℕ) (x : Equated U Q) where
     mutual
@@ -105,7 +105,7 @@ module _ {d : Deck} (known : KnownTargets d) (acyclic : Acyclic d) where
       update-same (suc k) m p u l h e =
           update-step d k p u
           ∙ ap (λ x. 1 + x)
-          (sum-cong (ruleBy k d p) (Q k p) (active d p u)
+          (sumOf-cong (ruleBy k d p) (Q k p) (active d p u)
           (λ r a. let low = low-active m p r u l h a in rule-same k (low .0) p r l (low .2) (omega (arith, low .1))))
           ∙ sym (x .update k p u l)
 
@@ -115,7 +115,7 @@ module _ {d : Deck} (known : KnownTargets d) (acyclic : Acyclic d) where
           rule-step d k p r
           ∙ ap₂ _+_
           (ap (unlessEmpty (defaults d r)) (update-same k m p (defaults d r) l (low-defaults m r h) (omega arith)))
-          (sum-cong _ _ (receivers d p r)
+          (sumOf-cong _ _ (receivers d p r)
           (λ q z.
           ap (unlessEmpty (actions d r))
           (update-same k m q (actions d r) (receivers-inside d p q r l z) (low-actions m r h) (omega arith))))
@@ -137,23 +137,23 @@ module _ {d : Deck} (known : KnownTargets d) (acyclic : Acyclic d) where
   deeper : Equated (λ k. updateBy (suc k) d) (λ k. ruleBy (suc k) d)
   deeper = record { update = λ k p u _. update-step d (suc k) p u; rule = λ k p r _. rule-step d (suc k) p r }
 
-  pub charge-of-update : (p : ℕ) (u : List ℕ) → p < N d → updateCharge d p u ≡ 1 + sum (ruleCharge d p) (active d p u)
+  pub charge-of-update : (p : ℕ) (u : List ℕ) → p < N d → updateCharge d p u ≡ 1 + sumOf (ruleCharge d p) (active d p u)
   unfolding ruleCharge
   charge-of-update p u l = updates-same _ _ deeper p u l ∙ update-step d (depth d) p u
 
   pub charge-of-rule : (p r : ℕ) → p < N d → ruleCharge d p r
       ≡ unlessEmpty (targets (ruleAt d r .default)) (updateCharge d p (targets (ruleAt d r .default)))
-      + sum (λ q. unlessEmpty (targets (ruleAt d r .action)) (updateCharge d q (targets (ruleAt d r .action))))
+      + sumOf (λ q. unlessEmpty (targets (ruleAt d r .action)) (updateCharge d q (targets (ruleAt d r .action))))
       (receivers d p r)
   unfolding updateCharge
   charge-of-rule p r l = rules-same _ _ deeper p r l ∙ rule-step d (depth d) p r
 
 -- document 01's two equations at every part, of charges U of updates and Q of rules
 pub record ChargeEquations (d : Deck) (U : ℕ → List ℕ → ℕ) (Q : ℕ → ℕ → ℕ) : Type 0 where
-  pub update : (p : ℕ) (u : List ℕ) → p < N d → U p u ≡ 1 + sum (Q p) (active d p u)
+  pub update : (p : ℕ) (u : List ℕ) → p < N d → U p u ≡ 1 + sumOf (Q p) (active d p u)
   pub rule : (p r : ℕ) → p < N d → Q p r
       ≡ unlessEmpty (targets (ruleAt d r .default)) (U p (targets (ruleAt d r .default)))
-      + sum (λ q. unlessEmpty (targets (ruleAt d r .action)) (U q (targets (ruleAt d r .action)))) (receivers d p r)
+      + sumOf (λ q. unlessEmpty (targets (ruleAt d r .action)) (U q (targets (ruleAt d r .action)))) (receivers d p r)
 
 -- the charges satisfy them, and nothing else does
 pub record Charges (d : Deck) : Type 1 where

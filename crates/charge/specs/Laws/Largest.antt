@@ -7,10 +7,10 @@ use mathlib.Core.Bool.{Bool, true, false}
 use mathlib.Core.List.{List, []}
 use native.Mathlib.Nat.{le-refl}
 use native.Mathlib.Omega.{arith}
-use Rattle.lists.specs.Lists.{any, filter, largest, below, member}
+use Rattle.lists.specs.Lists.{anyOf, select, largest, below, member}
 use Rattle.lists.specs.Laws.Booleans.{contradiction, true-or-false}
 use Rattle.lists.specs.Laws.Members.{member-empty}
-use Rattle.lists.specs.Laws.Below.{below-member, any-below, filter-below}
+use Rattle.lists.specs.Laws.Below.{below-member, anyOf-below, select-below}
 use Rattle.lists.specs.Laws.Sums.{largest-bound, largest-found, largest-map, largest-flatMap}
 use Rattle.deck.specs.Deck.{Deck, M, N, carries}
 use Rattle.charge.specs.Charge.{ruleCharge, carriedCharges, largestCharge}
@@ -40,11 +40,11 @@ pub record LargestOf (d : Deck) (n : ℕ) : Type 0 where
 module _ (d : Deck) where
   -- the rules that part p carries
   unfoldable pub carriedAt : ℕ → List ℕ
-  carriedAt p = filter (carries d p) (below (M d))
+  carriedAt p = select (carries d p) (below (M d))
 
   in-carried : (p r : ℕ) → (member r (carriedAt p) ≡ true) ↔ ((r < M d) × (carries d p r ≡ true))
   unfolding carriedAt
-  in-carried p r = filter-below (carries d p) (M d) r
+  in-carried p r = select-below (carries d p) (M d) r
 
   -- the largest over the parts of the largest at each
   pub largest-is : largestCharge d ≡ largest (λ p. largest (ruleCharge d p) (carriedAt p)) (below (N d))
@@ -69,7 +69,7 @@ module _ (d : Deck) where
 
   -- some part carries a rule
   someCarried : Bool
-  someCarried = any (λ p. any (carries d p) (below (M d))) (below (N d))
+  someCarried = anyOf (λ p. anyOf (carries d p) (below (M d))) (below (N d))
 
   -- the largest over the parts is that at one of them, and there that of one rule, or 0 and so that of every rule
   attained-by : (p r : ℕ) → p < N d → r < M d → carries d p r ≡ true → CarriedCharge d (largestCharge d)
@@ -101,7 +101,7 @@ module _ (d : Deck) where
   unfolding someCarried
   none-carried t p r l m c =
       contradiction
-      (any-below (λ p. any (carries d p) (below (M d))) (N d) .1 (p, l, any-below (carries d p) (M d) .1 (r, m, c)))
+      (anyOf-below (λ p. anyOf (carries d p) (below (M d))) (N d) .1 (p, l, anyOf-below (carries d p) (M d) .1 (r, m, c)))
       t
 
   pub largest-of : LargestOf d (largestCharge d)
@@ -114,8 +114,8 @@ module _ (d : Deck) where
     where
       by : someCarried ≡ true → CarriedCharge d (largestCharge d)
       by t =
-          let part = any-below (λ p. any (carries d p) (below (M d))) (N d) .0 t in
-          let rule = any-below (carries d (part .0)) (M d) .0 (part .2) in
+          let part = anyOf-below (λ p. anyOf (carries d p) (below (M d))) (N d) .0 t in
+          let rule = anyOf-below (carries d (part .0)) (M d) .0 (part .2) in
           attained-by (part .0) (rule .0) (part .1) (rule .1) (rule .2)
 
       zero : someCarried ≡ false → largestCharge d ≡ 0

@@ -5,15 +5,16 @@ use mathlib.Core.Path.{_≡_, refl, sym, ap, ap₂, _∙_, fun-ext}
 use mathlib.Core.Bool.{Bool, not, _&&_, cond}
 use mathlib.Core.List.{List, [], _∷_, map}
 use lib.Dec.{eqb}
-use Rattle.lists.specs.Lists.{any, filter, flatMap, sum, largest, below, member}
+use Rattle.lists.specs.Lists.{anyOf, select, flatMap, sumOf, largest, below, member}
 use Rattle.lists.specs.Laws.Members.{member-empty, member-head}
-use Rattle.lists.specs.Laws.Sums.{sum-cong}
-use Rattle.lists.specs.Laws.Same.{filter-cong, SameMembers, any-same}
+use Rattle.lists.specs.Laws.Sums.{sumOf-cong}
+use Rattle.lists.specs.Laws.Same.{select-cong, SameMembers, anyOf-same}
 use Rattle.deck.specs.Deck.{Deck, R, M, N, ruleAt, carries, active}
 use Rattle.deck.specs.Shape.{shapeOf}
 use Rattle.deck.specs.Tables.{TablesOf, Ranged}
 use Rattle.deck.specs.Laws.Tables.{SameTests, shape-tests}
-use Rattle.charge.specs.Charge.{Charged, others, receivers, unlessEmpty, updateBy, ruleBy, depth, updateCharge, ruleCharge, carriedCharges, largestCharge, aboveBound}
+use Rattle.charge.specs.Charge.{Charged, others, receivers, unlessEmpty, updateBy, ruleBy, depth, updateCharge, ruleCharge}
+use Rattle.charge.specs.Charge.{carriedCharges, largestCharge, aboveBound}
 use Rattle.charge.specs.Answer.{boundBy, boundOf}
 use Rattle.charge.specs.Laws.Equations.{defaults, actions, update-step, rule-step}
 
@@ -29,17 +30,17 @@ module _ {d e : Deck} (s : SameTests d e) where
   same-active : (p : ℕ) (u v : List ℕ) → SameMembers u v → active d p u ≡ active e p v
   unfolding active
   same-active p u v h =
-      let hears : Deck → List ℕ → ℕ → Bool = λ d u r. carries d p r && any (λ c. member c (ruleAt d r .events)) u in
-      filter-cong (hears d u) (hears e v) (below (M d))
+      let hears : Deck → List ℕ → ℕ → Bool = λ d u r. carries d p r && anyOf (λ c. member c (ruleAt d r .events)) u in
+      select-cong (hears d u) (hears e v) (below (M d))
       (λ r _.
       ap₂ (λ a b. a && b) (s .carried p r)
-      (any-same (λ c. member c (ruleAt d r .events)) (λ c. member c (ruleAt e r .events)) u v h (s .events r)))
-      ∙ ap (λ n. filter (hears e v) (below n)) (s .rules)
+      (anyOf-same (λ c. member c (ruleAt d r .events)) (λ c. member c (ruleAt e r .events)) u v h (s .events r)))
+      ∙ ap (λ n. select (hears e v) (below n)) (s .rules)
 
   same-receivers : (p r : ℕ) → receivers d p r ≡ receivers e p r
   unfolding receivers others
   same-receivers p r =
-      ap₂ (λ b n. cond b (filter (λ q. not (eqb q p)) (below n)) (p ∷ [])) (s .kind r) (s .parts)
+      ap₂ (λ b n. cond b (select (λ q. not (eqb q p)) (below n)) (p ∷ [])) (s .kind r) (s .parts)
 
   mutual
     unfolding updateBy
@@ -49,8 +50,8 @@ module _ {d e : Deck} (s : SameTests d e) where
     same-update (suc k) p u v h =
         update-step d k p u
         ∙ ap (λ x. 1 + x)
-        (sum-cong (ruleBy k d p) (ruleBy k e p) (active d p u) (λ r _. same-rule k p r)
-        ∙ ap (sum (ruleBy k e p)) (same-active p u v h))
+        (sumOf-cong (ruleBy k d p) (ruleBy k e p) (active d p u) (λ r _. same-rule k p r)
+        ∙ ap (sumOf (ruleBy k e p)) (same-active p u v h))
         ∙ sym (update-step e k p v)
 
     same-rule : (k p r : ℕ) → ruleBy k d p r ≡ ruleBy k e p r
@@ -60,13 +61,13 @@ module _ {d e : Deck} (s : SameTests d e) where
         ∙ ap₂ _+_
         (same-unless (defaults d r) (defaults e r) _ _ (s .default r)
         (same-update k p (defaults d r) (defaults e r) (s .default r)))
-        (sum-cong (λ q. unlessEmpty (actions d r) (updateBy k d q (actions d r)))
+        (sumOf-cong (λ q. unlessEmpty (actions d r) (updateBy k d q (actions d r)))
         (λ q. unlessEmpty (actions e r) (updateBy k e q (actions e r)))
         (receivers d p r)
         (λ q _.
         same-unless (actions d r) (actions e r) _ _ (s .action r)
         (same-update k q (actions d r) (actions e r) (s .action r)))
-        ∙ ap (sum (λ q. unlessEmpty (actions e r) (updateBy k e q (actions e r)))) (same-receivers p r))
+        ∙ ap (sumOf (λ q. unlessEmpty (actions e r) (updateBy k e q (actions e r)))) (same-receivers p r))
         ∙ sym (rule-step e k p r)
 
   same-depth : depth d ≡ depth e
@@ -92,7 +93,7 @@ module _ {d e : Deck} (s : SameTests d e) where
     where
       listed : (ℕ → ℕ → Bool) → (ℕ → ℕ → ℕ) → ℕ → ℕ → List Charged
       listed c f rules parts =
-          flatMap (λ p. map (λ r. record { place = 64 * p + r; charge = f p r }) (filter (c p) (below rules))) (below parts)
+          flatMap (λ p. map (λ r. record { place = 64 * p + r; charge = f p r }) (select (c p) (below rules))) (below parts)
 
   pub same-largest-charge : largestCharge d ≡ largestCharge e
   unfolding largestCharge

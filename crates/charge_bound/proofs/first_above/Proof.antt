@@ -27,7 +27,8 @@ first-above-spec =
     tie.close
     (tie.spec
     (λ c κs. search needs)
-    (λ c. c .before .before .before .largest .ensures .1 .long ∙ sym (c .before .before .before .before .before .before .before .before .pre .memo .long))
+    (λ c. c .before .before .before .largest .ensures .1 .long
+    ∙ sym (c .before .before .before .before .before .before .before .before .pre .memo .long))
     returns
     search-above-requires
     same-length-2

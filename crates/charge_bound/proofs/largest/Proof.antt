@@ -7,7 +7,7 @@ use Rattle.lists.specs.Laws.Through.{Through, through-next, through-here, throu
 use Rattle.lists.specs.Laws.Walks.{Walk, walk-first, walk-on, walk-next}
 use Rattle.deck.specs.Shape.{shapeOf}
 use Rattle.charge.specs.Memo.{Memo}
-use Rattle.charge.specs.Answer.{RulesPassed}
+use Rattle.charge.specs.Answer.{LargestOfRules}
 use Rattle.charge_tables.specs.Laws.Entries.{row-room}
 use Rattle.charge_bound.proofs.ByRules.{rules-none, rules-skip, rules-more}
 use Rattle.charge_bound.proofs.largest.Statement.{statement}
@@ -16,7 +16,7 @@ use Rattle.charge_bound.proofs.largest.Tie as tie
 abbrev Inv-loop : tie.InvT-loop
 Inv-loop rules parts memo₀ channels count parts-count carried most₀ left₀ r₀ memo most left r =
     let d = shapeOf rules parts channels count parts-count in
-    Walk carried left r × Memo d memo × Through carried count (λ k. RulesPassed d k most) r
+    Walk carried left r × Memo d memo × Through carried count (λ k. LargestOfRules d k most) r
 
 abbrev μ-loop : tie.MeasureT-loop
 μ-loop rules parts memo₀ channels count parts-count carried most₀ left₀ r₀ memo most left r = 64 - r

@@ -13,9 +13,9 @@ use Rattle.deck.specs.Shape.{shapeOf}
 use Rattle.lists.proofs.lowest.Reads as lowest-reads
 use Rattle.lists.proofs.rest.Reads as rest-reads
 use Rattle.charge.specs.Memo.{Memo}
-use Rattle.charge.specs.Answer.{Passed}
+use Rattle.charge.specs.Answer.{LargestBelow}
 use Rattle.charge_bound.proofs.Search.{Carried, few-rules, passed-more, passed-above, is-place, passed-next, passed-part}
-use Rattle.listeners.specs.Laws.Listening.{carried-by}
+use Rattle.charge_listeners.specs.Laws.Listening.{carried-by}
 use Rattle.charge_tables.specs.Laws.Entries.{Column, column-of, row-room, gives-charge}
 use Rattle.charge_bound.proofs.part_above.Statement.{statement}
 use Rattle.charge_bound.proofs.part_above.Tie as tie
@@ -27,7 +27,7 @@ use Rattle.charge_tables.proofs.known_charges.Reads as known-charges-reads
 abbrev Inv-loop : tie.InvT-loop
 Inv-loop rules parts memo₀ channels count parts-count p best carried most₀ left₀ r₀ memo most left r =
     let d = shapeOf rules parts channels count parts-count in
-    (r < 64 → bit carried r ≡ true) × Memo d memo × Passed d (64 * p + min r count) most × Walk carried left r
+    (r < 64 → bit carried r ≡ true) × Memo d memo × LargestBelow d (64 * p + min r count) most × Walk carried left r
 
 abbrev μ-loop : tie.MeasureT-loop
 μ-loop rules parts memo₀ channels count parts-count p best carried most₀ left₀ r₀ memo most left r = count - r
@@ -49,22 +49,26 @@ deckOf s = shapeOf (s .args .rules .now) (s .args .parts .now) (s .args .channel
 
 -- the rule of a turn
 found : (c : lts.In-loop claims reads.Pre reads.Post Inv-loop μ-loop)
-    → bit (getD (c .before .before .before .before .before .before .before .args .parts .now) (4 * c .before .before .before .before .before .before .before .args .p) 0) (c .before .loop .r) ≡ true
+    → bit (getD (c .before .before .before .before .before .before .before .args .parts .now)
+    (4 * c .before .before .before .before .before .before .before .args .p) 0) (c .before .loop .r) ≡ true
 found c =
     let s = c .before .before .before .before .before .before .before in
     c .before .loop .inv .0 (omega (arith, c .loop-test .taken, s .pre .0 .tables .few-rules))
 
-carried : (c : lts.In-loop claims reads.Pre reads.Post Inv-loop μ-loop) → Carried (deckOf (c .before .before .before .before .before .before .before)) (c .before .before .before .before .before .before .before .args .p) (c .before .loop .r)
+carried : (c : lts.In-loop claims reads.Pre reads.Post Inv-loop μ-loop)
+    → Carried (deckOf (c .before .before .before .before .before .before .before))
+    (c .before .before .before .before .before .before .before .args .p) (c .before .loop .r)
 carried c =
     let s = c .before .before .before .before .before .before .before in
     is-place (s .pre .0 .tables) _ _ (s .pre .1) (c .loop-test .taken) (found c)
 
 passed : (c : lts.In-loop claims reads.Pre reads.Post Inv-loop μ-loop)
-    → Passed (deckOf (c .before .before .before .before .before .before .before)) (64 * c .before .before .before .before .before .before .before .args .p + c .before .loop .r) (c .before .loop .most)
+    → LargestBelow (deckOf (c .before .before .before .before .before .before .before))
+    (64 * c .before .before .before .before .before .before .before .args .p + c .before .loop .r) (c .before .loop .most)
 passed c =
     let s = c .before .before .before .before .before .before .before in
     let e : min (c .before .loop .r) (s .args .count) ≡ c .before .loop .r = omega (arith, c .loop-test .taken) in
-    subst (λ r. Passed (deckOf s) (64 * s .args .p + r) (c .before .loop .most)) e (c .before .loop .inv .2)
+    subst (λ r. LargestBelow (deckOf s) (64 * s .args .p + r) (c .before .loop .most)) e (c .before .loop .inv .2)
 
 loop-holds : tie.Need-loop-holds Inv-loop μ-loop
 loop-holds c =
@@ -74,7 +78,7 @@ loop-holds c =
       a .found,
       s .pre .0 .memo,
       passed-next (s .pre .0 .tables) (s .args .p) (s .pre .1) 0 _ (omega arith) a
-          (subst (λ k. Passed (deckOf s) k (s .args .best)) first (s .pre .2)),
+          (subst (λ k. LargestBelow (deckOf s) k (s .args .best)) first (s .pre .2)),
       walk-first a,
     )
 
@@ -105,7 +109,8 @@ sub-c c =
     omega arith
 
 same-length : tie.Need-same-length Inv-loop μ-loop
-same-length c = c .before .before .before .before .known-charges .ensures .memo .long ∙ sym (c .before .before .before .before .before .before .before .before .before .before .before .before .before .pre .0 .memo .long)
+same-length c = c .before .before .before .before .known-charges .ensures .memo .long
+    ∙ sym (c .before .before .before .before .before .before .before .before .before .before .before .before .before .pre .0 .memo .long)
 
 returns : tie.Need-returns Inv-loop μ-loop
 returns c =
@@ -131,12 +136,13 @@ loop-again c =
     let left = c .before .rest .ensures in
     let low = c .lowest2 .ensures in
     let a = walk-on (t .before .loop .inv .3) left low in
-    let m = passed-more (deckOf s) (few-rules (s .pre .0 .tables)) (passed t) (carried t) (g .value) (c .before .before .before .if1 .left) (c .before .before .larger .ensures) in
+    let m = passed-more (deckOf s) (few-rules (s .pre .0 .tables)) (passed t) (carried t) (g .value)
+    (c .before .before .before .if1 .left) (c .before .before .larger .ensures) in
     let next : 64 * s .args .p + t .before .loop .r + 1 ≡ 64 * s .args .p + (t .before .loop .r + 1) = omega arith in (
       a .found,
       w .memo,
       passed-next (s .pre .0 .tables) (s .args .p) (s .pre .1) (t .before .loop .r + 1) _ (omega (arith, t .loop-test .taken)) a
-          (subst (λ k. Passed (deckOf s) k (c .before .before .larger .result)) next m),
+          (subst (λ k. LargestBelow (deckOf s) k (c .before .before .larger .result)) next m),
       walk-next (t .before .loop .inv .3) left low,
     )
 
@@ -154,7 +160,11 @@ part-above-spec =
     μ-loop
     (λ c. omega (arith, c .before .before .before .pre .0 .tables .few-parts))
     (λ c. omega (arith, c .before .before .before .pre .0 .tables .few-parts))
-    (λ c. omega (arith, c .before .before .before .before .pre .0 .tables .few-parts, c .before .before .before .before .pre .0 .tables .parts-long))
+    (λ c. omega (
+      arith,
+      c .before .before .before .before .pre .0 .tables .few-parts,
+      c .before .before .before .before .pre .0 .tables .parts-long,
+    ))
     (λ c κs. tt)
     loop-holds
     known-charges-requires
@@ -163,8 +173,16 @@ part-above-spec =
     (λ c. column (c .before .before) .bytes)
     (λ c. column (c .before .before .before) .inside)
     sub-c
-    (λ c. omega (arith, c .before .before .before .before .before .before .before .before .before .before .before .before .before .pre .0 .tables .few-parts))
-    (λ c. omega (arith, c .before .before .before .before .before .before .before .before .before .before .before .before .before .pre .0 .tables .few-parts, c .before .before .before .before .before .before .loop-test .taken, c .before .before .before .before .before .before .before .before .before .before .before .before .before .pre .0 .tables .few-rules))
+    (λ c. omega (
+      arith,
+      c .before .before .before .before .before .before .before .before .before .before .before .before .before .pre .0 .tables .few-parts,
+    ))
+    (λ c. omega (
+      arith,
+      c .before .before .before .before .before .before .before .before .before .before .before .before .before .pre .0 .tables .few-parts,
+      c .before .before .before .before .before .before .loop-test .taken,
+      c .before .before .before .before .before .before .before .before .before .before .before .before .before .pre .0 .tables .few-rules,
+    ))
     same-length
     returns
     (λ c κs. tt)

@@ -7,7 +7,7 @@ use borrow.Author.Needs.{needs}
 use Rattle.deck.specs.Shape.{shapeOf}
 use Rattle.deck.specs.Laws.Shape.{shape-N}
 use Rattle.charge.specs.Memo.{Memo}
-use Rattle.charge.specs.Answer.{Passed}
+use Rattle.charge.specs.Answer.{LargestBelow}
 use Rattle.charge_bound.proofs.Search.{few-rules, passed-none, passed-all}
 use Rattle.charge_bound.proofs.search_above.Statement.{statement}
 use Rattle.charge_bound.proofs.search_above.Tie as tie
@@ -15,7 +15,7 @@ use Rattle.charge_bound.proofs.search_above.Tie as tie
 abbrev Inv-loop : tie.InvT-loop
 Inv-loop rules parts memo₀ channels count parts-count best₀ p₀ memo best p =
     let d = shapeOf rules parts channels count parts-count in
-    (p ≤ parts-count) × Memo d memo × Passed d (64 * p) best
+    (p ≤ parts-count) × Memo d memo × LargestBelow d (64 * p) best
 
 abbrev μ-loop : tie.MeasureT-loop
 μ-loop rules parts memo₀ channels count parts-count best₀ p₀ memo best p = parts-count - p
@@ -38,8 +38,11 @@ returns c =
 
 loop-again : tie.Need-loop-again Inv-loop μ-loop
 loop-again c =
-    let e = c .before .before .before .before .before .part-above .ensures in
-    (omega (arith, c .before .before .before .before .before .before .before .loop-test .taken), e .1, (rw (c .before .bound2 .given .1) at (e .0)))
+    let e = c .before .before .before .before .before .part-above .ensures in (
+      omega (arith, c .before .before .before .before .before .before .before .loop-test .taken),
+      e .1,
+      (rw (c .before .bound2 .given .1) at (e .0)),
+    )
 
 returns-2 : tie.Need-returns-2 Inv-loop μ-loop
 returns-2 c =
@@ -60,10 +63,15 @@ search-above-spec =
     loop-holds
     part-above-requires
     (λ c. search needs)
-    (λ c. c .before .before .before .before .before .part-above .ensures .1 .long ∙ sym (c .before .before .before .before .before .before .before .before .before .before .before .before .pre .memo .long))
+    (λ c. c .before .before .before .before .before .part-above .ensures .1 .long
+    ∙ sym (c .before .before .before .before .before .before .before .before .before .before .before .before .pre .memo .long))
     returns
     (λ c. search needs)
-    (λ c. omega (arith, c .before .before .before .before .before .before .before .loop-test .taken, c .before .before .before .before .before .before .before .before .before .before .before .before .pre .tables .few-parts))
+    (λ c. omega (
+      arith,
+      c .before .before .before .before .before .before .before .loop-test .taken,
+      c .before .before .before .before .before .before .before .before .before .before .before .before .pre .tables .few-parts,
+    ))
     (λ c. omega (arith, c .before .before .before .before .before .before .before .loop-test .taken))
     loop-again
     (λ c. c .before .loop .inv .1 .long ∙ sym (c .before .before .before .before .before .pre .memo .long))

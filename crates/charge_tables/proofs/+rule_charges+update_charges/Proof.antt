@@ -20,12 +20,13 @@ use Rattle.lists.proofs.rest.Reads as rest-reads
 use Rattle.deck.specs.Shape.{bitsOf, shapeOf}
 use Rattle.charge.specs.Memo.{Memo, Keeps, listening}
 use Rattle.charge.specs.Laws.Tables.{Field, field, Entry, entry}
-use Rattle.listeners.specs.Laws.Listening.{is-listener}
+use Rattle.charge_listeners.specs.Laws.Listening.{is-listener}
 use Rattle.charge_tables.specs.Laws.Entries.{row-room}
 use Rattle.charge_tables.proofs.Heights.{updateRank, ruleRank}
 use Rattle.charge_tables.proofs.Tabled.{own-is, given-is, first-falls, second-falls, listening-falls, listening-carried}
 use Rattle.charge_tables.proofs.Memos.{keeps-same, keeps-trans}
-use Rattle.charge_tables.proofs.RowCharges.{Hearing, ActionGives, row-same, ones-long, hearing-none, hearing-skip, hearing-more, row-written, gives-heard, action-none, action-some, gives-known, gives-written}
+use Rattle.charge_tables.proofs.RowCharges.{Hearing, ActionGives, row-same, ones-long, hearing-none, hearing-skip, hearing-more}
+use Rattle.charge_tables.proofs.RowCharges.{row-written, gives-heard, action-none, action-some, gives-known, gives-written}
 use Rattle.charge_tables.proofs.rule_charges.Reads as rule
 use Rattle.charge_tables.proofs.rule_charges.Kinds as rule-kinds
 use Rattle.charge_tables.proofs.+rule_charges+update_charges.Lts-rule_charges as R
@@ -34,7 +35,7 @@ use Rattle.charge_tables.proofs.update_charges.Kinds as update-kinds
 use Rattle.charge_tables.proofs.+rule_charges+update_charges.Lts-update_charges as U
 use Rattle.charge_tables.proofs.add_row.Reads as add-row-reads
 use Rattle.charge_tables.proofs.begin.Reads as begin-reads
-use Rattle.listeners.proofs.listeners.Reads as listeners-reads
+use Rattle.charge_listeners.proofs.listeners.Reads as listeners-reads
 use Rattle.charge_tables.proofs.put_row.Reads as put-row-reads
 use Rattle.charge_tables.proofs.+rule_charges+update_charges.{statement}
 use Rattle.charge_tables.proofs.+rule_charges+update_charges.Tie.{close}
@@ -158,7 +159,8 @@ module _ (t : ℕ) where
       (getD (s .args .rules .now) (8 * s .args .r + k) 0) m₀ m sums
 
   first-given : (c : R.Joined2 (R-claims t) (R-at t) rule.Post)
-      → let s = c .before .before .before .before .before .before .before .before .before .before in Given s 1 (s .args .memo .now) (c .if2 .memo) (c .if2 .first)
+      → let s = c .before .before .before .before .before .before .before .before .before .before in
+      Given s 1 (s .args .memo .now) (c .if2 .memo) (c .if2 .first)
   first-given c =
       let s = c .before .before .before .before .before .before .before .before .before .before in
       ⊎-elim
@@ -167,16 +169,21 @@ module _ (t : ℕ) where
       (c .if2 .came)
 
   second-given : (c : R.Joined3 (R-claims t) (R-at t) rule.Post)
-      → let s = c .before .before .before .before .before .before .before .before .before .before .before in Given s 2 (c .before .if2 .memo) (c .if3 .memo) (c .if3 .second)
+      → let s = c .before .before .before .before .before .before .before .before .before .before .before in
+      Given s 2 (c .before .if2 .memo) (c .if3 .memo) (c .if3 .second)
   second-given c =
       let s = c .before .before .before .before .before .before .before .before .before .before .before in
       ⊎-elim
       (λ w. rw (w .7, w .8) (action-some (s .pre .1 .0 .tables) (w .0 .taken) (w .3 .ensures)))
-      (λ w. rw (w .1, w .2) (action-none (s .pre .1 .0 .tables) (w .0 .left) (c .before .before .begin2 .ensures) (first-given (c .before) .memo)))
+      (λ w. rw (
+        w .1,
+        w .2,
+      ) (action-none (s .pre .1 .0 .tables) (w .0 .left) (c .before .before .begin2 .ensures) (first-given (c .before) .memo)))
       (c .if3 .came)
 
   R-slice-aggregate-update-charges : R.Need-slice-aggregate-update-charges (R-claims t) (R-at t) rule.Post
-  R-slice-aggregate-update-charges c = sym (ones-long (c .before .before .before .before .begin .ensures .some (c .before .before .if2 .taken)))
+  R-slice-aggregate-update-charges c =
+      sym (ones-long (c .before .before .before .before .begin .ensures .some (c .before .before .if2 .taken)))
 
   R-update-charges-requires : R.Need-update-charges-requires (R-claims t) (R-at t) rule.Post
   R-update-charges-requires c κs =
@@ -185,7 +192,8 @@ module _ (t : ℕ) where
       (lower f (s .pre .0), (s .pre .1 .0, c .before .before .before .before .begin .ensures .some (c .before .before .if2 .taken)))
 
   R-slice-aggregate-update-charges-2 : R.Need-slice-aggregate-update-charges-2 (R-claims t) (R-at t) rule.Post
-  R-slice-aggregate-update-charges-2 c = sym (ones-long (c .before .before .before .before .begin2 .ensures .some (c .before .before .if3 .taken)))
+  R-slice-aggregate-update-charges-2 c =
+      sym (ones-long (c .before .before .before .before .begin2 .ensures .some (c .before .before .if3 .taken)))
 
   R-update-charges-requires-2 : R.Need-update-charges-requires-2 (R-claims t) (R-at t) rule.Post
   R-update-charges-requires-2 c κs =
@@ -208,7 +216,8 @@ module _ (t : ℕ) where
   R-mul-put-row-2 c = kind-at (c .before .before .before .before .before .before .before .before .before .before .before .before) .bytes
 
   R-shared-slice-read-put-row : R.Need-shared-slice-read-put-row (R-claims t) (R-at t) rule.Post
-  R-shared-slice-read-put-row c = kind-at (c .before .before .before .before .before .before .before .before .before .before .before .before .before) .inside
+  R-shared-slice-read-put-row c =
+      kind-at (c .before .before .before .before .before .before .before .before .before .before .before .before .before) .inside
 
   R-slice-aggregate-put-row : R.Need-slice-aggregate-put-row (R-claims t) (R-at t) rule.Post
   R-slice-aggregate-put-row c = sym (first-given (c .before .before .before .before) .row .small .long)
@@ -227,7 +236,8 @@ module _ (t : ℕ) where
   R-same-length : R.Need-same-length (R-claims t) (R-at t) rule.Post
   R-same-length c =
       let s = c .before .before .before .before .before .before .before .before .before .before .before .before .before .before .before .before .before .before in
-      c .before .before .put-row .ensures .long ∙ second-given (c .before .before .before .before .before .before .before) .memo .long ∙ sym (s .pre .1 .0 .memo .long)
+      c .before .before .put-row .ensures .long ∙ second-given (c .before .before .before .before .before .before .before) .memo .long
+      ∙ sym (s .pre .1 .0 .memo .long)
 
   R-returns-2 : R.Need-returns-2 (R-claims t) (R-at t) rule.Post
   R-returns-2 c =
@@ -331,7 +341,8 @@ module _ (t : ℕ) where
         keeps-trans (i .inv .2) (g .keeps),
         through-next (walk-on (i .inv .0) left low) (add-one-le k) (h .few-rules)
             (λ i a b f w. hearing-skip h w b (sym (is-listener h i b (s .args .mask) set) ∙ f))
-            (hearing-more h (through-here (i .inv .3) k) k (listens n) (g .memo) (g .known) (c .before .before .before .before .add-row .ensures)),
+            (hearing-more h (through-here (i .inv .3) k) k (listens n) (g .memo) (g .known)
+            (c .before .before .before .before .add-row .ensures)),
       )
 
   U-same-length : U.Need-same-length (U-claims t) (U-at t) update.Post U-Inv U-μ

@@ -17,7 +17,8 @@ abbrev μ-loop : tie.MeasureT-loop
 μ-loop sums₀ parts memo parts-count r q₀ sums q = parts-count - q
 
 -- the part of the turn
-column : (c : tie.In-loop Inv-loop μ-loop) → let s = c .before .before .before .before .before in Column (s .args .memo .now) (s .args .r) (c .before .loop .q)
+column : (c : tie.In-loop Inv-loop μ-loop) → let s = c .before .before .before .before .before in
+    Column (s .args .memo .now) (s .args .r) (c .before .loop .q)
 column c = let s = c .before .before .before .before .before in column-of _ _ _ _ (c .loop-test .taken) (s .pre .2) (s .pre .3) (s .pre .1)
 
 loop-holds : tie.Need-loop-holds Inv-loop μ-loop

@@ -8,9 +8,10 @@ use native.Mathlib.Omega.{arith}
 use lib.Dec.{eqb}
 use lib.ListN.{getD}
 use borrow.Author.Tests.{eq-eqb}
-use Rattle.lists.specs.Lists.{sum, below}
+use Rattle.lists.specs.Lists.{sumOf, below}
 use Rattle.charge_tables.specs.Laws.Entries.{Column, column-of}
-use Rattle.charge_tables.proofs.Rows.{small-inside, Putting, filled-none, putting-more, putting-all, share-most, share-only, sum-parted, row-most}
+use Rattle.charge_tables.proofs.Rows.{small-inside, Putting, filled-none, putting-more, putting-all, share-most, share-only}
+use Rattle.charge_tables.proofs.Rows.{sum-parted, row-most}
 use Rattle.charge_tables.proofs.put_row.Statement.{statement}
 use Rattle.charge_tables.proofs.put_row.Tie as tie
 use Rattle.charge_tables.proofs.put_row.Reads as reads
@@ -38,7 +39,7 @@ claims = (
 
 module _ (s : lts.Start claims reads.Pre reads.Post Inv-loop μ-loop) where
   abbrev total : ℕ
-  total = sum (λ q. getD (s .args .second .now) q 0) (below (s .args .parts-count))
+  total = sumOf (λ q. getD (s .args .second .now) q 0) (below (s .args .parts-count))
 
   has : (p : ℕ) → p < s .args .parts-count → getD (s .args .second .now) p 0 ≤ total
   has p l = omega (arith, sum-parted (λ q. getD (s .args .second .now) q 0) (s .args .parts-count) p l)
@@ -50,8 +51,10 @@ module _ (s : lts.Start claims reads.Pre reads.Post Inv-loop μ-loop) where
   shareOf p t = cond (eqb (s .args .kind) 1) (t - getD (s .args .second .now) p 0) (getD (s .args .second .now) p 0)
 
 -- the part of the turn
-column : (c : tie.In-loop Inv-loop μ-loop) → let s = c .before .before .before .before .before .before in Column (s .args .memo .now) (s .args .r) (c .before .loop .p)
-column c = let s = c .before .before .before .before .before .before in column-of _ _ _ _ (c .loop-test .taken) (s .pre .1) (s .pre .2) (s .pre .0)
+column : (c : tie.In-loop Inv-loop μ-loop) → let s = c .before .before .before .before .before .before in
+    Column (s .args .memo .now) (s .args .r) (c .before .loop .p)
+column c = let s = c .before .before .before .before .before .before in
+    column-of _ _ _ _ (c .loop-test .taken) (s .pre .1) (s .pre .2) (s .pre .0)
 
 -- what the action adds
 rest : (c : lts.After-share claims reads.Pre reads.Post Inv-loop μ-loop)
@@ -74,7 +77,8 @@ mul-share : tie.Need-mul-share Inv-loop μ-loop
 mul-share c = column c .here
 
 shared-slice-read-share : tie.Need-shared-slice-read-share Inv-loop μ-loop
-shared-slice-read-share c = let s = c .before .before .before .before .before .before .before in small-inside (s .pre .4) (c .before .loop-test .taken) (s .pre .1)
+shared-slice-read-share c = let s = c .before .before .before .before .before .before .before in
+    small-inside (s .pre .4) (c .before .loop-test .taken) (s .pre .1)
 
 share-requires : tie.Need-share-requires Inv-loop μ-loop
 share-requires c κs e =
@@ -86,7 +90,8 @@ mul-capped-sum : tie.Need-mul-capped-sum Inv-loop μ-loop
 mul-capped-sum c = column (c .before .before) .here
 
 shared-slice-read-capped-sum : tie.Need-shared-slice-read-capped-sum Inv-loop μ-loop
-shared-slice-read-capped-sum c = let s = c .before .before .before .before .before .before .before .before .before in small-inside (s .pre .3) (c .before .before .before .loop-test .taken) (s .pre .1)
+shared-slice-read-capped-sum c = let s = c .before .before .before .before .before .before .before .before .before in
+    small-inside (s .pre .3) (c .before .before .before .loop-test .taken) (s .pre .1)
 
 capped-sum-requires : tie.Need-capped-sum-requires Inv-loop μ-loop
 capped-sum-requires c κs =
@@ -109,7 +114,8 @@ mul-memo-2 : tie.Need-mul-memo-2 Inv-loop μ-loop
 mul-memo-2 c = column (c .before .before .before .before) .bytes
 
 slice-write-memo : tie.Need-slice-write-memo Inv-loop μ-loop
-slice-write-memo c = let t = c .before .before .before .before in lt-of-lt-of-le (column t .inside) (le-of-eq (sym (t .before .loop .inv .1 .filled .long)))
+slice-write-memo c = let t = c .before .before .before .before in
+    lt-of-lt-of-le (column t .inside) (le-of-eq (sym (t .before .loop .inv .1 .filled .long)))
 
 add-p : tie.Need-add-p Inv-loop μ-loop
 add-p c = column (c .before .before .before .before) .next

@@ -5,12 +5,12 @@ use mathlib.Core.Bool.{Bool, cond}
 use mathlib.Core.List.{List}
 use lib.ListN.{getD}
 use borrow.Author.Tests.{eq-eqb, ne-eqb}
-use Rattle.lists.specs.Lists.{sum, below}
+use Rattle.lists.specs.Lists.{sumOf, below}
 use Rattle.charge_tables.proofs.total_for.Statement.{statement}
 use Rattle.charge_tables.proofs.total_for.Tie as tie
 
 abbrev choice : List ℕ → ℕ → Bool → ℕ
-choice row n b = cond b (sum (λ q. getD row q 0) (below n)) 0
+choice row n b = cond b (sumOf (λ q. getD row q 0) (below n)) 0
 
 returns : tie.Need-returns
 returns c =

@@ -39,7 +39,7 @@ known-charges-requires c κs =
     let i = c .before .before .loop in
     let k = c .before .loop-test .taken in
     let y = sym (c .before .before .before .before .active .ensures .each (i .r) k) ∙ i .inv .1 .found (omega arith) in (
-      record { tables = s .pre .0 .tables; memo = i .inv .1 .done .sum .memo },
+      record { tables = s .pre .0 .tables; memo = i .inv .1 .done .soFar .memo },
       k,
       hears-carried (s .pre .0 .tables) (i .r) k (s .args .mask) (s .args .p) (s .pre .1) y,
     )
@@ -65,7 +65,7 @@ capped-sum-requires : tie.Need-capped-sum-requires Inv-loop μ-loop
 capped-sum-requires c κs =
     let s = c .before .before .before .before .before .before .before .before .before .before .before .before in
     let g = gives-charge (s .pre .0 .tables) (c .before .before .before .known-charges .ensures) (s .args .p) (s .pre .1) in
-    omega (arith, small (c .before .before .before .before .before .before .loop .inv .1 .done .sum), small g)
+    omega (arith, small (c .before .before .before .before .before .before .loop .inv .1 .done .soFar), small g)
 
 loop-less : tie.Need-loop-less Inv-loop μ-loop
 loop-less c =
@@ -88,16 +88,18 @@ loop-again c =
           (more (through-here (i .inv .1) k)
           (heard-yes h (i .r) k (s .args .mask) (s .args .p) (s .pre .1)
           (sym (set .each (i .r) k) ∙ i .inv .1 .found (omega arith)))
-          (gives-charge h (c .before .before .before .before .before .before .known-charges .ensures) (s .args .p) (s .pre .1)) (c .before .before .capped-sum .ensures)),
+          (gives-charge h (c .before .before .before .before .before .before .known-charges .ensures) (s .args .p) (s .pre .1))
+          (c .before .before .capped-sum .ensures)),
     )
 
 same-length : tie.Need-same-length Inv-loop μ-loop
-same-length c = c .before .loop .inv .1 .done .sum .memo .long ∙ sym (c .before .before .before .before .before .before .before .pre .0 .memo .long)
+same-length c = c .before .loop .inv .1 .done .soFar .memo .long
+    ∙ sym (c .before .before .before .before .before .before .before .pre .0 .memo .long)
 
 returns : tie.Need-returns Inv-loop μ-loop
 returns c =
     let s = c .before .before .before .before .before .before .before in
-    same (through-all (c .before .loop .inv .1) (c .loop-test .left) .sum)
+    same (through-all (c .before .loop .inv .1) (c .loop-test .left) .soFar)
     (update-all (s .pre .0 .tables) (s .args .p) (s .pre .1) (bitsOf 32 (s .args .mask)))
 
 pub update-charge-spec : {M : Type 1} → statement M

@@ -23,7 +23,8 @@ returns-2 c = clamp-high (c .before .before .args .x) (rw (toZ-ofZ w64 _ (c .bef
 
 returns-3 : tie.Need-returns-3
 returns-3 c =
-    rw (toZ-ofZ w64 _ (c .before .before .fits .x), toZ-ofZ w32 _ (in-range c)) (clamp-within (c .before .before .args .x) (in-range c .sfits))
+    rw (toZ-ofZ w64 _ (c .before .before .fits .x), toZ-ofZ w32 _ (in-range c))
+    (clamp-within (c .before .before .args .x) (in-range c .sfits))
 
 pub clamped-spec : {M : Type 1} → statement M
 clamped-spec = tie.close (tie.spec cast-result returns returns-2 returns-3)

@@ -7,9 +7,9 @@ use mathlib.Core.List.{List, [], _∷_, _++_, map}
 use native.Mathlib.Omega.{arith}
 use lib.ListN.{length, take, length-map}
 use borrow.Author.Tests.{le-leb}
-use Rattle.lists.specs.Lists.{lists, all, flatMap, sum, from}
+use Rattle.lists.specs.Lists.{lists, allOf, flatMap, sumOf, from}
 use Rattle.lists.specs.Laws.Booleans.{and-both, and-left, and-right}
-use Rattle.lists.specs.Laws.Alls.{all-at, all-every, all-flatMap, all-map, all-weaken}
+use Rattle.lists.specs.Laws.Alls.{allOf-at, allOf-every, allOf-flatMap, allOf-map, allOf-weaken}
 use Rattle.expression.specs.Syntax.{constant}
 use Rattle.expression.specs.Reading.{Scope}
 use Rattle.expression.specs.Encoding.{encodingExpressions}
@@ -94,22 +94,22 @@ unfolding layouts
 here-scope R = refl
 
 labels-same : (d : Deck)
-    → (inRange 1 32 (R (converted d)) && all (inRange 33 126) (converted d .labels))
-    ≡ (inRange 1 32 (R d) && all (inRange 33 126) (d .labels))
+    → (inRange 1 32 (R (converted d)) && allOf (inRange 33 126) (converted d .labels))
+    ≡ (inRange 1 32 (R d) && allOf (inRange 33 126) (d .labels))
 unfolding decks converted
 labels-same d = refl
 
-rules-same : (d : Deck) → all (goodRule (R (converted d))) (converted d .rules) ≡ all (goodRule (R d)) (flatMap split (d .rules))
+rules-same : (d : Deck) → allOf (goodRule (R (converted d))) (converted d .rules) ≡ allOf (goodRule (R d)) (flatMap split (d .rules))
 unfolding decks converted
 rules-same d = refl
 
 parts-same : (d : Deck)
-    → all (goodPart (R (converted d)) (M (converted d))) (converted d .parts)
-    ≡ all (goodPart (R d) (M (converted d))) (map (renumbered d) (d .parts))
+    → allOf (goodPart (R (converted d)) (M (converted d))) (converted d .parts)
+    ≡ allOf (goodPart (R d) (M (converted d))) (map (renumbered d) (d .parts))
 unfolding decks converted
 parts-same d = refl
 
-rule-good : (n : ℕ) (r : Rule) → goodRule n r ≡ true → all (goodRule n) (split r) ≡ true
+rule-good : (n : ℕ) (r : Rule) → goodRule n r ≡ true → allOf (goodRule n) (split r) ≡ true
 unfolding split splitBy lists
 rule-good n r h =
     let tests = rule-tests n r h in
@@ -118,7 +118,7 @@ rule-good n r h =
     (from-rule-tests n (defaultRule r) (tests .0, tests .1, empty-good (ownOnly n), true-good (taskScope n false), of-default))
     (from-rule-tests n (taskRule r) (tests .0, tests .1, empty-good (ownOnly n), tests .3, tests .4))
   where
-    go : (a : Action) → goodRule n (defaultRule r) ≡ true → goodRule n (taskRule r) ≡ true → all (goodRule n) (splitBy a r) ≡ true
+    go : (a : Action) → goodRule n (defaultRule r) ≡ true → goodRule n (taskRule r) ≡ true → allOf (goodRule n) (splitBy a r) ≡ true
     go [] first second = and-both h refl
     go (s ∷ a) first second = and-both first (and-both second refl)
 
@@ -129,27 +129,29 @@ converted-formed d h few =
       labels-same d ∙ tests .0,
       le-leb (M (converted d)) 64 few,
       rules-same d
-          ∙ all-flatMap (goodRule (R d)) split (d .rules)
-          (all-weaken (λ r. all (goodRule (R d)) (split r)) (goodRule (R d)) (rule-good (R d)) (d .rules) (tests .2)),
+          ∙ allOf-flatMap (goodRule (R d)) split (d .rules)
+          (allOf-weaken (λ r. allOf (goodRule (R d)) (split r)) (goodRule (R d)) (rule-good (R d)) (d .rules) (tests .2)),
       ap (inRange 1 16) (same-N d) ∙ tests .3,
       parts-same d
-          ∙ all-map (goodPart (R d) (M (converted d))) (renumbered d) (d .parts)
-          ∙ all-weaken (λ p. goodPart (R d) (M (converted d)) (renumbered d p)) (goodPart (R d) (M d)) (part-good d) (d .parts) (tests .4),
+          ∙ allOf-map (goodPart (R d) (M (converted d))) (renumbered d) (d .parts)
+          ∙ allOf-weaken (λ p. goodPart (R d) (M (converted d)) (renumbered d p)) (goodPart (R d) (M d)) (part-good d) (d .parts)
+          (tests .4),
     )
 
 -- ---- no default action is left
 
-split-suits : (r : Rule) → all (suitsRule New) (split r) ≡ true
+split-suits : (r : Rule) → allOf (suitsRule New) (split r) ≡ true
 unfolding split splitBy lists
 split-suits r = go (r .default) refl
   where
-    go : (a : Action) → r .default ≡ a → all (suitsRule New) (splitBy a r) ≡ true
+    go : (a : Action) → r .default ≡ a → allOf (suitsRule New) (splitBy a r) ≡ true
     go [] e = and-both (none-rule r e) refl
     go (s ∷ a) e = and-both (none-rule (defaultRule r) refl) (and-both (none-rule (taskRule r) refl) refl)
 
 pub converted-suits : (d : Deck) → suits New (converted d) ≡ true
 unfolding converted suits
-converted-suits d = all-flatMap (suitsRule New) split (d .rules) (all-every (λ r. all (suitsRule New) (split r)) split-suits (d .rules))
+converted-suits d =
+    allOf-flatMap (suitsRule New) split (d .rules) (allOf-every (λ r. allOf (suitsRule New) (split r)) split-suits (d .rules))
 
 -- ---- a deck without default actions is left as it is
 
@@ -159,28 +161,28 @@ unfolding split splitBy
 split-one r h = ap (λ a. splitBy a r) (rule-none r h)
 
 module _ (d : Deck) (new : suits New d ≡ true) where
-  rules-left : (l : List Rule) → all (suitsRule New) l ≡ true → flatMap split l ≡ l
+  rules-left : (l : List Rule) → allOf (suitsRule New) l ≡ true → flatMap split l ≡ l
   unfolding lists
   rules-left [] h = refl
   rules-left (r ∷ l) h =
-      ap₂ _++_ (split-one r (and-left (suitsRule New r) (all (suitsRule New) l) h))
-      (rules-left l (and-right (suitsRule New r) (all (suitsRule New) l) h))
+      ap₂ _++_ (split-one r (and-left (suitsRule New r) (allOf (suitsRule New) l) h))
+      (rules-left l (and-right (suitsRule New r) (allOf (suitsRule New) l) h))
 
   -- each of the first rules becomes one
-  ones : (l : List Rule) (k : ℕ) → all (suitsRule New) l ≡ true → k ≤ length l → sum (λ x. length (split x)) (take k l) ≡ k
+  ones : (l : List Rule) (k : ℕ) → allOf (suitsRule New) l ≡ true → k ≤ length l → sumOf (λ x. length (split x)) (take k l) ≡ k
   unfolding lists
   ones l zero h le = refl
   ones [] (suc k) h le = omega arith
   ones (r ∷ l) (suc k) h le =
-      ap₂ _+_ (ap length (split-one r (and-left (suitsRule New r) (all (suitsRule New) l) h)))
-      (ones l k (and-right (suitsRule New r) (all (suitsRule New) l) h) (omega arith))
+      ap₂ _+_ (ap length (split-one r (and-left (suitsRule New r) (allOf (suitsRule New) l) h)))
+      (ones l k (and-right (suitsRule New r) (allOf (suitsRule New) l) h) (omega arith))
       ∙ omega arith
 
   number-left : (r : ℕ) → r < M d → newNumbers d r ≡ r ∷ []
   unfolding newNumbers newNumber decks from suits
   number-left r h =
       ap₂ from (ones (d .rules) r new (omega arith))
-      (ap length (split-one (ruleAt d r) (all-at (suitsRule New) (d .rules) r _ new h)))
+      (ap length (split-one (ruleAt d r) (allOf-at (suitsRule New) (d .rules) r _ new h)))
 
   carried-left : (lo : ℕ) (l : List ℕ) → isRising lo (M d) l ≡ true → flatMap (newNumbers d) l ≡ l
   unfolding flatMap
@@ -194,7 +196,7 @@ module _ (d : Deck) (new : suits New d ≡ true) where
       ap (λ c. record { opening = p .opening; carried = c; limit = p .limit })
       (carried-left 0 (p .carried) (part-tests (R d) (M d) p h .3))
 
-  parts-left : (l : List Part) → all (goodPart (R d) (M d)) l ≡ true → map (renumbered d) l ≡ l
+  parts-left : (l : List Part) → allOf (goodPart (R d) (M d)) l ≡ true → map (renumbered d) l ≡ l
   unfolding lists
   parts-left [] h = refl
   parts-left (p ∷ l) h =

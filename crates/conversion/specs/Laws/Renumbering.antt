@@ -10,13 +10,13 @@ use lib.Dec.{eqb}
 use lib.ListN.{length, getD, take, length-append, List·getD-map}
 use lib.Seq.{take-suc, take-all, getD-append-add}
 use borrow.Author.Tests.{eq-eqb, eqb-true}
-use Rattle.lists.specs.Lists.{lists, any, keep, filter, flatMap, sum, from, below, member}
+use Rattle.lists.specs.Lists.{lists, anyOf, keep, select, flatMap, sumOf, from, below, member}
 use Rattle.lists.specs.Laws.Statements.{same-test}
 use Rattle.lists.specs.Laws.Members.{member-cases, member-empty, member-head, member-tail}
-use Rattle.lists.specs.Laws.Anys.{any-flatMap}
-use Rattle.lists.specs.Laws.Sums.{sum-append}
-use Rattle.lists.specs.Laws.FlatMaps.{filter-flatMap, map-flatMap}
-use Rattle.lists.specs.Laws.Below.{from-within, below-member, filter-below}
+use Rattle.lists.specs.Laws.Anys.{anyOf-flatMap}
+use Rattle.lists.specs.Laws.Sums.{sumOf-append}
+use Rattle.lists.specs.Laws.FlatMaps.{select-flatMap, map-flatMap}
+use Rattle.lists.specs.Laws.Below.{from-within, below-member, select-below}
 use Rattle.deck.specs.Deck.{Action, Rule, Deck, M, ruleAt, partAt, carries, active, decks}
 use Rattle.conversion.specs.Converted.{splitBy, split, newNumber, newNumbers, renumbered, converted}
 
@@ -61,42 +61,42 @@ unfolding flatMap
 flatMap-cong f g [] h = refl
 flatMap-cong f g (x ∷ l) h = ap₂ _++_ (h x (member-head x l)) (flatMap-cong f g l (λ y m. h y (member-tail y x l m)))
 
-flatMap-filter : {A : Type 0} (f : ℕ → List A) (t : ℕ → Bool) (l : List ℕ) → flatMap (λ x. cond (t x) (f x) []) l ≡ flatMap f (filter t l)
+flatMap-filter : {A : Type 0} (f : ℕ → List A) (t : ℕ → Bool) (l : List ℕ) → flatMap (λ x. cond (t x) (f x) []) l ≡ flatMap f (select t l)
 unfolding lists
 flatMap-filter f t [] = refl
 flatMap-filter f t (x ∷ l) = go (t x) (flatMap-filter f t l)
   where
-    go : (b : Bool) → flatMap (λ x. cond (t x) (f x) []) l ≡ flatMap f (filter t l)
-        → cond b (f x) [] ++ flatMap (λ x. cond (t x) (f x) []) l ≡ flatMap f (keep b x (filter t l))
+    go : (b : Bool) → flatMap (λ x. cond (t x) (f x) []) l ≡ flatMap f (select t l)
+        → cond b (f x) [] ++ flatMap (λ x. cond (t x) (f x) []) l ≡ flatMap f (keep b x (select t l))
     go true e = ap (λ n. f x ++ n) e
     go false e = e
 
 -- a test that is the same for all of a list
-filter-same : (t : ℕ → Bool) (b : Bool) (l : List ℕ) → ((x : ℕ) → member x l ≡ true → t x ≡ b) → filter t l ≡ cond b l []
+select-same : (t : ℕ → Bool) (b : Bool) (l : List ℕ) → ((x : ℕ) → member x l ≡ true → t x ≡ b) → select t l ≡ cond b l []
 unfolding lists
-filter-same t true [] h = refl
-filter-same t false [] h = refl
-filter-same t true (x ∷ l) h = ap₂ (λ c n. keep c x n) (h x (member-head x l)) (filter-same t true l (λ y m. h y (member-tail y x l m)))
-filter-same t false (x ∷ l) h = ap₂ (λ c n. keep c x n) (h x (member-head x l)) (filter-same t false l (λ y m. h y (member-tail y x l m)))
+select-same t true [] h = refl
+select-same t false [] h = refl
+select-same t true (x ∷ l) h = ap₂ (λ c n. keep c x n) (h x (member-head x l)) (select-same t true l (λ y m. h y (member-tail y x l m)))
+select-same t false (x ∷ l) h = ap₂ (λ c n. keep c x n) (h x (member-head x l)) (select-same t false l (λ y m. h y (member-tail y x l m)))
 
-any-same : (f g : ℕ → Bool) (l : List ℕ) → ((x : ℕ) → f x ≡ g x) → any f l ≡ any g l
-any-same f g l h = ap (λ t. any t l) (fun-ext h)
+anyOf-same : (f g : ℕ → Bool) (l : List ℕ) → ((x : ℕ) → f x ≡ g x) → anyOf f l ≡ anyOf g l
+anyOf-same f g l h = ap (λ t. anyOf t l) (fun-ext h)
 
 -- ---- one rule after the other
 
 abbrev size : Rule → ℕ
 size r = length (split r)
 
-sums-grow : (rs : List Rule) (a b : ℕ) → a ≤ b → sum size (take a rs) ≤ sum size (take b rs)
-unfolding sum
+sums-grow : (rs : List Rule) (a b : ℕ) → a ≤ b → sumOf size (take a rs) ≤ sumOf size (take b rs)
+unfolding sumOf
 sums-grow rs zero b h = omega arith
 sums-grow [] (suc a) zero h = absurd (omega arith)
 sums-grow [] (suc a) (suc b) h = omega arith
 sums-grow (x ∷ rs) (suc a) zero h = absurd (omega arith)
 sums-grow (x ∷ rs) (suc a) (suc b) h = omega (arith, sums-grow rs a b (omega arith))
 
-length-split : (rs : List Rule) → length (flatMap split rs) ≡ sum size rs
-unfolding flatMap sum
+length-split : (rs : List Rule) → length (flatMap split rs) ≡ sumOf size rs
+unfolding flatMap sumOf
 length-split [] = refl
 length-split (r ∷ rs) = length-append (split r) (flatMap split rs) ∙ ap (λ n. size r + n) (length-split rs)
 
@@ -119,13 +119,13 @@ noRule = record { events = []; default = []; everywhere = false; condition = Rat
 
 -- the new rules of rule r, by their numbers
 map-rule : (rs : List Rule) (r : ℕ) → r < length rs
-    → map (λ n. getD (flatMap split rs) n noRule) (from (sum size (take r rs)) (size (getD rs r noRule))) ≡ split (getD rs r noRule)
-unfolding flatMap sum
+    → map (λ n. getD (flatMap split rs) n noRule) (from (sumOf size (take r rs)) (size (getD rs r noRule))) ≡ split (getD rs r noRule)
+unfolding flatMap sumOf
 map-rule [] r h = absurd (omega arith)
 map-rule (x ∷ rs) zero h = map-front (split x) (flatMap split rs) noRule
 map-rule (x ∷ rs) (suc r) h =
-    ap (map (λ n. getD (split x ++ flatMap split rs) n noRule)) (from-map (size x) (sum size (take r rs)) (size (getD rs r noRule)))
-    ∙ shift (from (sum size (take r rs)) (size (getD rs r noRule)))
+    ap (map (λ n. getD (split x ++ flatMap split rs) n noRule)) (from-map (size x) (sumOf size (take r rs)) (size (getD rs r noRule)))
+    ∙ shift (from (sumOf size (take r rs)) (size (getD rs r noRule)))
     ∙ map-rule rs r (omega arith)
   where
     shift : (ns : List ℕ)
@@ -166,8 +166,8 @@ module _ (d : Deck) where
   pub next-number : (r : ℕ) → r < M d → newNumber d (suc r) ≡ newNumber d r + size (ruleAt d r)
   unfolding decks newNumber lists
   next-number r h =
-      ap (sum size) (take-suc (d .rules) r noRule h)
-      ∙ sum-append size (take r (d .rules)) (getD (d .rules) r noRule ∷ [])
+      ap (sumOf size) (take-suc (d .rules) r noRule h)
+      ∙ sumOf-append size (take r (d .rules)) (getD (d .rules) r noRule ∷ [])
       ∙ omega arith
 
   first-number : from 0 (newNumber d 0) ≡ flatMap (newNumbers d) (below 0)
@@ -197,7 +197,7 @@ module _ (d : Deck) where
 
   pub number-of-rules : M d′ ≡ newNumber d (M d)
   unfolding decks converted newNumber
-  number-of-rules = length-split (d .rules) ∙ ap (sum size) (sym (take-all (length (d .rules)) (d .rules) (omega arith)))
+  number-of-rules = length-split (d .rules) ∙ ap (sumOf size) (sym (take-all (length (d .rules)) (d .rules) (omega arith)))
 
   below-from : (n : ℕ) → below n ≡ from 0 n
   unfolding below
@@ -238,9 +238,9 @@ module _ (d : Deck) where
   pub carries-new : (p r n : ℕ) → r < M d → member n (newNumbers d r) ≡ true → carries d′ p n ≡ carries d p r
   unfolding carries member
   carries-new p r n h m =
-      ap (any (eqb n)) (renumbered-carried p)
-      ∙ any-flatMap (eqb n) (newNumbers d) (partAt d p .carried)
-      ∙ any-same (λ s. any (eqb n) (newNumbers d s)) (eqb r) (partAt d p .carried) (λ s. its-own r s n h m)
+      ap (anyOf (eqb n)) (renumbered-carried p)
+      ∙ anyOf-flatMap (eqb n) (newNumbers d) (partAt d p .carried)
+      ∙ anyOf-same (λ s. anyOf (eqb n) (newNumbers d s)) (eqb r) (partAt d p .carried) (λ s. its-own r s n h m)
 
   -- ---- the rules that are active
 
@@ -250,25 +250,25 @@ module _ (d : Deck) where
       of-all (newNumbers d r) (split (ruleAt d r)) (ruleAt d′) (ruleAt d r .events) (rules-of r h) (split-events (ruleAt d r)) n m
 
   pub hears : Deck → ℕ → List ℕ → ℕ → Bool
-  hears e p cs r = carries e p r && any (λ c. member c (ruleAt e r .events)) cs
+  hears e p cs r = carries e p r && anyOf (λ c. member c (ruleAt e r .events)) cs
 
   pub hears-new : (p : ℕ) (cs : List ℕ) (r n : ℕ) → r < M d → member n (newNumbers d r) ≡ true → hears d′ p cs n ≡ hears d p cs r
   unfolding hears
   hears-new p cs r n h m =
-      ap₂ (λ b es. b && any (λ c. member c es) cs) (carries-new p r n h m) (events-new r n h m)
+      ap₂ (λ b es. b && anyOf (λ c. member c es) cs) (carries-new p r n h m) (events-new r n h m)
 
   pub active-new : (p : ℕ) (cs : List ℕ) → active d′ p cs ≡ flatMap (newNumbers d) (active d p cs)
   unfolding active hears
   active-new p cs =
-      ap (filter (hears d′ p cs)) numbers-below
-      ∙ filter-flatMap (hears d′ p cs) (newNumbers d) (below (M d))
-      ∙ flatMap-cong (λ r. filter (hears d′ p cs) (newNumbers d r)) (λ r. cond (hears d p cs r) (newNumbers d r) []) (below (M d))
-      (λ r m. filter-same (hears d′ p cs) (hears d p cs r) (newNumbers d r) (λ n k. hears-new p cs r n (below-member (M d) r .1 m) k))
+      ap (select (hears d′ p cs)) numbers-below
+      ∙ select-flatMap (hears d′ p cs) (newNumbers d) (below (M d))
+      ∙ flatMap-cong (λ r. select (hears d′ p cs) (newNumbers d r)) (λ r. cond (hears d p cs r) (newNumbers d r) []) (below (M d))
+      (λ r m. select-same (hears d′ p cs) (hears d p cs r) (newNumbers d r) (λ n k. hears-new p cs r n (below-member (M d) r .1 m) k))
       ∙ flatMap-filter (newNumbers d) (hears d p cs) (below (M d))
 
   pub active-below : (p : ℕ) (cs : List ℕ) (r : ℕ) → member r (active d p cs) ≡ true → r < M d
   unfolding active hears
-  active-below p cs r m = filter-below (hears d p cs) (M d) r .0 m .0
+  active-below p cs r m = select-below (hears d p cs) (M d) r .0 m .0
 
   pub active-rules : (p : ℕ) (cs : List ℕ) → map (ruleAt d′) (active d′ p cs) ≡ flatMap split (map (ruleAt d) (active d p cs))
   active-rules p cs =

@@ -14,10 +14,10 @@ use Rattle.refusals.specs.Outcome.{Outcome, refused, accepted}
 use Rattle.refusals.specs.Numbers.{repeatedTarget}
 use Rattle.expression.specs.Reading.{Scope}
 use Rattle.deck.specs.Deck.{Assignment, Action, targets}
-use Rattle.deck.specs.Reader.{Got, Reader, andThen, require, number, readers}
+use Rattle.deck.specs.Reader.{Got, Reader, andThen, expect, number, readers}
 use Rattle.deck.specs.Layout.{numbers, expression, assignments, action}
 use Rattle.deck.specs.Marks.{Reads, ReadsAssignment, assignment}
-use Rattle.deck.specs.declared.Step.the-variants.{Next, Fault}
+use Rattle.deck.specs.declared.Advance.the-variants.{Next, Fault}
 use Rattle.deck.specs.Laws.Turns.{Turns, first, turns-none, turn-next, turn-fault, turn-end}
 use Rattle.deck.specs.Laws.Offsets.{gotTo, then-next, then-fault}
 
@@ -39,7 +39,7 @@ unfolding assignments assignment readers
 assignments-first sc n ts s at =
     then-then (number 0 (sc .owns) s at) _ _ _
     (λ t s' at'.
-    then-then (require (not (member t ts)) repeatedTarget at s' at') _ _ _
+    then-then (expect (not (member t ts)) repeatedTarget at s' at') _ _ _
     (λ _ s' at'. then-then (expression (numbers sc) s' at') _ _ _ (λ e s' at'. refl)))
 
 -- o is what reading an action comes to. So far assignments were read whose targets are the set `mask`, and also the list ts;

@@ -6,9 +6,9 @@ use mathlib.Core.List.{List, [], _∷_, _++_}
 use native.Mathlib.Nat.{suc-inj, suc-ne-zero}
 use lib.Dec.{leb, ltb, eqb}
 use lib.ListN.{length}
-use Rattle.lists.specs.Lists.{all, flatMap, member, distinct, lists}
+use Rattle.lists.specs.Lists.{allOf, flatMap, member, distinct, lists}
 use Rattle.lists.specs.Laws.Booleans.{and-both, and-left, and-right}
-use Rattle.lists.specs.Laws.Alls.{all-every}
+use Rattle.lists.specs.Laws.Alls.{allOf-every}
 use Rattle.lists.specs.Laws.Equalities.{eqb-sym}
 use Rattle.refusals.specs.Numbers.{repeatedTarget, defaultRetired}
 use Rattle.expression.specs.Syntax.{Num}
@@ -21,7 +21,7 @@ use Rattle.deck.specs.Deck.{Assignment, Action, targets, decks}
 use Rattle.deck.specs.Reader.{readers}
 use Rattle.deck.specs.Layout.{numbers, assignments, action, layouts, ownOnly, allows, defaultAction}
 use Rattle.deck.specs.Encoding.{encodeExpression, encodeAssignment, encodeAction, goodAssignment, goodAction, encodings}
-use Rattle.deck.specs.Laws.Exact.{Exact, Any, Coded, exact-by, give-exact, here-exact, require-exact, then-exact}
+use Rattle.deck.specs.Laws.Exact.{Exact, Any, Coded, exact-by, give-exact, here-exact, expect-exact, then-exact}
 use Rattle.deck.specs.Laws.Readers.{number-exact, nil-exact, cons-exact}
 use Rattle.deck.specs.Laws.Expressions.{below-range, zero-range, expression-exact}
 
@@ -29,7 +29,7 @@ use Rattle.deck.specs.Laws.Expressions.{below-range, zero-range, express
 
 -- no target of the action is among ts
 abbrev Apart : List ℕ → Action → Bool
-Apart ts a = all (λ s. not (member (s .target) ts)) a
+Apart ts a = allOf (λ s. not (member (s .target) ts)) a
 
 exchange : (e m k n : Bool) → (not (e || m) && (not k && n)) ≡ (not (e || k) && (not m && n))
 exchange true m k n = refl
@@ -47,14 +47,14 @@ apart t ts (s ∷ a) =
 
 apart-none : (a : Action) → Apart [] a ≡ true
 unfolding lists
-apart-none a = all-every (λ s. not (member (s .target) [])) (λ s. refl) a
+apart-none a = allOf-every (λ s. not (member (s .target) [])) (λ s. refl) a
 
 -- ---- the readers
 
 module _ (sc : Scope) where
   -- n good assignments whose targets stand once, and not among ts
   abbrev Assigns : ℕ → List ℕ → Action → Type 0
-  Assigns n ts a = (length a ≡ n) × (all (goodAssignment sc) a ≡ true) × (distinct (targets a) ≡ true) × (Apart ts a ≡ true)
+  Assigns n ts a = (length a ≡ n) × (allOf (goodAssignment sc) a ≡ true) × (distinct (targets a) ≡ true) × (Apart ts a ≡ true)
 
   assigns-cons : (n : ℕ) (ts : List ℕ) (s : Assignment) (a : Action)
       → (goodAssignment sc s ≡ true) × (not (member (s .target) ts) ≡ true) → Assigns n (s .target ∷ ts) a
@@ -91,14 +91,20 @@ module _ (sc : Scope) where
       (exact-by
       (here-exact λ p.
       then-exact (number-exact 0 (sc .owns)) λ t.
-      require-exact (not (member t ts)) repeatedTarget p (then-exact (expression-exact (numbers sc) (whole-num sc)) λ e.
+      expect-exact (not (member t ts)) repeatedTarget p (then-exact (expression-exact (numbers sc) (whole-num sc)) λ e.
       then-exact (assignments-exact n (t ∷ ts)) λ a.
       give-exact (record { target = t; value = e } ∷ a)))
       (λ at a w _ p.
       let t : ℕ = p .0 in
       let e : Num = p .4 .1 .0 in
-      let good = and-both (sym (below-range (sc .owns) t) ∙ p .3) (p .4 .1 .3 .0) in
-      (record { target = t; value = e }, p .4 .1 .1, p .2 ∙ ap (λ v. t ∷ v) (p .4 .1 .2), (and-both good (p .4 .1 .3 .1), p .4 .0), p .4 .1 .4))
+      let good = and-both (sym (below-range (sc .owns) t) ∙ p .3) (p .4 .1 .3 .0) in (
+        record { target = t; value = e },
+        p .4 .1 .1,
+        p .2
+            ∙ ap (λ v. t ∷ v) (p .4 .1 .2),
+        (and-both good (p .4 .1 .3 .1), p .4 .0),
+        p .4 .1 .4,
+      ))
       (λ at a w q.
       let s : Assignment = q .0 in
       let known : Bool = ltb (s .target) (sc .owns) in
@@ -119,12 +125,12 @@ module _ (sc : Scope) where
       (and-both (and-both few (p .4 .0 .1)) (p .4 .0 .2), p .2 ∙ rw (p .4 .1, p .4 .0 .0)))
       (λ at a w q.
       let few : Bool = leb (length a) (limits .assignments) in
-      let good = and-left (few && all (goodAssignment sc) a) _ (q .0) in (
+      let good = and-left (few && allOf (goodAssignment sc) a) _ (q .0) in (
         length a,
         flatMap encodeAssignment a,
         q .1,
         zero-range (limits .assignments) (length a) ∙ and-left few _ good,
-        ((refl, and-right few _ good, and-right (few && all (goodAssignment sc) a) _ (q .0), apart-none a), refl),
+        ((refl, and-right few _ good, and-right (few && allOf (goodAssignment sc) a) _ (q .0), apart-none a), refl),
       ))
 
 -- a default action: a new deck has the empty one
@@ -135,14 +141,14 @@ default-exact f R =
     exact-by
     (here-exact λ p.
     then-exact (number-exact 0 (suc (limits .assignments))) λ n.
-    require-exact (allows f n) defaultRetired p (assignments-exact (ownOnly R) n []))
+    expect-exact (allows f n) defaultRetired p (assignments-exact (ownOnly R) n []))
     (λ at a w _ p.
     let few : leb (length a) (limits .assignments) ≡ true = rw (p .4 .1 .0 .0) (sym (zero-range (limits .assignments) (p .0)) ∙ p .3) in
     let sound = and-both (and-both few (p .4 .1 .0 .1)) (p .4 .1 .0 .2) in
     (and-both sound (rw (p .4 .1 .0 .0) (p .4 .0)), p .2 ∙ rw (p .4 .1 .1, p .4 .1 .0 .0)))
     (λ at a w q.
     let few : Bool = leb (length a) (limits .assignments) in
-    let tests : Bool = few && all (goodAssignment (ownOnly R)) a in
+    let tests : Bool = few && allOf (goodAssignment (ownOnly R)) a in
     let sound = and-left (goodAction (ownOnly R) a) (allows f (length a)) (q .0) in
     let good = and-left tests _ sound in (
       length a,

@@ -7,9 +7,9 @@ use native.Mathlib.Omega.{arith}
 use lib.Dec.{leb, ltb}
 use lib.ListN.{length}
 use borrow.Author.Tests.{leb-true, ltb-true, lt-ltb}
-use Rattle.lists.specs.Lists.{all, flatMap, distinct}
+use Rattle.lists.specs.Lists.{allOf, flatMap, distinct}
 use Rattle.lists.specs.Laws.Booleans.{and-left, and-right}
-use Rattle.lists.specs.Laws.Alls.{all-weaken}
+use Rattle.lists.specs.Laws.Alls.{allOf-weaken}
 use Rattle.expression.specs.Syntax.{Truth}
 use Rattle.expression.specs.Reading.{Scope}
 use Rattle.expression.specs.Encoding.{encodeValue, encodeNum, encodeTruth, fits, goodNum, goodTruth}
@@ -19,7 +19,7 @@ use Rattle.deck.specs.Limits.{limits}
 use Rattle.deck.specs.Deck.{Assignment, Action, Rule, Part, Deck, R, M, N, targets}
 use Rattle.deck.specs.Layout.{ownOnly, taskScope, layouts}
 use Rattle.deck.specs.Encoding.{encodeExpression, encodeAssignment, encodeAction, kindByte, encodeRule, encodePart}
-use Rattle.deck.specs.Encoding.{encodeChannels, encodeRules, encodeParts, encode, inRange, isRising, goodLength}
+use Rattle.deck.specs.Encoding.{encodeChannels, encodeRules, encodeParts, encode, inRange, isRising, fittingLength}
 use Rattle.deck.specs.Encoding.{goodAssignment, goodAction, goodCondition, goodRule, goodPart, wellFormed}
 use Rattle.deck.specs.Laws.Formed.{rising-head, rule-tests, part-tests, deck-tests}
 
@@ -37,8 +37,8 @@ kind-byte true = omega arith
 
 -- channels in the scope are bytes
 module _ (sc : Scope) (owns : sc .owns ≤ 256) (fars : sc .fars ≤ 256) where
-  expression-bytes : (s : List ℕ) → goodLength s ≡ true → Bytes s → Bytes (encodeExpression s)
-  unfolding encodeExpression goodLength inRange
+  expression-bytes : (s : List ℕ) → fittingLength s ≡ true → Bytes s → Bytes (encodeExpression s)
+  unfolding encodeExpression fittingLength inRange
   expression-bytes s h b =
       let few = leb-true (length s) (limits .expression) (and-right (leb 1 (length s)) (leb (length s) (limits .expression)) h) in
       bytes-cons (length s) s (omega arith) b
@@ -47,26 +47,26 @@ module _ (sc : Scope) (owns : sc .owns ≤ 256) (fars : sc .fars ≤ 256) where
   unfolding encodeAssignment goodAssignment
   assignment-bytes s h =
       let known : Bool = ltb (s .target) (sc .owns) in
-      let both = and-left (known && goodNum sc (s .value)) (goodLength (encodeNum (s .value))) h in
+      let both = and-left (known && goodNum sc (s .value)) (fittingLength (encodeNum (s .value))) h in
       let less = ltb-true (s .target) (sc .owns) (and-left known (goodNum sc (s .value)) both) in
       bytes-cons (s .target) _ (omega arith)
-      (expression-bytes (encodeNum (s .value)) (and-right (known && goodNum sc (s .value)) (goodLength (encodeNum (s .value))) h)
+      (expression-bytes (encodeNum (s .value)) (and-right (known && goodNum sc (s .value)) (fittingLength (encodeNum (s .value))) h)
       (num-bytes sc owns fars (s .value) (and-right known (goodNum sc (s .value)) both)))
 
   action-bytes : (a : Action) → goodAction sc a ≡ true → Bytes (encodeAction a)
   unfolding encodeAction goodAction
   action-bytes a h =
       let few : Bool = leb (length a) 4 in
-      let both = and-left (few && all (goodAssignment sc) a) (distinct (targets a)) h in
-      let less = leb-true (length a) 4 (and-left few (all (goodAssignment sc) a) both) in
+      let both = and-left (few && allOf (goodAssignment sc) a) (distinct (targets a)) h in
+      let less = leb-true (length a) 4 (and-left few (allOf (goodAssignment sc) a) both) in
       bytes-cons (length a) _ (omega arith)
-      (bytes-flatMap encodeAssignment (goodAssignment sc) a assignment-bytes (and-right few (all (goodAssignment sc) a) both))
+      (bytes-flatMap encodeAssignment (goodAssignment sc) a assignment-bytes (and-right few (allOf (goodAssignment sc) a) both))
 
   condition-bytes : (t : Truth) → goodCondition sc t ≡ true → Bytes (encodeExpression (encodeTruth t))
   unfolding goodCondition
   condition-bytes t h =
-      expression-bytes (encodeTruth t) (and-right (goodTruth sc t) (goodLength (encodeTruth t)) h)
-      (truth-bytes sc owns fars t (and-left (goodTruth sc t) (goodLength (encodeTruth t)) h))
+      expression-bytes (encodeTruth t) (and-right (goodTruth sc t) (fittingLength (encodeTruth t)) h)
+      (truth-bytes sc owns fars t (and-left (goodTruth sc t) (fittingLength (encodeTruth t)) h))
 
 -- ---- rules and parts
 
@@ -120,7 +120,7 @@ pub encoded-bytes : (d : Deck) → wellFormed d ≡ true → Bytes (encode d)
 unfolding encode encodeChannels encodeRules encodeParts inRange
 encoded-bytes d h =
     let channels : Bool = inRange 1 32 (R d) in
-    let labels : Bool = all (inRange 33 126) (d .labels) in
+    let labels : Bool = allOf (inRange 33 126) (d .labels) in
     let tests = deck-tests d h in
     let r = leb-true (R d) 32 (and-right (leb 1 (R d)) (leb (R d) 32) (and-left channels labels (tests .0))) in
     let m = leb-true (M d) 64 (tests .1) in
@@ -128,6 +128,6 @@ encoded-bytes d h =
     bytes-append (encodeChannels d ++ encodeRules d) (encodeParts d)
     (bytes-append (encodeChannels d) (encodeRules d)
     (bytes-cons (R d) (d .labels) (omega arith)
-    (all-weaken (λ b. ltb b 256) (inRange 33 126) label-byte (d .labels) (and-right channels labels (tests .0))))
+    (allOf-weaken (λ b. ltb b 256) (inRange 33 126) label-byte (d .labels) (and-right channels labels (tests .0))))
     (bytes-cons (M d) _ (omega arith) (bytes-flatMap encodeRule (goodRule (R d)) (d .rules) (rule-bytes (R d) r) (tests .2))))
     (bytes-cons (N d) _ (omega arith) (bytes-flatMap encodePart (goodPart (R d) (M d)) (d .parts) (part-bytes (R d) (M d) r m) (tests .4)))

@@ -8,10 +8,10 @@ use native.Mathlib.Omega.{arith}
 use native.Mathlib.Nat.{add-zero}
 use native.Mathlib.Numerals.{add-one}
 use lib.ListN.{length, length-append}
-use Rattle.lists.specs.Laws.Alls.{all-left, all-right}
+use Rattle.lists.specs.Laws.Alls.{allOf-left, allOf-right}
 use Rattle.refusals.specs.Outcome.{Outcome, refused, accepted}
 use Rattle.expression.specs.Laws.Bytes.{Bytes}
-use Rattle.deck.specs.Reader.{Got, Reader, andThen, _>>=_, _>>_, give, fault, here, require, byte, end, readers}
+use Rattle.deck.specs.Reader.{Got, Reader, andThen, _>>=_, _>>_, give, fault, here, expect, byte, end, readers}
 
 -- what a reader accepted, if it did, has a property
 pub data Accepts {A : Type 0} (P : A → Type 0) : Outcome A → Type 0 where
@@ -40,7 +40,7 @@ abbrev pub Relation : Type 0 → Type 1
 Relation A = ℕ → A → List ℕ → Type 0
 
 -- from s at an offset, g was read: a word in the relation stands there, and E holds of what is left
-pub record Reads {A : Type 0} (E : List ℕ → Type 0) (P : Relation A) (s : List ℕ) (at : ℕ) (g : Got A) : Type 0 where
+pub record ReadsWord {A : Type 0} (E : List ℕ → Type 0) (P : Relation A) (s : List ℕ) (at : ℕ) (g : Got A) : Type 0 where
   pub word : List ℕ
   pub relates : P at (g .value) word
   pub bytes : s ≡ word ++ g .rest
@@ -48,7 +48,7 @@ pub record Reads {A : Type 0} (E : List ℕ → Type 0) (P : Relation A) (s : Li
   pub ends : E (g .rest)
 
 pub record Exact {A : Type 0} (E : List ℕ → Type 0) (r : Reader A) (P : Relation A) : Type 0 where
-  pub sound : (s : List ℕ) (at : ℕ) → Bytes s → Accepts (Reads E P s at) (r s at)
+  pub sound : (s : List ℕ) (at : ℕ) → Bytes s → Accepts (ReadsWord E P s at) (r s at)
   pub complete : (at : ℕ) (a : A) (w s : List ℕ) → P at a w → E s
       → r (w ++ s) at ≡ accepted (record { value = a; rest = s; at = at + length w })
 
@@ -70,7 +70,7 @@ Then {A} enc Ok Q at b w = (a : A) × (v : List ℕ) × (w ≡ enc a ++ v) × Ok
 module _ {A : Type 0} {E : List ℕ → Type 0} where
   -- the same word in another relation
   reads-by : {P Q : Relation A} {s : List ℕ} {at : ℕ} {g : Got A}
-      → ((w : List ℕ) → s ≡ w ++ g .rest → P at (g .value) w → Q at (g .value) w) → Reads E P s at g → Reads E Q s at g
+      → ((w : List ℕ) → s ≡ w ++ g .rest → P at (g .value) w → Q at (g .value) w) → ReadsWord E P s at g → ReadsWord E Q s at g
   reads-by f p =
       record { word = p .word; relates = f (p .word) (p .bytes) (p .relates); bytes = p .bytes; moved = p .moved; ends = p .ends }
 
@@ -79,7 +79,8 @@ module _ {A : Type 0} {E : List ℕ → Type 0} where
       → ((at : ℕ) (a : A) (w : List ℕ) → Q at a w → P at a w) → Exact E r Q
   exact-by {Q} x to back =
       record {
-        sound = λ s at b. accepts-map (λ g p. reads-by (λ w e. to at (g .value) w (all-left _ w (g .rest) (rw e at b))) p) (x .sound s at b);
+        sound = λ s at b. accepts-map (λ g p. reads-by (λ w e. to at (g .value) w (allOf-left _ w (g .rest) (rw e at b))) p)
+            (x .sound s at b);
         complete = λ at a w s q e. x .complete at a w s (back at a w q) e;
       }
 
@@ -96,15 +97,15 @@ module _ {A : Type 0} {E : List ℕ → Type 0} where
   unfolding readers
   fault-exact n p never = record { sound = λ s at b. refusing; complete = λ at a w s q e. absurd (never at a w q) }
 
-  pub require-exact : (t : Bool) (n p : ℕ) {r : Reader A} {P : Relation A} → Exact E r P
-      → Exact E (require t n p >> r) (λ at a w. (t ≡ true) × P at a w)
+  pub expect-exact : (t : Bool) (n p : ℕ) {r : Reader A} {P : Relation A} → Exact E r P
+      → Exact E (expect t n p >> r) (λ at a w. (t ≡ true) × P at a w)
   unfolding readers
-  require-exact true n p x =
+  expect-exact true n p x =
       record {
         sound = λ s at b. accepts-map (λ g p. reads-by (λ w e q. (refl, q)) p) (x .sound s at b);
         complete = λ at a w s q e. x .complete at a w s (q .1) e;
       }
-  require-exact false n p x = fault-exact n p (λ at a w q. false≢true (q .0))
+  expect-exact false n p x = fault-exact n p (λ at a w q. false≢true (q .0))
 
 pub give-exact : {A : Type 0} (a : A) → Exact Any (give a) (λ at b w. (b ≡ a) × (w ≡ []))
 unfolding readers
@@ -118,7 +119,7 @@ pub byte-exact : Exact Any byte (Coded (λ b. b ∷ []) (λ _. Unit {0}))
 unfolding readers
 byte-exact = record { sound = go; complete = λ at a w s q e. rw (q .1, add-one at) }
   where
-    go : (s : List ℕ) (at : ℕ) → Bytes s → Accepts (Reads Any (Coded (λ b. b ∷ []) (λ _. Unit {0})) s at) (byte s at)
+    go : (s : List ℕ) (at : ℕ) → Bytes s → Accepts (ReadsWord Any (Coded (λ b. b ∷ []) (λ _. Unit {0})) s at) (byte s at)
     go [] at b = refusing
     go (x ∷ s) at b = accepting (record { word = x ∷ []; relates = (tt, refl); bytes = refl; moved = sym (add-one at); ends = tt })
 
@@ -126,11 +127,12 @@ pub end-exact : {A : Type 0} (a : A) → Exact Nothing (end >> give a) (λ at b 
 unfolding readers
 end-exact {A} a = record { sound = go; complete = λ at b w s q e. rw (q .0, q .1, e, add-zero at) }
   where
-    go : (s : List ℕ) (at : ℕ) → Bytes s → Accepts (Reads Nothing (λ at b w. (b ≡ a) × (w ≡ [])) s at) ((end >> give a) s at)
+    go : (s : List ℕ) (at : ℕ) → Bytes s → Accepts (ReadsWord Nothing (λ at b w. (b ≡ a) × (w ≡ [])) s at) ((end >> give a) s at)
     go [] at b = accepting (record { word = []; relates = (refl, refl); bytes = refl; moved = sym (add-zero at); ends = refl })
     go (x ∷ s) at b = refusing
 
-module _ {A B : Type 0} {E : List ℕ → Type 0} {enc : A → List ℕ} {Ok : A → Type 0} {Q : A → Relation B} {r : Reader A} {f : A → Reader B} where
+module _ {A B : Type 0} {E : List ℕ → Type 0} {enc : A → List ℕ} {Ok : A → Type 0} {Q : A → Relation B} {r : Reader A}
+    {f : A → Reader B} where
   pub then-exact : Exact Any r (Coded enc Ok) → ((a : A) → Exact E (f a) (Q a)) → Exact E (r >>= f) (Then enc Ok Q)
   unfolding readers
   then-exact x y =
@@ -149,7 +151,7 @@ module _ {A B : Type 0} {E : List ℕ → Type 0} {enc : A → List ℕ} {Ok : A
               moved = q .moved ∙ ap (λ n. n + length (q .word)) place ∙ rw total (omega arith);
               ends = q .ends;
             })
-            (y (g .value) .sound (g .rest) (g .at) (all-right _ u (g .rest) (rw start at b)));
+            (y (g .value) .sound (g .rest) (g .at) (allOf-right _ u (g .rest) (rw start at b)));
         complete = λ at b w s q e.
             let u : List ℕ = enc (q .0) in
             let v : List ℕ = q .1 in

@@ -5,14 +5,14 @@ use mathlib.Core.Bool.{Bool, true, _&&_}
 use mathlib.Core.List.{List, [], _∷_, _++_, append-nil}
 use lib.Dec.{leb, ltb, leb·zero, leb·suc-suc}
 use lib.ListN.{length}
-use Rattle.lists.specs.Laws.Alls.{all-left, all-right}
+use Rattle.lists.specs.Laws.Alls.{allOf-left, allOf-right}
 use Rattle.expression.specs.Reading.{Read, got, nothing}
 use Rattle.expression.specs.Laws.Holds.{none, holds}
 use Rattle.expression.specs.Laws.Whole.{Whole}
 use Rattle.expression.specs.Faults.{Found, sound}
 use Rattle.deck.specs.Limits.{limits}
 use Rattle.deck.specs.Layout.{Expected, judged, expression, layouts}
-use Rattle.deck.specs.Encoding.{encodeExpression, inRange, goodLength, encodings}
+use Rattle.deck.specs.Encoding.{encodeExpression, inRange, fittingLength, encodings}
 use Rattle.deck.specs.Laws.Judging.{judged-cases}
 use Rattle.deck.specs.Laws.Exact.{Exact, Any, Coded, exact-by, give-exact, here-exact, then-exact, fault-exact}
 use Rattle.deck.specs.Laws.Readers.{number-exact, bytes-exact}
@@ -41,7 +41,7 @@ judged-exact r f has =
 
 module _ {A : Type 0} (j : Expected A) {enc : A → List ℕ} {ok : A → Bool} where
   pub expression-exact : Whole (j .whole) enc ok
-      → Exact Any (expression j) (Coded (λ e. encodeExpression (enc e)) (λ e. (ok e ≡ true) × (goodLength (enc e) ≡ true)))
+      → Exact Any (expression j) (Coded (λ e. encodeExpression (enc e)) (λ e. (ok e ≡ true) × (fittingLength (enc e) ≡ true)))
   unfolding layouts encodings
   expression-exact x =
       exact-by (then-exact (number-exact 1 (suc (limits .expression))) λ n.
@@ -52,7 +52,7 @@ module _ {A : Type 0} (j : Expected A) {enc : A → List ℕ} {ok : A → Bool} 
       let n : ℕ = p .0 in
       let s : List ℕ = p .4 .0 in
       let there : w ≡ n ∷ (s ++ []) = rw (p .2, p .4 .2, p .4 .4 .2) in
-      let read = holds (x .sound s (all-left _ s [] (all-right _ (n ∷ []) (s ++ []) (rw there at b)))) (p .4 .4 .1) in
+      let read = holds (x .sound s (allOf-left _ s [] (allOf-right _ (n ∷ []) (s ++ []) (rw there at b)))) (p .4 .4 .1) in
       let size : length (enc e) ≡ n = ap length (sym (read .1)) ∙ p .4 .3 in (
         (read .0, rw size (sym (range 1 (limits .expression) n) ∙ p .3)),
         there ∙ rw (append-nil s, read .1) (ap (λ k. k ∷ enc e) (sym size)),

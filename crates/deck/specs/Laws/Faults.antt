@@ -26,7 +26,7 @@ use Rattle.expression.specs.Laws.Exact.{ShownAt, shown-at, fault-at-0}
 use Rattle.deck.specs.declared.Form.{Form}
 use Rattle.deck.specs.declared.Form.the-variants.{Old, New}
 use Rattle.deck.specs.Limits.{limits}
-use Rattle.deck.specs.Reader.{Got, Reader, andThen, _>>=_, _>>_, give, fault, here, require, byte, end, number, times, rising, value}
+use Rattle.deck.specs.Reader.{Got, Reader, andThen, _>>=_, _>>_, give, fault, here, expect, byte, end, number, repeats, rising, value}
 use Rattle.deck.specs.Reader.{readers}
 use Rattle.deck.specs.Layout.{Expected, numbers, truths, judged, expression, ownOnly, taskScope, assignments, action, rule, part}
 use Rattle.deck.specs.Layout.{allows, defaultAction, Layout, sections, valueOf, read, layouts}
@@ -264,11 +264,11 @@ module _ (form : Form) where
       })
 
   -- a test of the last byte that was read
-  require-sees : {A : Type 0} (b : Bool) (n p : ℕ) → AtOnce n → (q : Reader A) (s : List ℕ) (at : ℕ) → suc p ≡ at
-      → Sees FoundIn (λ t. q t at) at s (q s at) → Sees FoundIn (λ t. (require b n p >> q) t at) at s ((require b n p >> q) s at)
-  unfolding require _>>_ andThen give fault
-  require-sees true n p shown q s at e x = x
-  require-sees false n p shown q s at e x = fault-sees n p shown s at e
+  expect-sees : {A : Type 0} (b : Bool) (n p : ℕ) → AtOnce n → (q : Reader A) (s : List ℕ) (at : ℕ) → suc p ≡ at
+      → Sees FoundIn (λ t. q t at) at s (q s at) → Sees FoundIn (λ t. (expect b n p >> q) t at) at s ((expect b n p >> q) s at)
+  unfolding expect _>>_ andThen give fault
+  expect-sees true n p shown q s at e x = x
+  expect-sees false n p shown q s at e x = fault-sees n p shown s at e
 
   byte-looks : Looks byte
   unfolding byte
@@ -288,7 +288,7 @@ module _ (form : Form) where
   number-took lo hi [] at g e = refused≢accepted e
   number-took lo hi (b ∷ s) at g e = go (leb lo b && ltb b hi) refl e
     where
-      go : (t : Bool) → (leb lo b && ltb b hi) ≡ t → (require t outOfRange at >> give b) s (suc at) ≡ accepted g
+      go : (t : Bool) → (leb lo b && ltb b hi) ≡ t → (expect t outOfRange at >> give b) s (suc at) ≡ accepted g
           → (lo ≤ g .value) × (suc at ≡ g .at) × (b ∷ s ≡ g .value ∷ g .rest)
       go true h f =
           let same = accepted-inj f in (
@@ -302,14 +302,14 @@ module _ (form : Form) where
   unfolding readers
   number-looks lo hi [] at = ends {p = at} refl (omega arith)
   number-looks lo hi (b ∷ s) at =
-      then-sees (λ t. byte t at) (λ b. require (leb lo b && ltb b hi) outOfRange at >> give b) at (b ∷ s) _ (byte-looks (b ∷ s) at)
-      (λ g e. require-sees (leb lo (g .value) && ltb (g .value) hi) outOfRange at (inl refl)
+      then-sees (λ t. byte t at) (λ b. expect (leb lo b && ltb b hi) outOfRange at >> give b) at (b ∷ s) _ (byte-looks (b ∷ s) at)
+      (λ g e. expect-sees (leb lo (g .value) && ltb (g .value) hi) outOfRange at (inl refl)
       (give (g .value)) (g .rest) (g .at) (ap (λ (h : Got ℕ). h .at) (accepted-inj e)) (give-looks (g .value) (g .rest) (g .at)))
 
-  times-looks : {A : Type 0} {r : Reader A} → Looks r → (n : ℕ) → Looks (times n r)
-  unfolding times _>>=_
-  times-looks x zero = give-looks []
-  times-looks {r} x (suc n) = then-looks r _ x (λ a. then-looks (times n r) _ (times-looks x n) (λ l. give-looks (a ∷ l)))
+  repeats-looks : {A : Type 0} {r : Reader A} → Looks r → (n : ℕ) → Looks (repeats n r)
+  unfolding repeats _>>=_
+  repeats-looks x zero = give-looks []
+  repeats-looks {r} x (suc n) = then-looks r _ x (λ a. then-looks (repeats n r) _ (repeats-looks x n) (λ l. give-looks (a ∷ l)))
 
   rising-looks : (n lo hi : ℕ) → Looks (rising n lo hi)
   unfolding rising _>>=_
@@ -353,7 +353,7 @@ module _ (form : Form) where
     judgedAt bytes = judged (j .whole bytes) (j .find bytes at) (j .has-fault bytes at)
 
     abbrev content : From A
-    content s = andThen (times n byte s at) judgedAt
+    content s = andThen (repeats n byte s at) judgedAt
 
     -- n bytes are there
     content-there : (u t : List ℕ) → length u ≡ n
@@ -492,7 +492,7 @@ module _ (form : Form) where
   assignments-looks sc own (suc n) ts s at =
       then-sees (λ t. number 0 (sc .owns) t at) _ at s _ (number-looks 0 (sc .owns) s at)
       (λ g e.
-      require-sees (not (member (g .value) ts)) repeatedTarget at (inr (inl refl)) _ (g .rest) (g .at)
+      expect-sees (not (member (g .value) ts)) repeatedTarget at (inr (inl refl)) _ (g .rest) (g .at)
       (number-took 0 (sc .owns) s at g e .1)
       (then-looks (expression (numbers sc)) _ (expression-looks (numbers sc) (numbers-find sc own))
       (λ x. then-looks (assignments sc n (g .value ∷ ts)) _ (assignments-looks sc own n (g .value ∷ ts)) (λ rest. give-looks _))
@@ -513,7 +513,7 @@ module _ (form : Form) where
   retired-looks R own new s at =
       then-sees (λ t. number 0 (suc (limits .assignments)) t at) _ at s _ (number-looks 0 (suc (limits .assignments)) s at)
       (λ g e.
-      require-sees (allows New (g .value)) defaultRetired at (inr (inr (refl, new)))
+      expect-sees (allows New (g .value)) defaultRetired at (inr (inr (refl, new)))
       (assignments (ownOnly R) (g .value) []) (g .rest) (g .at)
       (number-took 0 (suc (limits .assignments)) s at g e .1)
       (assignments-looks (ownOnly R) (own-known R own) (g .value) [] (g .rest) (g .at)))
@@ -549,7 +549,7 @@ module _ (form : Form) where
   part-looks : (R M : ℕ) → 0 < R → Looks (part R M)
   unfolding part _>>=_
   part-looks R M own =
-      then-looks (times R value) _ (times-looks value-looks R)
+      then-looks (repeats R value) _ (repeats-looks value-looks R)
       (λ opening.
       then-looks (number 0 (suc M)) _ (number-looks 0 (suc M))
       (λ n.
@@ -610,13 +610,13 @@ module _ (form : Form) where
   unfolding sections
   sections-closed =
       number-closed 1 (suc (limits .channels)) _ λ R.
-      then-closed _ _ (λ _. times-looks (number-looks 33 127) R) λ labels.
+      then-closed _ _ (λ _. repeats-looks (number-looks 33 127) R) λ labels.
       here-closed _ λ rulesAt.
       then-closed _ _ (λ _. number-looks 0 (suc (limits .rules))) λ M.
-      then-closed _ _ (λ own. times-looks (rule-looks R own) M) λ rules.
+      then-closed _ _ (λ own. repeats-looks (rule-looks R own) M) λ rules.
       here-closed _ λ partsAt.
       then-closed _ _ (λ _. number-looks 1 (suc (limits .parts))) λ N.
-      then-closed _ _ (λ own. times-looks (part-looks R M own) N) λ parts.
+      then-closed _ _ (λ own. repeats-looks (part-looks R M own) N) λ parts.
       end-closed _
 
   -- the sections from the first byte on, whatever follows them

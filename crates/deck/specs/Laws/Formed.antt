@@ -6,26 +6,27 @@ use mathlib.Core.List.{List, [], _∷_}
 use lib.Dec.{leb, ltb, eqb}
 use lib.ListN.{length}
 use borrow.Author.Tests.{leb-true, le-leb, ltb-true, lt-ltb}
-use Rattle.lists.specs.Lists.{lists, all, distinct}
+use Rattle.lists.specs.Lists.{lists, allOf, distinct}
 use Rattle.lists.specs.Laws.Booleans.{and-both, and-left, and-right, Five, five, from-five}
-use Rattle.lists.specs.Laws.Alls.{all-map, all-weaken, all-getD}
+use Rattle.lists.specs.Laws.Alls.{allOf-map, allOf-weaken, allOf-getD}
 use Rattle.expression.specs.Reading.{Scope}
 use Rattle.expression.specs.Encoding.{encodeNum, fits, goodNum}
 use Rattle.deck.specs.Deck.{Assignment, Action, Rule, Part, Deck, R, M, N, ruleAt, targets, decks}
 use Rattle.deck.specs.Layout.{ownOnly, taskScope, layouts}
-use Rattle.deck.specs.Encoding.{inRange, isRising, goodLength, goodAssignment, goodAction, goodCondition, goodRule, goodPart, wellFormed, encodings}
+use Rattle.deck.specs.Encoding.{inRange, isRising, fittingLength, goodAssignment, goodAction, goodCondition, goodRule, goodPart}
+use Rattle.deck.specs.Encoding.{wellFormed, encodings}
 
 -- an action that can be carried out: at most four assignments, to different known channels
 pub record Sound (R : ℕ) (a : Action) : Type 0 where
   pub few : length a ≤ 4
-  pub known : all (λ t. ltb t R) (targets a) ≡ true
+  pub known : allOf (λ t. ltb t R) (targets a) ≡ true
   pub different : distinct (targets a) ≡ true
 
 pub record Formed (d : Deck) : Type 0 where
   pub channels : R d ≤ 32
   pub rules : M d ≤ 64
   pub parts : N d ≤ 16
-  pub openings : all (λ p. eqb (length (p .opening)) (R d)) (d .parts) ≡ true
+  pub openings : allOf (λ p. eqb (length (p .opening)) (R d)) (d .parts) ≡ true
   pub default : (r : ℕ) → Sound (R d) (ruleAt d r .default)
   pub action : (r : ℕ) → Sound (R d) (ruleAt d r .action)
 
@@ -62,7 +63,7 @@ module _ (R : ℕ) (r : Rule) where
 module _ (R M : ℕ) (p : Part) where
   abbrev pub PartTests : Type 0
   PartTests =
-      Five (eqb (length (p .opening)) R) (all fits (p .opening)) (leb (length (p .carried)) M) (isRising 0 M (p .carried))
+      Five (eqb (length (p .opening)) R) (allOf fits (p .opening)) (leb (length (p .carried)) M) (isRising 0 M (p .carried))
       (goodCondition (ownOnly R) (p .limit))
 
   pub part-tests : goodPart R M p ≡ true → PartTests
@@ -76,8 +77,8 @@ module _ (R M : ℕ) (p : Part) where
 module _ (d : Deck) where
   abbrev pub DeckTests : Type 0
   DeckTests =
-      Five (inRange 1 32 (R d) && all (inRange 33 126) (d .labels)) (leb (M d) 64) (all (goodRule (R d)) (d .rules))
-      (inRange 1 16 (N d)) (all (goodPart (R d) (M d)) (d .parts))
+      Five (inRange 1 32 (R d) && allOf (inRange 33 126) (d .labels)) (leb (M d) 64) (allOf (goodRule (R d)) (d .rules))
+      (inRange 1 16 (N d)) (allOf (goodPart (R d) (M d)) (d .parts))
 
   pub deck-tests : wellFormed d ≡ true → DeckTests
   unfolding wellFormed
@@ -95,18 +96,18 @@ module _ (sc : Scope) where
   target-known s h =
       let known : Bool = ltb (s .target) (sc .owns) in
       let good : Bool = goodNum sc (s .value) in
-      and-left known good (and-left (known && good) (goodLength (encodeNum (s .value))) h)
+      and-left known good (and-left (known && good) (fittingLength (encodeNum (s .value))) h)
 
   sound : (a : Action) → goodAction sc a ≡ true → Sound (sc .owns) a
   unfolding goodAction targets
   sound a h =
       let few : Bool = leb (length a) 4 in
-      let good : Bool = all (goodAssignment sc) a in
+      let good : Bool = allOf (goodAssignment sc) a in
       let both = and-left (few && good) (distinct (targets a)) h in
       record {
         few = leb-true (length a) 4 (and-left few good both);
-        known = all-map (λ t. ltb t (sc .owns)) (λ s. s .target) a
-            ∙ all-weaken (λ s. ltb (s .target) (sc .owns)) (goodAssignment sc) target-known a (and-right few good both);
+        known = allOf-map (λ t. ltb t (sc .owns)) (λ s. s .target) a
+            ∙ allOf-weaken (λ s. ltb (s .target) (sc .owns)) (goodAssignment sc) target-known a (and-right few good both);
         different = and-right (few && good) (distinct (targets a)) h;
       }
 
@@ -138,23 +139,23 @@ pub formed : (d : Deck) → wellFormed d ≡ true → Formed d
 unfolding inRange ruleAt layouts
 formed d h =
     let channels : Bool = inRange 1 32 (R d) in
-    let labels : Bool = all (inRange 33 126) (d .labels) in
+    let labels : Bool = allOf (inRange 33 126) (d .labels) in
     let tests = deck-tests d h in
     record {
       channels = leb-true (R d) 32 (and-right (leb 1 (R d)) (leb (R d) 32) (and-left channels labels (tests .0)));
       rules = leb-true (M d) 64 (tests .1);
       parts = leb-true (N d) 16 (and-right (leb 1 (N d)) (leb (N d) 16) (tests .3));
-      openings = all-weaken (λ p. eqb (length (p .opening)) (R d)) (goodPart (R d) (M d)) (opening-long (R d) (M d)) (d .parts)
+      openings = allOf-weaken (λ p. eqb (length (p .opening)) (R d)) (goodPart (R d) (M d)) (opening-long (R d) (M d)) (d .parts)
           (tests .4);
       default = λ r. sound (ownOnly (R d)) (ruleAt d r .default)
-          (all-getD (goodDefault (R d)) (d .rules) r _
-          (all-weaken (goodDefault (R d)) (goodRule (R d)) (λ r g. both-good (R d) r g .0) (d .rules) (tests .2))
+          (allOf-getD (goodDefault (R d)) (d .rules) r _
+          (allOf-weaken (goodDefault (R d)) (goodRule (R d)) (λ r g. both-good (R d) r g .0) (d .rules) (tests .2))
           (empty-good (ownOnly (R d))));
       action = λ r.
           let scope = taskScope (R d) (ruleAt d r .everywhere) in
           subst (λ (n : ℕ). Sound n (ruleAt d r .action)) (owns-task (R d) (ruleAt d r .everywhere))
           (sound scope (ruleAt d r .action)
-          (all-getD (goodTask (R d)) (d .rules) r _
-          (all-weaken (goodTask (R d)) (goodRule (R d)) (λ r g. both-good (R d) r g .1) (d .rules) (tests .2))
+          (allOf-getD (goodTask (R d)) (d .rules) r _
+          (allOf-weaken (goodTask (R d)) (goodRule (R d)) (λ r g. both-good (R d) r g .1) (d .rules) (tests .2))
           (empty-good (taskScope (R d) false))));
     }

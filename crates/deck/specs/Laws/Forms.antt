@@ -8,7 +8,7 @@ use native.Mathlib.Nat.{suc-ne-zero}
 use lib.Dec.{eqb}
 use lib.ListN.{length}
 use borrow.Author.Tests.{eqb-true, ne-eqb}
-use Rattle.lists.specs.Laws.Alls.{all-every, all-getD}
+use Rattle.lists.specs.Laws.Alls.{allOf-every, allOf-getD}
 use Rattle.refusals.specs.Outcome.{Outcome, refused, accepted}
 use Rattle.refusals.specs.Laws.Outcomes.{refused≢accepted, accepted-inj}
 use Rattle.refusals.specs.Numbers.{defaultRetired}
@@ -16,18 +16,18 @@ use Rattle.expression.specs.Laws.Bytes.{Bytes}
 use Rattle.deck.specs.declared.Form.{Form}
 use Rattle.deck.specs.declared.Form.the-variants.{Old, New}
 use Rattle.deck.specs.Deck.{Action, Rule, Deck, ruleAt}
-use Rattle.deck.specs.Reader.{Got, Reader, andThen, _>>=_, give, here, number, times, rising, readers}
+use Rattle.deck.specs.Reader.{Got, Reader, andThen, _>>=_, give, here, number, repeats, rising, readers}
 use Rattle.deck.specs.Layout.{ownOnly, assignments, action, allows, defaultAction, rule, Layout, sections, valueOf, read, layouts}
 use Rattle.deck.specs.Encoding.{suitsRule, suits}
 use Rattle.deck.specs.Laws.Reading.{read-suited}
 use Rattle.deck.specs.Laws.Points.{then-inv, default-action}
-use Rattle.deck.specs.Laws.Offsets.{then-next, then-fault, require-fails}
+use Rattle.deck.specs.Laws.Offsets.{then-next, then-fault, expect-fails}
 
 -- ---- decks
 
 pub suits-old : (d : Deck) → suits Old d ≡ true
 unfolding suits suitsRule allows
-suits-old d = all-every (suitsRule Old) (λ _. refl) (d .rules)
+suits-old d = allOf-every (suitsRule Old) (λ _. refl) (d .rules)
 
 no-length : (a : Action) → eqb (length a) 0 ≡ true → a ≡ []
 no-length [] h = refl
@@ -48,7 +48,7 @@ none-rule r e = ap (λ a. eqb (length a) 0) e
 
 pub suits-none : (d : Deck) → suits New d ≡ true → NoDefaults d
 unfolding suits suitsRule allows ruleAt
-suits-none d h r = rule-none (ruleAt d r) (all-getD (suitsRule New) (d .rules) r _ h refl)
+suits-none d h r = rule-none (ruleAt d r) (allOf-getD (suitsRule New) (d .rules) r _ h refl)
 
 -- what is read as a new deck has no default action
 pub new-none : (bytes : List ℕ) → Bytes bytes → (l : Layout) → read New bytes ≡ accepted l → NoDefaults (l .deck)
@@ -70,11 +70,11 @@ then-agree {A} r q k j first later s at g h e i =
 alike : {A : Type 0} (r : Reader A) → Agree r r
 alike r s at g h e i = accepted-inj (sym e ∙ i)
 
-times-agree : {A : Type 0} (r q : Reader A) → Agree r q → (n : ℕ) → Agree (times n r) (times n q)
-unfolding times _>>=_
-times-agree r q a zero = alike (give [])
-times-agree r q a (suc n) =
-    then-agree r q _ _ a (λ x. then-agree (times n r) (times n q) _ _ (times-agree r q a n) (λ xs. alike (give (x ∷ xs))))
+repeats-agree : {A : Type 0} (r q : Reader A) → Agree r q → (n : ℕ) → Agree (repeats n r) (repeats n q)
+unfolding repeats _>>=_
+repeats-agree r q a zero = alike (give [])
+repeats-agree r q a (suc n) =
+    then-agree r q _ _ a (λ x. then-agree (repeats n r) (repeats n q) _ _ (repeats-agree r q a n) (λ xs. alike (give (x ∷ xs))))
 
 -- the two forms of a deck, or twice the same
 module _ (f f′ : Form) where
@@ -92,10 +92,10 @@ module _ (f f′ : Form) where
   unfolding sections _>>=_
   sections-agree =
       then-agree (number 1 33) (number 1 33) _ _ (alike (number 1 33))
-      (λ R. then-agree (times R (number 33 127)) (times R (number 33 127)) _ _ (alike (times R (number 33 127)))
+      (λ R. then-agree (repeats R (number 33 127)) (repeats R (number 33 127)) _ _ (alike (repeats R (number 33 127)))
       (λ labels. then-agree here here _ _ (alike here)
       (λ rulesAt. then-agree (number 0 65) (number 0 65) _ _ (alike (number 0 65))
-      (λ M. then-agree (times M (rule f R)) (times M (rule f′ R)) _ _ (times-agree (rule f R) (rule f′ R) (rule-agree R) M)
+      (λ M. then-agree (repeats M (rule f R)) (repeats M (rule f′ R)) _ _ (repeats-agree (rule f R) (rule f′ R) (rule-agree R) M)
       (λ rules. alike _)))))
 
   -- bytes that are read in both forms hold the same deck, whatever the numbers in place of bytes
@@ -131,4 +131,4 @@ module _ (R : ℕ) (s : List ℕ) (at : ℕ) where
   unfolding defaultAction allows readers
   default-some {g} e h =
       let some = ne-eqb (g .value) 0 (λ z. omega (arith, z, h)) in
-      then-next _ e ∙ then-fault _ (require-fails defaultRetired at (g .rest) (g .at) some)
+      then-next _ e ∙ then-fault _ (expect-fails defaultRetired at (g .rest) (g .at) some)

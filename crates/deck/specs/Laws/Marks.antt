@@ -5,7 +5,7 @@ use mathlib.Core.List.{List, map}
 use lib.Dec.{eqb}
 use Rattle.refusals.specs.Outcome.{Outcome, refused, accepted}
 use Rattle.deck.specs.declared.Form.{Form}
-use Rattle.deck.specs.Reader.{Got, Reader, andThen, number, times, rising, value, end, readers}
+use Rattle.deck.specs.Reader.{Got, Reader, andThen, number, repeats, rising, value, end, readers}
 use Rattle.deck.specs.Layout.{truths, expression, ownOnly, taskScope, action, rule, part, sections, valueOf, read, defaultAction}
 use Rattle.deck.specs.Marks.{markedTask, markedRule, ruleOf, markedPart, markedFront, markedSections, unmarked}
 
@@ -47,7 +47,7 @@ rule-marked f R s at =
 part-marked : (R M : ℕ) (s : List ℕ) (at : ℕ) → part R M s at ≡ mapGot (λ m. m .part) (markedPart R M s at)
 unfolding part markedPart readers
 part-marked R M s at =
-    step (λ m. m .part) (times R value s at) _ _
+    step (λ m. m .part) (repeats R value s at) _ _
     (λ opening s at.
     step (λ m. m .part) (number 0 (suc M) s at) _ _
     (λ n s at.
@@ -61,36 +61,38 @@ unfolding andThen
 both-steps h k o (refused n p) f g e agree = ap (λ o. andThen o f) e
 both-steps h k o (accepted x) f g e agree = ap (λ o. andThen o f) e ∙ agree (x .value) (x .rest) (x .at)
 
-both-inside : {A B C D E : Type 0} (h : B → A) (k : E → C) (o : Outcome (Got A)) (p : Outcome (Got B)) (f : A → Reader C) (g : B → Reader D) (q : D → Reader E)
-    → o ≡ mapGot h p → ((b : B) (s : List ℕ) (at : ℕ) → f (h b) s at ≡ mapGot k (andThen (g b s at) q)) → andThen o f ≡ mapGot k (andThen (andThen p g) q)
+both-inside : {A B C D E : Type 0} (h : B → A) (k : E → C) (o : Outcome (Got A)) (p : Outcome (Got B)) (f : A → Reader C) (g : B
+    → Reader D) (q : D → Reader E)
+    → o ≡ mapGot h p → ((b : B) (s : List ℕ) (at : ℕ) → f (h b) s at ≡ mapGot k (andThen (g b s at) q))
+    → andThen o f ≡ mapGot k (andThen (andThen p g) q)
 unfolding andThen
 both-inside h k o (refused n p) f g q e agree = ap (λ o. andThen o f) e
 both-inside h k o (accepted x) f g q e agree = ap (λ o. andThen o f) e ∙ agree (x .value) (x .rest) (x .at)
 
-times-marked : {A B : Type 0} (h : B → A) (r : Reader A) (q : Reader B) → ((s : List ℕ) (at : ℕ) → r s at ≡ mapGot h (q s at))
-    → (n : ℕ) (s : List ℕ) (at : ℕ) → times n r s at ≡ mapGot (map h) (times n q s at)
+repeats-marked : {A B : Type 0} (h : B → A) (r : Reader A) (q : Reader B) → ((s : List ℕ) (at : ℕ) → r s at ≡ mapGot h (q s at))
+    → (n : ℕ) (s : List ℕ) (at : ℕ) → repeats n r s at ≡ mapGot (map h) (repeats n q s at)
 unfolding readers
-times-marked h r q e zero s at = refl
-times-marked h r q e (suc n) s at =
+repeats-marked h r q e zero s at = refl
+repeats-marked h r q e (suc n) s at =
     both-steps h (map h) (r s at) (q s at) _ _ (e s at)
-    (λ b s at. both-steps (map h) (map h) (times n r s at) (times n q s at) _ _ (times-marked h r q e n s at) (λ bs s at. refl))
+    (λ b s at. both-steps (map h) (map h) (repeats n r s at) (repeats n q s at) _ _ (repeats-marked h r q e n s at) (λ bs s at. refl))
 
 pub sections-marked : (f : Form) (s : List ℕ) (at : ℕ) → sections f s at ≡ mapGot unmarked (markedSections f s at)
 unfolding sections markedFront markedSections unmarked readers
 sections-marked f s at =
     step-inside unmarked (number 1 33 s at) _ _ _
     (λ R s at.
-    step-inside unmarked (times R (number 33 127) s at) _ _ _
+    step-inside unmarked (repeats R (number 33 127) s at) _ _ _
     (λ labels s at.
     step-inside unmarked (number 0 65 s at) _ _ _
     (λ M s at.
-    both-inside (map ruleOf) unmarked (times M (rule f R) s at) (times M (markedRule f R) s at) _ _ _
-    (times-marked ruleOf (rule f R) (markedRule f R) (rule-marked f R) M s at)
+    both-inside (map ruleOf) unmarked (repeats M (rule f R) s at) (repeats M (markedRule f R) s at) _ _ _
+    (repeats-marked ruleOf (rule f R) (markedRule f R) (rule-marked f R) M s at)
     (λ rules s at.
     step unmarked (number 1 17 s at) _ _
     (λ N s at.
-    both-steps (map (λ p. p .part)) unmarked (times N (part R M) s at) (times N (markedPart R M) s at) _ _
-    (times-marked (λ p. p .part) (part R M) (markedPart R M) (part-marked R M) N s at)
+    both-steps (map (λ p. p .part)) unmarked (repeats N (part R M) s at) (repeats N (markedPart R M) s at) _ _
+    (repeats-marked (λ p. p .part) (part R M) (markedPart R M) (part-marked R M) N s at)
     (λ parts s at. step unmarked (end s at) _ _ (λ _ s at. refl)))))))
 
 pub read-marked : (f : Form) (s : List ℕ) → read f s ≡ valueOf (mapGot unmarked (markedSections f s 0))

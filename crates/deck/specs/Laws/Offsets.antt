@@ -17,11 +17,11 @@ use Rattle.expression.specs.Faults.{Found, sound, faulty, firstFault}
 use Rattle.expression.specs.Searching.{awaitedFor, answerFor}
 use Rattle.expression.specs.declared.Search.{Search}
 use Rattle.expression.specs.declared.Search.the-variants as Of
-use Rattle.deck.specs.Reader.{Got, Reader, andThen, _>>=_, give, require, byte, number, times, readers}
+use Rattle.deck.specs.Reader.{Got, Reader, andThen, _>>=_, give, expect, byte, number, repeats, readers}
 use Rattle.deck.specs.Layout.{Expected, numbers, truths, judged, expression}
 use Rattle.deck.specs.Marks.{Reads, expressionFor, isWhole, assignment}
-use Rattle.deck.specs.declared.Step.{Step}
-use Rattle.deck.specs.declared.Step.the-variants.{Next, Fault}
+use Rattle.deck.specs.declared.Advance.{Advance}
+use Rattle.deck.specs.declared.Advance.the-variants.{Next, Fault}
 use Rattle.deck.specs.Laws.Turns.{number-below}
 use Rattle.deck.specs.Laws.Judging.{judged-read, judged-nothing, value-got, whole-if-sound, none-if-faulty}
 
@@ -41,39 +41,39 @@ module _ {A B : Type 0} {o : Outcome (Got A)} (f : A → Reader B) where
   then-fault e = ap (λ o. andThen o f) e
 
 -- the last reading, and then f of its value
-pub reads-last : {A B : Type 0} (s : List ℕ) (o : Outcome (Got A)) (P : A → Type 0) (f : A → B) (Q : B → Type 0) (step : Step)
+pub reads-last : {A B : Type 0} (s : List ℕ) (o : Outcome (Got A)) (P : A → Type 0) (f : A → B) (Q : B → Type 0) (step : Advance)
     → ((a : A) → P a → Q (f a)) → Reads s o P step → Reads s (andThen o (λ a. give (f a))) Q step
 unfolding give
 reads-last s o P f Q (Next n) q r = (f (r .0), then-next (λ a. give (f a)) (r .1), r .2, q (r .0) (r .3))
 reads-last s o P f Q (Fault n p) q r = then-fault (λ a. give (f a)) r
 
 module _ {b : Bool} (n p : ℕ) (s : List ℕ) (at : ℕ) where
-  require-passes : b ≡ true → require b n p s at ≡ accepted (record { value = tt; rest = s; at = at })
+  expect-passes : b ≡ true → expect b n p s at ≡ accepted (record { value = tt; rest = s; at = at })
   unfolding readers
-  require-passes e = ap (λ b. require b n p s at) e
+  expect-passes e = ap (λ b. expect b n p s at) e
 
-  pub require-fails : b ≡ false → require b n p s at ≡ refused n p
+  pub expect-fails : b ≡ false → expect b n p s at ≡ refused n p
   unfolding readers
-  require-fails e = ap (λ b. require b n p s at) e
+  expect-fails e = ap (λ b. expect b n p s at) e
 
 -- ---- an expression
 
 pub bytes-there : (n : ℕ) (s : List ℕ) (at : ℕ) → n ≤ length s
-    → times n byte s at ≡ accepted (record { value = take n s; rest = drop n s; at = at + n })
+    → repeats n byte s at ≡ accepted (record { value = take n s; rest = drop n s; at = at + n })
 unfolding readers
 bytes-there zero s at h = rw (add-zero at) refl
 bytes-there (suc n) (b ∷ s) at h =
-    let e : times n byte s (suc at) ≡ accepted (record { value = take n s; rest = drop n s; at = suc at + n })
+    let e : repeats n byte s (suc at) ≡ accepted (record { value = take n s; rest = drop n s; at = suc at + n })
     = bytes-there n s (suc at) (omega arith) in
     let k : suc at + n ≡ at + suc n = omega arith in
     ap (λ o. andThen o (λ xs. give (b ∷ xs))) e ∙ ap (λ p. accepted (record { value = b ∷ take n s; rest = drop n s; at = p })) k
 bytes-there (suc n) [] at h = absurd (omega arith)
 
-pub bytes-short : (n : ℕ) (s : List ℕ) (at : ℕ) → length s < n → times n byte s at ≡ refused deckEnds (at + length s)
+pub bytes-short : (n : ℕ) (s : List ℕ) (at : ℕ) → length s < n → repeats n byte s at ≡ refused deckEnds (at + length s)
 unfolding readers
 bytes-short zero s at h = absurd (omega arith)
 bytes-short (suc n) (b ∷ s) at h =
-    let e : times n byte s (suc at) ≡ refused deckEnds (suc at + length s) = bytes-short n s (suc at) (omega arith) in
+    let e : repeats n byte s (suc at) ≡ refused deckEnds (suc at + length s) = bytes-short n s (suc at) (omega arith) in
     ap (λ o. andThen o (λ xs. give (b ∷ xs))) e ∙ ap (λ p. refused deckEnds p) (omega arith)
 bytes-short (suc n) [] at h = ap (λ p. refused deckEnds p) (omega arith)
 
@@ -111,7 +111,7 @@ module _ {A : Type 0} (j : Expected A) (s : List ℕ) (at n from : ℕ)
       whole-there h ∙ judged-nothing (j .whole bytes) (j .find bytes from) (j .has-fault bytes from) (drop (from + n) s) (from + n) w f
 
 -- the search's answer as a step
-abbrev pub stepOf : Search → Step
+abbrev pub stepOf : Search → Advance
 stepOf (Of.After n) = Next n
 stepOf (Of.Fault k p) = Fault k p
 
@@ -178,15 +178,15 @@ module _ (sc : Scope) (ts : List ℕ) (s : List ℕ) (at : ℕ) where
   pub assignment-repeated : {g : Got ℕ} → number 0 (sc .owns) s at ≡ accepted g → member (g .value) ts ≡ true
       → assignment sc ts s at ≡ refused repeatedTarget at
   unfolding assignment readers
-  assignment-repeated e m = then-next _ e ∙ then-fault _ (require-fails repeatedTarget at _ _ (ap not m))
+  assignment-repeated e m = then-next _ e ∙ then-fault _ (expect-fails repeatedTarget at _ _ (ap not m))
 
   -- the target is new, and the expression's reading is the assignment's
   new-target : {g : Got ℕ} → number 0 (sc .owns) s at ≡ accepted g → member (g .value) ts ≡ false
       → assignment sc ts s at ≡ andThen (expression (numbers sc) (g .rest) (g .at)) (λ e. give (record { target = g .value; value = e }))
   unfolding assignment readers
-  new-target e m = then-next _ e ∙ then-next _ (require-passes repeatedTarget at _ _ (ap not m))
+  new-target e m = then-next _ e ∙ then-next _ (expect-passes repeatedTarget at _ _ (ap not m))
 
-pub assignment-value : (sc : Scope) (ts : List ℕ) (s : List ℕ) (at t next : ℕ) (step : Step)
+pub assignment-value : (sc : Scope) (ts : List ℕ) (s : List ℕ) (at t next : ℕ) (step : Advance)
     → number 0 (sc .owns) (drop at s) at ≡ accepted (gotTo s t next) → member t ts ≡ false
     → Reads s (expressionFor false sc (drop next s) next) (λ _. Unit {0}) step
     → Reads s (assignment sc ts (drop at s) at) (λ a. (t ≡ a .target) × (a .target < sc .owns)) step

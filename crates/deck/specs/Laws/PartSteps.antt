@@ -7,11 +7,11 @@ use lib.IntN.{ℤ}
 use lib.ListN.{drop}
 use Rattle.lists.specs.Bits.{maskOf}
 use Rattle.refusals.specs.Outcome.{Outcome, refused, accepted}
-use Rattle.deck.specs.Reader.{Got, Reader, _>>=_, andThen, give, here, number, times, rising, value}
+use Rattle.deck.specs.Reader.{Got, Reader, _>>=_, andThen, give, here, number, repeats, rising, value}
 use Rattle.deck.specs.Layout.{truths, expression, ownOnly}
 use Rattle.deck.specs.Marks.{MarkedPart, markedPart, partRow, Reads, scopeOf, expressionFor, marks}
 use Rattle.deck.specs.Laws.Offsets.{then-next, then-fault, reads-last}
-use Rattle.deck.specs.declared.Step.{Step}
+use Rattle.deck.specs.declared.Advance.{Advance}
 
 -- what was read at n of s
 abbrev pub gotAt : {A : Type 0} → List ℕ → A → ℕ → Outcome (Got A)
@@ -25,11 +25,11 @@ module _ (R M : ℕ) (s : List ℕ) (at : ℕ) where
   abbrev whole : Outcome (Got MarkedPart)
   whole = markedPart R M (drop at s) at
 
-  pub no-values : {n p : ℕ} → times R value (drop at s) at ≡ refused n p → whole ≡ refused n p
+  pub no-values : {n p : ℕ} → repeats R value (drop at s) at ≡ refused n p → whole ≡ refused n p
   unfolding markedPart _>>=_
   no-values e = here-next _ (drop at s) at ∙ then-fault _ e
 
-  module _ (vs : List ℤ) (a : ℕ) (e : times R value (drop at s) at ≡ gotAt s vs a) where
+  module _ (vs : List ℤ) (a : ℕ) (e : repeats R value (drop at s) at ≡ gotAt s vs a) where
     pub no-count : {n p : ℕ} → number 0 (suc M) (drop a s) a ≡ refused n p → whole ≡ refused n p
     unfolding markedPart _>>=_
     no-count f = here-next _ (drop at s) at ∙ then-next _ e ∙ then-fault _ f
@@ -51,7 +51,8 @@ module _ (R M : ℕ) (s : List ℕ) (at : ℕ) where
             ∙ then-next _ g ∙ here-next _ (drop l s) l
 
         -- the row that the code keeps, mask being the set of the carried rules
-        pub part-read : (mask : ℕ) (step : Step) → mask ≡ maskOf cs → Reads s (expressionFor true (scopeOf R 0) (drop l s) l) (λ _. Unit {0}) step
+        pub part-read : (mask : ℕ) (step : Advance) → mask ≡ maskOf cs
+            → Reads s (expressionFor true (scopeOf R 0) (drop l s) l) (λ _. Unit {0}) step
             → Reads s whole (λ m. mask ∷ at ∷ l ∷ 0 ∷ [] ≡ partRow m) step
         unfolding marks ownOnly
         part-read mask step same h =

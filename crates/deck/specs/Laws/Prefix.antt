@@ -27,7 +27,8 @@ use Rattle.deck.specs.Laws.Judging.{judged-cases}
 use Rattle.deck.specs.Encoding.{encode, wellFormed, suits}
 use Rattle.deck.specs.Laws.Exact.{Accepts, accepting, refusing, accepts}
 use Rattle.deck.specs.Laws.Within.{Continues, both-refuse, both-accept, Within, Anything, widen, at-most, forget, give-within}
-use Rattle.deck.specs.Laws.Within.{fault-within, here-within, require-within, end-within, then-within, byte-within, number-within, times-within, rising-within, value-within}
+use Rattle.deck.specs.Laws.Within.{fault-within, here-within, expect-within, end-within, then-within, byte-within, number-within}
+use Rattle.deck.specs.Laws.Within.{repeats-within, rising-within, value-within}
 use Rattle.deck.specs.Laws.Reading.{sections-encode, read-formed, read-suited, read-encoded}
 
 -- ---- the most bytes of each thing
@@ -60,7 +61,7 @@ expression-within : {A : Type 0} (j : Expected A) → Within Anything expression
 unfolding layouts readers
 expression-within j =
     then-within (number-within 1 (suc (limits .expression))) λ n h. here-within λ p.
-    then-within (at-most (limits .expression) (omega arith) (times-within byte-within n)) λ s _.
+    then-within (at-most (limits .expression) (omega arith) (repeats-within byte-within n)) λ s _.
     judged-within (j .whole s) (j .find s p) (j .has-fault s p)
 
 assignments-within : (sc : Scope) (n : ℕ) (ts : List ℕ) → Within Anything (n * assignmentSize) (n * assignmentSize) (assignments sc n ts)
@@ -69,7 +70,7 @@ assignments-within sc zero ts = give-within [] tt
 assignments-within sc (suc n) ts =
     here-within λ p. widen (omega arith) (omega arith)
     (then-within (number-within 0 (sc .owns)) λ t _.
-    require-within (not (member t ts)) repeatedTarget p λ _.
+    expect-within (not (member t ts)) repeatedTarget p λ _.
     then-within (expression-within (numbers sc)) λ e _.
     then-within (assignments-within sc n (t ∷ ts)) λ a _.
     give-within (record { target = t; value = e } ∷ a) tt)
@@ -87,10 +88,10 @@ default-within : (f : Form) (R : ℕ) → Within Anything (defaultSize f) (defau
 unfolding layouts readers
 default-within Old R =
     here-within λ p. then-within (number-within 0 (suc (limits .assignments))) λ n h.
-    require-within true defaultRetired p λ _. assignments-most (ownOnly R) n (limits .assignments) (omega arith)
+    expect-within true defaultRetired p λ _. assignments-most (ownOnly R) n (limits .assignments) (omega arith)
 default-within New R =
     here-within λ p. then-within (number-within 0 (suc (limits .assignments))) λ n _.
-    require-within (eqb n 0) defaultRetired p λ e. assignments-most (ownOnly R) n 0 (omega (arith, eqb-true n 0 e))
+    expect-within (eqb n 0) defaultRetired p λ e. assignments-most (ownOnly R) n 0 (omega (arith, eqb-true n 0 e))
 
 rule-within : (f : Form) (R : ℕ) → Within Anything (ruleSize f) (ruleSize f) (rule f R)
 unfolding layouts readers
@@ -107,7 +108,7 @@ rule-within f R =
 part-within : (R M : ℕ) → R < suc (limits .channels) → M < suc (limits .rules) → Within Anything partSize partSize (part R M)
 unfolding layouts readers
 part-within R M h k =
-    then-within (at-most (limits .channels * 4) (omega arith) (times-within value-within R)) λ opening _.
+    then-within (at-most (limits .channels * 4) (omega arith) (repeats-within value-within R)) λ opening _.
     then-within (number-within 0 (suc M)) λ n l.
     then-within (at-most (limits .rules) (omega arith) (rising-within n 0 M)) λ carried _.
     then-within (expression-within (truths (ownOnly R))) λ limit _.
@@ -127,13 +128,13 @@ unfolding layouts readers
 sections-within f =
     widen (sizes f .0) (sizes f .1)
     (then-within (number-within 1 (suc (limits .channels))) λ R h.
-    then-within (at-most (limits .channels) (omega arith) (times-within {m = 1} (forget (number-within 33 127)) R)) λ labels _.
+    then-within (at-most (limits .channels) (omega arith) (repeats-within {m = 1} (forget (number-within 33 127)) R)) λ labels _.
     here-within λ rulesAt.
     then-within (number-within 0 (suc (limits .rules))) λ M k.
-    then-within (at-most (limits .rules * ruleSize f) (few M (ruleSize f) k) (times-within (rule-within f R) M)) λ rules _.
+    then-within (at-most (limits .rules * ruleSize f) (few M (ruleSize f) k) (repeats-within (rule-within f R) M)) λ rules _.
     here-within λ partsAt.
     then-within (number-within 1 (suc (limits .parts))) λ N l.
-    then-within (at-most (limits .parts * partSize) (omega arith) (times-within (part-within R M h k) N)) λ parts _.
+    then-within (at-most (limits .parts * partSize) (omega arith) (repeats-within (part-within R M h k) N)) λ parts _.
     end-within _)
 
 -- ---- the whole deck

@@ -6,23 +6,23 @@ use mathlib.Core.List.{List, [], _∷_, _++_, append-nil}
 use native.Mathlib.Nat.{suc-inj, suc-ne-zero}
 use lib.Dec.{leb, ltb, lit<}
 use lib.ListN.{length, getD}
-use Rattle.lists.specs.Lists.{all, flatMap, lists}
+use Rattle.lists.specs.Lists.{allOf, flatMap, lists}
 use Rattle.lists.specs.Laws.Booleans.{and-both, and-left, and-right}
-use Rattle.lists.specs.Laws.Alls.{all-every}
+use Rattle.lists.specs.Laws.Alls.{allOf-every}
 use Rattle.lists.specs.Laws.FlatMaps.{flatMap-one}
 use Rattle.refusals.specs.Numbers.{outOfRange}
 use Rattle.expression.specs.Reading.{word, signed}
 use Rattle.expression.specs.Encoding.{encodeValue, fits}
 use Rattle.expression.specs.Laws.Bytes.{byte-below}
 use Rattle.expression.specs.Laws.Value.{FourBytes, four-bytes, encode-word, word-fits}
-use Rattle.deck.specs.Reader.{Reader, give, byte, number, times, rising, value, readers}
+use Rattle.deck.specs.Reader.{Reader, give, byte, number, repeats, rising, value, readers}
 use Rattle.deck.specs.Encoding.{isRising, encodings}
-use Rattle.deck.specs.Laws.Exact.{Exact, Any, Coded, Then, exact-by, give-exact, here-exact, require-exact, byte-exact, then-exact}
+use Rattle.deck.specs.Laws.Exact.{Exact, Any, Coded, Then, exact-by, give-exact, here-exact, expect-exact, byte-exact, then-exact}
 
 pub number-exact : (lo hi : ℕ) → Exact Any (number lo hi) (Coded (λ b. b ∷ []) (λ b. (leb lo b && ltb b hi) ≡ true))
 unfolding readers
 number-exact lo hi =
-    exact-by (here-exact λ p. then-exact byte-exact λ b. require-exact (leb lo b && ltb b hi) outOfRange p (give-exact b))
+    exact-by (here-exact λ p. then-exact byte-exact λ b. expect-exact (leb lo b && ltb b hi) outOfRange p (give-exact b))
     (λ at a w _ p. rw (p .4 .1 .0, p .2, p .4 .1 .1) (p .4 .0, refl))
     (λ at a w q. (a, [], q .1, tt, (q .0, (refl, refl))))
 
@@ -57,29 +57,30 @@ module _ {A : Type 0} (enc : A → List ℕ) where
       back : (at : ℕ) (xs : List A) (w : List ℕ) → All xs → w ≡ flatMap enc xs
           → Then enc Ok (λ y. Then (flatMap enc) (Others y) (λ ys at xs w. (xs ≡ y ∷ ys) × (w ≡ []))) at xs w
       back at [] w q e = absurd (never q)
-      back at (y ∷ ys) w q e = (y, flatMap enc ys, e, part y ys q .0, (ys, [], sym (append-nil (flatMap enc ys)), part y ys q .1, (refl, refl)))
+      back at (y ∷ ys) w q e =
+          (y, flatMap enc ys, e, part y ys q .0, (ys, [], sym (append-nil (flatMap enc ys)), part y ys q .1, (refl, refl)))
 
 module _ {A : Type 0} {r : Reader A} {enc : A → List ℕ} {ok : A → Bool} (x : Exact Any r (Coded enc (λ a. ok a ≡ true))) where
-  pub times-exact : (n : ℕ) → Exact Any (times n r) (Coded (flatMap enc) (λ xs. (length xs ≡ n) × (all ok xs ≡ true)))
+  pub repeats-exact : (n : ℕ) → Exact Any (repeats n r) (Coded (flatMap enc) (λ xs. (length xs ≡ n) × (allOf ok xs ≡ true)))
   unfolding readers lists
-  times-exact zero = nil-exact enc _ (refl, refl) (λ y ys q. suc-ne-zero _ (q .0))
-  times-exact (suc n) =
-      cons-exact enc _ (λ y ys. (length ys ≡ n) × (all ok ys ≡ true)) _
+  repeats-exact zero = nil-exact enc _ (refl, refl) (λ y ys q. suc-ne-zero _ (q .0))
+  repeats-exact (suc n) =
+      cons-exact enc _ (λ y ys. (length ys ≡ n) × (allOf ok ys ≡ true)) _
       (λ q. suc-ne-zero _ (sym (q .0)))
       (λ y ys p q. (ap suc (q .0), and-both p (q .1)))
       (λ y ys q. (and-left (ok y) _ (q .1), (suc-inj (q .0), and-right (ok y) _ (q .1))))
-      (then-exact x λ y. then-exact (times-exact n) λ ys. give-exact (y ∷ ys))
+      (then-exact x λ y. then-exact (repeats-exact n) λ ys. give-exact (y ∷ ys))
 
 -- a list of bytes is its own encoding
 pub bytes-coded : {r : Reader (List ℕ)} {Ok : List ℕ → Type 0} → Exact Any r (Coded (flatMap (λ b. b ∷ [])) Ok)
     → Exact Any r (Coded (λ s. s) Ok)
 bytes-coded x = exact-by x (λ at s w _ p. (p .0, p .1 ∙ flatMap-one s)) (λ at s w q. (q .0, q .1 ∙ sym (flatMap-one s)))
 
-pub bytes-exact : (n : ℕ) → Exact Any (times n byte) (Coded (λ s. s) (λ s. length s ≡ n))
+pub bytes-exact : (n : ℕ) → Exact Any (repeats n byte) (Coded (λ s. s) (λ s. length s ≡ n))
 bytes-exact n =
-    exact-by (bytes-coded (times-exact {ok = λ _. true} (exact-by byte-exact (λ at b w _ p. (refl, p .1)) (λ at b w q. (tt, q .1))) n))
+    exact-by (bytes-coded (repeats-exact {ok = λ _. true} (exact-by byte-exact (λ at b w _ p. (refl, p .1)) (λ at b w q. (tt, q .1))) n))
     (λ at s w _ p. (p .0 .0, p .1))
-    (λ at s w q. ((q .0, all-every (λ _. true) (λ _. refl) s), q .1))
+    (λ at s w q. ((q .0, allOf-every (λ _. true) (λ _. refl) s), q .1))
 
 rising-from : (n lo hi : ℕ)
     → Exact Any (rising n lo hi) (Coded (flatMap (λ c. c ∷ [])) (λ cs. (length cs ≡ n) × (isRising lo hi cs ≡ true)))
@@ -121,5 +122,11 @@ value-exact =
       f .second ∷ f .third ∷ f .fourth ∷ [],
       q .1 ∙ f .bytes,
       tt,
-      (f .second, f .third ∷ f .fourth ∷ [], refl, tt, (f .third, f .fourth ∷ [], refl, tt, (f .fourth, [], refl, tt, (sym (f .value), refl)))),
+      (
+        f .second,
+        f .third ∷ f .fourth ∷ [],
+        refl,
+        tt,
+        (f .third, f .fourth ∷ [], refl, tt, (f .fourth, [], refl, tt, (sym (f .value), refl))),
+      ),
     ))

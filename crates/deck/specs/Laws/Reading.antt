@@ -43,7 +43,8 @@ module _ (f : Form) (bytes : List ℕ) (b : Bytes bytes) (l : Layout) (e : read 
   pub read-encoded : bytes ≡ encode (l .deck)
   read-encoded = accepts (read-layout f bytes b) e .bytes
 
-  pub sections-exactly : (l .rulesAt ≡ length (encodeChannels (l .deck))) × (l .partsAt ≡ length (encodeChannels (l .deck)) + length (encodeRules (l .deck)))
+  pub sections-exactly : (l .rulesAt ≡ length (encodeChannels (l .deck)))
+      × (l .partsAt ≡ length (encodeChannels (l .deck)) + length (encodeRules (l .deck)))
   sections-exactly =
       let w = accepts (read-layout f bytes b) e in
       (w .rules ∙ zero-add _, w .parts ∙ ap (λ n. n + length (encodeRules (l .deck))) (zero-add _))
@@ -51,18 +52,18 @@ module _ (f : Form) (bytes : List ℕ) (b : Bytes bytes) (l : Layout) (e : read 
 -- ---- what is read
 
 -- a deck with the offsets of its sections
-abbrev pub layoutOf : Deck → Layout
-layoutOf d = record { deck = d; rulesAt = length (encodeChannels d); partsAt = length (encodeChannels d) + length (encodeRules d) }
+abbrev pub encodedLayout : Deck → Layout
+encodedLayout d = record { deck = d; rulesAt = length (encodeChannels d); partsAt = length (encodeChannels d) + length (encodeRules d) }
 
 pub sections-encode : (f : Form) (d : Deck) → wellFormed d ≡ true → suits f d ≡ true
-    → sections f (encode d) 0 ≡ accepted (record { value = layoutOf d; rest = []; at = 0 + length (encode d) })
+    → sections f (encode d) 0 ≡ accepted (record { value = encodedLayout d; rest = []; at = 0 + length (encode d) })
 sections-encode f d h k =
     let parts = ap (λ n. n + length (encodeRules d)) (sym (zero-add _)) in
-    let p : LayoutWord f 0 (layoutOf d) (encode d)
+    let p : LayoutWord f 0 (encodedLayout d) (encode d)
     = record { formed = h; suited = k; bytes = refl; rules = sym (zero-add _); parts = parts } in
-    ap (λ s. sections f s 0) (sym (append-nil (encode d))) ∙ sections-exact f .complete 0 (layoutOf d) (encode d) [] p refl
+    ap (λ s. sections f s 0) (sym (append-nil (encode d))) ∙ sections-exact f .complete 0 (encodedLayout d) (encode d) [] p refl
 
-pub read-encode : (f : Form) (d : Deck) → wellFormed d ≡ true → suits f d ≡ true → read f (encode d) ≡ accepted (layoutOf d)
+pub read-encode : (f : Form) (d : Deck) → wellFormed d ≡ true → suits f d ≡ true → read f (encode d) ≡ accepted (encodedLayout d)
 unfolding read valueOf
 read-encode f d h k = ap valueOf (sections-encode f d h k)
 
@@ -81,5 +82,5 @@ reads-exactly f bytes b d =
     record {
       reads = λ (l, e, same).
           rw (← same) (read-formed f bytes b l e, read-encoded f bytes b l e, read-suited f bytes b l e);
-      accepts = λ p. (layoutOf d, ap (read f) (p .1) ∙ read-encode f d (p .0) (p .2), refl);
+      accepts = λ p. (encodedLayout d, ap (read f) (p .1) ∙ read-encode f d (p .0) (p .2), refl);
     }

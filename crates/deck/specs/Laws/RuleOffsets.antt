@@ -17,7 +17,7 @@ use Rattle.deck.specs.Reader.{number, rising, readers}
 use Rattle.deck.specs.Layout.{truths, expression, ownOnly, ownAndFar, taskScope, action, defaultAction}
 use Rattle.deck.specs.Encoding.{kindByte}
 use Rattle.deck.specs.Marks.{Reads, scopeOf, expressionFor, MarkedTask, markedTask, MarkedRule, markedRule, ruleRow}
-use Rattle.deck.specs.declared.Step.{Step}
+use Rattle.deck.specs.declared.Advance.{Advance}
 use Rattle.deck.specs.Laws.Turns.{number-below}
 use Rattle.deck.specs.Laws.Offsets.{gotTo, then-next, then-fault, reads-last}
 
@@ -56,7 +56,7 @@ module _ (R : ℕ) (s : List ℕ) (at kind from : ℕ) (e : number 0 2 (drop at 
       then-next _ e
       ∙ then-fault _ (subst (λ sc. expression (truths sc) (drop from s) from ≡ refused n p) (scope-by-kind R kind small) f)
 
-  pub task-reads : (condition : Truth) (to mask : ℕ) (step : Step)
+  pub task-reads : (condition : Truth) (to mask : ℕ) (step : Advance)
       → expressionFor true (scopeOf R (R * kind)) (drop from s) from ≡ accepted (gotTo s condition to)
       → Reads s (action (scopeOf R (R * kind)) (drop to s) to) (λ a. mask ≡ maskOf (targets a)) step
       → Reads s (markedTask R (drop at s) at) (KeepsTask kind from to mask) step
@@ -95,7 +95,7 @@ module _ (form : Form) (R : ℕ) (s : List ℕ) (at count from : ℕ) (e : numbe
     default-fault g = then-next _ e ∙ then-next _ f ∙ then-fault _ g
 
     -- the row that the code makes, with the sets of the events and of the default action's targets
-    pub rule-reads : (default : Action) (next es ds kind condition act mask : ℕ) (step : Step)
+    pub rule-reads : (default : Action) (next es ds kind condition act mask : ℕ) (step : Advance)
         → es ≡ maskOf events → ds ≡ maskOf (targets default)
         → defaultAction form R (drop to s) to ≡ accepted (gotTo s default next)
         → Reads s (markedTask R (drop next s) next) (KeepsTask kind condition act mask) step

@@ -7,7 +7,7 @@ use native.Mathlib.Omega.{arith}
 use lib.Dec.{leb, ltb, eqb}
 use lib.ListN.{length}
 use borrow.Author.Tests.{ltb-true, eqb-true, eq-eqb}
-use Rattle.lists.specs.Lists.{all, flatMap}
+use Rattle.lists.specs.Lists.{allOf, flatMap}
 use Rattle.lists.specs.Laws.Booleans.{and-both, and-left, and-right, five, from-five}
 use Rattle.expression.specs.Encoding.{encodeValue, encodeTruth, fits, goodTruth}
 use Rattle.expression.specs.Laws.Whole.{whole-truth}
@@ -19,7 +19,7 @@ use Rattle.deck.specs.Layout.{truths, ownOnly, taskScope, rule, part, la
 use Rattle.deck.specs.Encoding.{encodeExpression, encodeAction, kindByte, encodeRule, encodePart}
 use Rattle.deck.specs.Encoding.{inRange, isRising, goodAction, goodCondition, goodRule, goodPart, suitsRule}
 use Rattle.deck.specs.Laws.Exact.{Exact, Any, Coded, exact-by, give-exact, then-exact}
-use Rattle.deck.specs.Laws.Readers.{number-exact, times-exact, rising-exact, value-exact}
+use Rattle.deck.specs.Laws.Readers.{number-exact, repeats-exact, rising-exact, value-exact}
 use Rattle.deck.specs.Laws.Expressions.{range, below-range, zero-range, expression-exact}
 use Rattle.deck.specs.Laws.Actions.{action-exact, default-exact}
 
@@ -40,7 +40,8 @@ encode-rule r =
 pub encode-part : (p : Part)
     → encodePart p ≡ flatMap encodeValue (p .opening) ++ (length (p .carried) ∷ (p .carried ++ encodeExpression (encodeTruth (p .limit))))
 unfolding encodePart
-encode-part p = append-assoc (flatMap encodeValue (p .opening)) (length (p .carried) ∷ p .carried) (encodeExpression (encodeTruth (p .limit)))
+encode-part p =
+    append-assoc (flatMap encodeValue (p .opening)) (length (p .carried) ∷ p .carried) (encodeExpression (encodeTruth (p .limit)))
 
 -- the kind byte is 0 or 1
 kind-byte : (k : ℕ) → k < 2 → kindByte (eqb k 1) ≡ k
@@ -86,7 +87,12 @@ rule-exact f R =
           (goodCondition scope (condition .0)) (goodAction scope (act .0))
           (few, events .3 .1, and-left sound _ (default .3), and-both (condition .3 .0) (condition .3 .1), act .3))
           (and-right sound _ (default .3)),
-      rw (encode-rule (record { events = events .0; default = default .0; everywhere = eqb (kind .0) 1; condition = condition .0; action = act .0 }), is, events .3 .0)
+      rw (
+        encode-rule
+            (record { events = events .0; default = default .0; everywhere = eqb (kind .0) 1; condition = condition .0; action = act .0 }),
+        is,
+        events .3 .0,
+      )
           (rw (p .2, events .2, default .2, kind .2, condition .2, act .2, act .4 .1, append-nil (encodeAction (act .0)))),
     ))
     (λ at r w q.
@@ -133,7 +139,7 @@ pub part-exact : (R M : ℕ) → Exact Any (part R M) (Coded encodePart (λ p. g
 unfolding layouts readers goodPart goodCondition
 part-exact R M =
     exact-by
-    (then-exact (times-exact value-exact R) λ opening.
+    (then-exact (repeats-exact value-exact R) λ opening.
     then-exact (number-exact 0 (suc M)) λ n.
     then-exact (rising-exact n 0 M) λ carried.
     then-exact (expression-exact (truths (ownOnly R)) (whole-truth (ownOnly R))) λ limit.
@@ -143,13 +149,21 @@ part-exact R M =
     let carried = count .4 in
     let limit = carried .4 in
     rw (limit .4 .0) (
-      from-five (eqb (length (p .0)) R) (all fits (p .0)) (leb (length (carried .0)) M) (isRising 0 M (carried .0)) (goodCondition (ownOnly R) (limit .0))
-          (eq-eqb (length (p .0)) R (p .3 .0), p .3 .1, rw (carried .3 .0) (sym (zero-range M (count .0)) ∙ count .3), carried .3 .1, and-both (limit .3 .0) (limit .3 .1)),
+      from-five (eqb (length (p .0)) R) (allOf fits (p .0)) (leb (length (carried .0)) M) (isRising 0 M (carried .0))
+          (goodCondition (ownOnly R) (limit .0)) (
+            eq-eqb (length (p .0)) R (p .3 .0),
+            p .3 .1,
+            rw (carried .3 .0) (sym (zero-range M (count .0)) ∙ count .3),
+            carried .3 .1,
+            and-both (limit .3 .0) (limit .3 .1),
+          ),
       rw (encode-part (record { opening = p .0; carried = carried .0; limit = limit .0 }), carried .3 .0)
           (rw (p .2, count .2, carried .2, limit .2, limit .4 .1, append-nil (encodeExpression (encodeTruth (limit .0))))),
     ))
     (λ at r w q.
-    let good = five (eqb (length (r .opening)) R) (all fits (r .opening)) (leb (length (r .carried)) M) (isRising 0 M (r .carried)) (goodCondition (ownOnly R) (r .limit)) (q .0) in
+    let good =
+    five (eqb (length (r .opening)) R) (allOf fits (r .opening)) (leb (length (r .carried)) M) (isRising 0 M (r .carried))
+    (goodCondition (ownOnly R) (r .limit)) (q .0) in
     let limit = encodeExpression (encodeTruth (r .limit)) in (
       r .opening,
       length (r .carried) ∷ (r .carried ++ limit),
@@ -165,7 +179,13 @@ part-exact R M =
           limit,
           refl,
           (refl, good .3),
-          (r .limit, [], sym (append-nil limit), (and-left (goodTruth (ownOnly R) (r .limit)) _ (good .4), and-right (goodTruth (ownOnly R) (r .limit)) _ (good .4)), (refl, refl)),
+          (
+            r .limit,
+            [],
+            sym (append-nil limit),
+            (and-left (goodTruth (ownOnly R) (r .limit)) _ (good .4), and-right (goodTruth (ownOnly R) (r .limit)) _ (good .4)),
+            (refl, refl),
+          ),
         ),
       ),
     ))

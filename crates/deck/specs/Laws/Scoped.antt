@@ -5,19 +5,20 @@ use mathlib.Core.Bool.{Bool, true, false, _&&_}
 use native.Mathlib.Omega.{arith}
 use lib.Dec.{leb, ltb, eqb}
 use lib.ListN.{length}
-use Rattle.lists.specs.Lists.{lists, all, distinct}
+use Rattle.lists.specs.Lists.{lists, allOf, distinct}
 use Rattle.lists.specs.Laws.Booleans.{and-left, and-right}
-use Rattle.lists.specs.Laws.Alls.{all-weaken, all-getD}
+use Rattle.lists.specs.Laws.Alls.{allOf-weaken, allOf-getD}
 use Rattle.expression.specs.Syntax.{Truth}
 use Rattle.expression.specs.Reading.{Scope}
 use Rattle.expression.specs.Encoding.{encodeNum, encodeTruth, fits, goodNum, goodTruth, encodingExpressions}
 use Rattle.deck.specs.Deck.{Assignment, Action, Rule, Part, Deck, R, M, N, ruleAt, partAt, targets, decks}
 use Rattle.deck.specs.Layout.{ownOnly, taskScope, layouts}
-use Rattle.deck.specs.Encoding.{inRange, isRising, goodLength, goodAssignment, goodAction, goodCondition, goodRule, goodPart, wellFormed}
+use Rattle.deck.specs.Encoding.{inRange, isRising, fittingLength, goodAssignment, goodAction, goodCondition, goodRule, goodPart}
+use Rattle.deck.specs.Encoding.{wellFormed}
 
 -- every assigned expression is in the scope
 abbrev pub allIn : Scope → Action → Bool
-allIn sc a = all (λ s. goodNum sc (s .value)) a
+allIn sc a = allOf (λ s. goodNum sc (s .value)) a
 
 pub record Scoped (d : Deck) : Type 0 where
   pub default : (r : ℕ) → allIn (ownOnly (R d)) (ruleAt d r .default) ≡ true
@@ -37,19 +38,19 @@ module _ (sc : Scope) where
   value-in s h =
       let known : Bool = ltb (s .target) (sc .owns) in
       let good : Bool = goodNum sc (s .value) in
-      and-right known good (and-left (known && good) (goodLength (encodeNum (s .value))) h)
+      and-right known good (and-left (known && good) (fittingLength (encodeNum (s .value))) h)
 
   action-in : (a : Action) → goodAction sc a ≡ true → allIn sc a ≡ true
   unfolding goodAction
   action-in a h =
       let few : Bool = leb (length a) 4 in
-      let good : Bool = all (goodAssignment sc) a in
-      all-weaken (λ s. goodNum sc (s .value)) (goodAssignment sc) value-in a
+      let good : Bool = allOf (goodAssignment sc) a in
+      allOf-weaken (λ s. goodNum sc (s .value)) (goodAssignment sc) value-in a
       (and-right few good (and-left (few && good) (distinct (targets a)) h))
 
   condition-in : (t : Truth) → goodCondition sc t ≡ true → goodTruth sc t ≡ true
   unfolding goodCondition
-  condition-in t h = and-left (goodTruth sc t) (goodLength (encodeTruth t)) h
+  condition-in t h = and-left (goodTruth sc t) (fittingLength (encodeTruth t)) h
 
 module _ (R : ℕ) where
   abbrev defaultIn : Rule → Bool
@@ -93,25 +94,25 @@ module _ (R : ℕ) where
 part-limit : (R M : ℕ) (p : Part) → goodPart R M p ≡ true → goodTruth (ownOnly R) (p .limit) ≡ true
 unfolding goodPart
 part-limit R M p h =
-    let t : Bool = eqb (length (p .opening)) R && all fits (p .opening) && leb (length (p .carried)) M && isRising 0 M (p .carried) in
+    let t : Bool = eqb (length (p .opening)) R && allOf fits (p .opening) && leb (length (p .carried)) M && isRising 0 M (p .carried) in
     condition-in (ownOnly R) (p .limit) (and-right t (goodCondition (ownOnly R) (p .limit)) h)
 
 pub scoped : (d : Deck) → wellFormed d ≡ true → Scoped d
 unfolding wellFormed decks layouts lists encodingExpressions
 scoped d h =
-    let t3 : Bool = inRange 1 32 (R d) && all (inRange 33 126) (d .labels) && leb (M d) 64 in
-    let t4 : Bool = t3 && all (goodRule (R d)) (d .rules) in
+    let t3 : Bool = inRange 1 32 (R d) && allOf (inRange 33 126) (d .labels) && leb (M d) 64 in
+    let t4 : Bool = t3 && allOf (goodRule (R d)) (d .rules) in
     let t5 : Bool = t4 && inRange 1 16 (N d) in
-    let h5 = and-left t5 (all (goodPart (R d) (M d)) (d .parts)) h in
-    let rules = and-right t3 (all (goodRule (R d)) (d .rules)) (and-left t4 (inRange 1 16 (N d)) h5) in
-    let parts = and-right t5 (all (goodPart (R d) (M d)) (d .parts)) h in
+    let h5 = and-left t5 (allOf (goodPart (R d) (M d)) (d .parts)) h in
+    let rules = and-right t3 (allOf (goodRule (R d)) (d .rules)) (and-left t4 (inRange 1 16 (N d)) h5) in
+    let parts = and-right t5 (allOf (goodPart (R d) (M d)) (d .parts)) h in
     record {
-      default = λ r. all-getD (defaultIn (R d)) (d .rules) r _
-          (all-weaken (defaultIn (R d)) (goodRule (R d)) (rule-default (R d)) (d .rules) rules) refl;
-      condition = λ r. all-getD (conditionIn (R d)) (d .rules) r _
-          (all-weaken (conditionIn (R d)) (goodRule (R d)) (rule-condition (R d)) (d .rules) rules) refl;
-      action = λ r. all-getD (actionIn (R d)) (d .rules) r _
-          (all-weaken (actionIn (R d)) (goodRule (R d)) (rule-action (R d)) (d .rules) rules) refl;
-      limit = λ p. all-getD (λ p. goodTruth (ownOnly (R d)) (p .limit)) (d .parts) p _
-          (all-weaken (λ p. goodTruth (ownOnly (R d)) (p .limit)) (goodPart (R d) (M d)) (part-limit (R d) (M d)) (d .parts) parts) refl;
+      default = λ r. allOf-getD (defaultIn (R d)) (d .rules) r _
+          (allOf-weaken (defaultIn (R d)) (goodRule (R d)) (rule-default (R d)) (d .rules) rules) refl;
+      condition = λ r. allOf-getD (conditionIn (R d)) (d .rules) r _
+          (allOf-weaken (conditionIn (R d)) (goodRule (R d)) (rule-condition (R d)) (d .rules) rules) refl;
+      action = λ r. allOf-getD (actionIn (R d)) (d .rules) r _
+          (allOf-weaken (actionIn (R d)) (goodRule (R d)) (rule-action (R d)) (d .rules) rules) refl;
+      limit = λ p. allOf-getD (λ p. goodTruth (ownOnly (R d)) (p .limit)) (d .parts) p _
+          (allOf-weaken (λ p. goodTruth (ownOnly (R d)) (p .limit)) (goodPart (R d) (M d)) (part-limit (R d) (M d)) (d .parts) parts) refl;
     }

@@ -6,29 +6,31 @@ use mathlib.Core.List.{List, [], _∷_, _++_, append-nil, append-assoc}
 use native.Mathlib.Omega.{arith}
 use lib.Dec.{leb}
 use lib.ListN.{length}
-use Rattle.lists.specs.Lists.{all, flatMap, lists}
+use Rattle.lists.specs.Lists.{allOf, flatMap, lists}
 use Rattle.lists.specs.Laws.Booleans.{and-both, and-left, and-right, five, from-five}
-use Rattle.lists.specs.Laws.Alls.{all-weaken}
+use Rattle.lists.specs.Laws.Alls.{allOf-weaken}
 use Rattle.deck.specs.declared.Form.{Form}
 use Rattle.deck.specs.Limits.{limits}
 use Rattle.deck.specs.Deck.{Deck, decks}
-use Rattle.deck.specs.Reader.{number, times, readers}
+use Rattle.deck.specs.Reader.{number, repeats, readers}
 use Rattle.deck.specs.Layout.{Layout, sections, layouts}
 use Rattle.deck.specs.Encoding.{encodeRule, encodePart, encodeChannels, encodeRules, encodeParts, encode}
 use Rattle.deck.specs.Encoding.{inRange, goodRule, goodPart, wellFormed, suitsRule, suits}
 use Rattle.deck.specs.Laws.Exact.{Exact, Any, Nothing, Coded, exact-by, here-exact, end-exact, then-exact}
-use Rattle.deck.specs.Laws.Readers.{number-exact, times-exact, bytes-coded}
+use Rattle.deck.specs.Laws.Readers.{number-exact, repeats-exact, bytes-coded}
 use Rattle.deck.specs.Laws.Expressions.{range, zero-range}
 use Rattle.deck.specs.Laws.Rules.{rule-exact, part-exact}
 
 encode-deck : (d : Deck)
-    → encode d ≡ length (d .labels) ∷ (d .labels ++ (length (d .rules) ∷ (flatMap encodeRule (d .rules) ++ (length (d .parts) ∷ flatMap encodePart (d .parts)))))
+    → encode d
+    ≡ length (d .labels)
+    ∷ (d .labels ++ (length (d .rules) ∷ (flatMap encodeRule (d .rules) ++ (length (d .parts) ∷ flatMap encodePart (d .parts)))))
 unfolding encode encodeChannels encodeRules encodeParts decks
 encode-deck d = append-assoc (encodeChannels d) (encodeRules d) (encodeParts d)
 
 labels-exact : (n : ℕ)
-    → Exact Any (times n (number 33 127)) (Coded (λ s. s) (λ s. (length s ≡ n) × (all (inRange 33 126) s ≡ true)))
-labels-exact n = bytes-coded (times-exact label n)
+    → Exact Any (repeats n (number 33 127)) (Coded (λ s. s) (λ s. (length s ≡ n) × (allOf (inRange 33 126) s ≡ true)))
+labels-exact n = bytes-coded (repeats-exact label n)
   where
     label : Exact Any (number 33 127) (Coded (λ b. b ∷ []) (λ b. inRange 33 126 b ≡ true))
     label =
@@ -37,7 +39,7 @@ labels-exact n = bytes-coded (times-exact label n)
         (λ at b w q. (range 33 126 b ∙ q .0, q .1))
 
 -- two tests of each
-both-all : {A : Type 0} (f g : A → Bool) (l : List A) → all f l ≡ true → all g l ≡ true → all (λ x. f x && g x) l ≡ true
+both-all : {A : Type 0} (f g : A → Bool) (l : List A) → allOf f l ≡ true → allOf g l ≡ true → allOf (λ x. f x && g x) l ≡ true
 unfolding lists
 both-all f g [] h k = refl
 both-all f g (x ∷ l) h k =
@@ -59,10 +61,10 @@ sections-exact f =
     then-exact (labels-exact R) λ labels.
     here-exact λ rulesAt.
     then-exact (number-exact 0 (suc (limits .rules))) λ M.
-    then-exact (times-exact (rule-exact f R) M) λ rules.
+    then-exact (repeats-exact (rule-exact f R) M) λ rules.
     here-exact λ partsAt.
     then-exact (number-exact 1 (suc (limits .parts))) λ N.
-    then-exact (times-exact (part-exact R M) N) λ parts.
+    then-exact (repeats-exact (part-exact R M) N) λ parts.
     end-exact (record { deck = record { labels = labels; rules = rules; parts = parts }; rulesAt = rulesAt; partsAt = partsAt }))
     (λ at l w _ p.
     let labels = p .4 in
@@ -76,15 +78,15 @@ sections-exact f =
     (record {
       formed =
           rw (labels .3 .0, rules .3 .0, parts .3 .0)
-          (from-five (inRange 1 (limits .channels) (p .0) && all (inRange 33 126) (labels .0)) (leb (m .0) (limits .rules))
-          (all (goodRule (p .0)) (rules .0)) (inRange 1 (limits .parts) (n .0)) (all (goodPart (p .0) (m .0)) (parts .0)) (
+          (from-five (inRange 1 (limits .channels) (p .0) && allOf (inRange 33 126) (labels .0)) (leb (m .0) (limits .rules))
+          (allOf (goodRule (p .0)) (rules .0)) (inRange 1 (limits .parts) (n .0)) (allOf (goodPart (p .0) (m .0)) (parts .0)) (
             and-both front (labels .3 .1),
             sym (zero-range (limits .rules) (m .0)) ∙ m .3,
-            all-weaken (goodRule (p .0)) _ (λ r h. and-left (goodRule (p .0) r) _ h) (rules .0) (rules .3 .1),
+            allOf-weaken (goodRule (p .0)) _ (λ r h. and-left (goodRule (p .0) r) _ h) (rules .0) (rules .3 .1),
             sym (range 1 (limits .parts) (n .0)) ∙ n .3,
             parts .3 .1,
           ));
-      suited = all-weaken (suitsRule f) _ (λ r h. and-right (goodRule (p .0) r) _ h) (rules .0) (rules .3 .1);
+      suited = allOf-weaken (suitsRule f) _ (λ r h. and-right (goodRule (p .0) r) _ h) (rules .0) (rules .3 .1);
       bytes =
           rw (encode-deck d, labels .3 .0, rules .3 .0, parts .3 .0)
           (rw (p .2, labels .2, m .2, rules .2, n .2, parts .2, parts .4 .1, append-nil (flatMap encodePart (parts .0))));
@@ -97,7 +99,9 @@ sections-exact f =
     let M : ℕ = length (d .rules) in
     let N : ℕ = length (d .parts) in
     let front : Bool = inRange 1 (limits .channels) R in
-    let good = five (front && all (inRange 33 126) (d .labels)) (leb M (limits .rules)) (all (goodRule R) (d .rules)) (inRange 1 (limits .parts) N) (all (goodPart R M) (d .parts)) (q .formed) in
+    let good =
+    five (front && allOf (inRange 33 126) (d .labels)) (leb M (limits .rules)) (allOf (goodRule R) (d .rules))
+    (inRange 1 (limits .parts) N) (allOf (goodPart R M) (d .parts)) (q .formed) in
     let parts : List ℕ = flatMap encodePart (d .parts) in
     let rules : List ℕ = flatMap encodeRule (d .rules) in
     let e : l .rulesAt ≡ at + 1 + R = q .rules ∙ omega arith in

@@ -7,10 +7,10 @@ use native.Mathlib.Omega.{arith}
 use native.Mathlib.Nat.{not-suc-le-zero, le-of-suc-le-suc, zero-add}
 use lib.Dec.{eqb}
 use lib.ListN.{getD, length-replicate, length-map}
-use Rattle.lists.specs.Lists.{lists, filter, from, below, member}
+use Rattle.lists.specs.Lists.{lists, select, from, below, member}
 use Rattle.lists.specs.Bits.{bit}
 use Rattle.lists.specs.Laws.Booleans.{contradiction, not-true→false}
-use Rattle.lists.specs.Laws.Filters.{filter-member}
+use Rattle.lists.specs.Laws.Filters.{select-member}
 use Rattle.lists.specs.Laws.Below.{below-length, below-member}
 use Rattle.deck.specs.Deck.{Deck, R, M, N, ruleAt, partAt, carries, targets}
 use Rattle.deck.specs.Shape.{bitsOf, setting, ruleShape, partShape, shapeOf, shapes}
@@ -31,9 +31,9 @@ pub bits-member : (n m c : ℕ) → c < n → member c (bitsOf n m) ≡ bit m c
 unfolding bitsOf
 bits-member n m c h = go (bit m c) refl
   where
-    go : (b : Bool) → bit m c ≡ b → member c (filter (bit m) (below n)) ≡ b
-    go true e = filter-member (bit m) (below n) c .1 (below-member n c .0 h, e)
-    go false e = not-true→false (member c (filter (bit m) (below n))) (λ y. contradiction (filter-member (bit m) (below n) c .0 y .1) e)
+    go : (b : Bool) → bit m c ≡ b → member c (select (bit m) (below n)) ≡ b
+    go true e = select-member (bit m) (below n) c .1 (below-member n c .0 h, e)
+    go false e = not-true→false (member c (select (bit m) (below n))) (λ y. contradiction (select-member (bit m) (below n) c .0 y .1) e)
 
 pub setting-targets : (ts : List ℕ) → targets (setting ts) ≡ ts
 unfolding targets setting

@@ -10,7 +10,7 @@ use lib.ListN.{List·getD-eq-default}
 use Rattle.lists.specs.Lists.{member}
 use Rattle.lists.specs.Bits.{bit, maskOf}
 use Rattle.lists.specs.Laws.Statements.{same-test}
-use Rattle.lists.specs.Laws.Below.{filter-below}
+use Rattle.lists.specs.Laws.Below.{select-below}
 use Rattle.lists.specs.Laws.Same.{SameMembers}
 use Rattle.lists.specs.Laws.Bits.{maskOf-bit}
 use Rattle.deck.specs.Deck.{Rule, Deck, R, M, N, ruleAt, partAt, carries, targets}
@@ -34,7 +34,7 @@ pub record SameTests (d e : Deck) : Type 0 where
 pub bits-of-mask : (n : ℕ) (cs : List ℕ) → ((c : ℕ) → member c cs ≡ true → c < n) → SameMembers (bitsOf n (maskOf cs)) cs
 unfolding bitsOf
 bits-of-mask n cs h c =
-    let passing = filter-below (bit (maskOf cs)) n c in
+    let passing = select-below (bit (maskOf cs)) n c in
     same-test (member c (bitsOf n (maskOf cs))) (member c cs)
     (λ t. sym (maskOf-bit cs c) ∙ passing .0 t .1)
     (λ t. passing .1 (h c t, maskOf-bit cs c ∙ t))

@@ -9,11 +9,11 @@ use native.Mathlib.Nat.{add-zero, zero-add, suc-add}
 use lib.Dec.{leb, ltb, eqb}
 use lib.ListN.{length, getD, drop, List·getD-append, List·getD-map}
 use borrow.Author.Tests.{ltb-true}
-use Rattle.lists.specs.Lists.{all, member, flatMap, lists}
+use Rattle.lists.specs.Lists.{allOf, member, flatMap, lists}
 use Rattle.lists.specs.Bits.{maskOf, maskFrom}
 use Rattle.lists.specs.Laws.Booleans.{and-both, and-left, and-right}
-use Rattle.lists.specs.Laws.Alls.{all-cons, all-getD}
-use Rattle.lists.specs.Laws.Members.{all-member}
+use Rattle.lists.specs.Laws.Alls.{allOf-cons, allOf-getD}
+use Rattle.lists.specs.Laws.Members.{allOf-member}
 use Rattle.refusals.specs.Outcome.{Outcome, refused, accepted}
 use Rattle.refusals.specs.Numbers.{outOfRange, repeatedTarget, defaultRetired}
 use Rattle.expression.specs.Syntax.{constant}
@@ -21,7 +21,7 @@ use Rattle.expression.specs.Reading.{Scope}
 use Rattle.deck.specs.declared.Form.{Form}
 use Rattle.deck.specs.Deck.{Rule, Part, Deck, R, M, ruleAt, partAt, targets}
 use Rattle.deck.specs.Encoding.{kindByte}
-use Rattle.deck.specs.Reader.{Got, Reader, andThen, give, require, end, number, times, rising, value, readers}
+use Rattle.deck.specs.Reader.{Got, Reader, andThen, give, expect, end, number, repeats, rising, value, readers}
 use Rattle.deck.specs.Layout.{numbers, truths, expression, ownOnly, taskScope, assignments, action, rule, part, allows, defaultAction}
 use Rattle.deck.specs.Layout.{Layout, sections, valueOf, read}
 use Rattle.deck.specs.Marks.{
@@ -150,18 +150,18 @@ anything (refused n p) = refusing
 anything (accepted a) = accepting tt
 
 -- n things, each of which passes a test
-times-each : {A : Type 0} (f : A → Bool) (r : Reader A) → ((s : List ℕ) (at : ℕ) → Accepts (λ g. f (g .value) ≡ true) (r s at))
-    → (n : ℕ) (s : List ℕ) (at : ℕ) → Accepts (λ g. (length (g .value) ≡ n) × (all f (g .value) ≡ true)) (times n r s at)
+repeats-each : {A : Type 0} (f : A → Bool) (r : Reader A) → ((s : List ℕ) (at : ℕ) → Accepts (λ g. f (g .value) ≡ true) (r s at))
+    → (n : ℕ) (s : List ℕ) (at : ℕ) → Accepts (λ g. (length (g .value) ≡ n) × (allOf f (g .value) ≡ true)) (repeats n r s at)
 unfolding readers lists
-times-each f r h zero s at = accepting (refl, refl)
-times-each f r h (suc n) s at =
+repeats-each f r h zero s at = accepting (refl, refl)
+repeats-each f r h (suc n) s at =
     then-accepts _ (h s at) λ x p.
-    then-accepts _ (times-each f r h n (x .rest) (x .at)) λ xs q.
-    accepting (ap suc (q .0), all-cons f (x .value) (xs .value) p (q .1))
+    then-accepts _ (repeats-each f r h n (x .rest) (x .at)) λ xs q.
+    accepting (ap suc (q .0), allOf-cons f (x .value) (xs .value) p (q .1))
 
-times-long : {A : Type 0} (r : Reader A) (n : ℕ) (s : List ℕ) (at : ℕ) → Accepts (λ g. length (g .value) ≡ n) (times n r s at)
-times-long r n s at =
-    accepts-map (λ g p. p .0) (times-each (λ _. true) r (λ s at. accepts-map (λ _ _. refl) (anything (r s at))) n s at)
+repeats-long : {A : Type 0} (r : Reader A) (n : ℕ) (s : List ℕ) (at : ℕ) → Accepts (λ g. length (g .value) ≡ n) (repeats n r s at)
+repeats-long r n s at =
+    accepts-map (λ g p. p .0) (repeats-each (λ _. true) r (λ s at. accepts-map (λ _ _. refl) (anything (r s at))) n s at)
 
 -- the lists are as long as the counts before them say
 abbrev FrontCounted : MarkedFront → Type 0
@@ -177,9 +177,9 @@ front-counts : (f : Form) (s : List ℕ) (at : ℕ) → Accepts (λ g. FrontCoun
 unfolding markedFront readers
 front-counts f s at =
     then-accepts _ (anything (number 1 33 s at)) λ R _.
-    then-accepts _ (times-long (number 33 127) (R .value) (R .rest) (R .at)) λ labels l.
+    then-accepts _ (repeats-long (number 33 127) (R .value) (R .rest) (R .at)) λ labels l.
     then-accepts _ (anything (number 0 65 (labels .rest) (labels .at))) λ M _.
-    then-accepts _ (times-long (markedRule f (R .value)) (M .value) (M .rest) (M .at)) λ rules k.
+    then-accepts _ (repeats-long (markedRule f (R .value)) (M .value) (M .rest) (M .at)) λ rules k.
     accepting (k, l)
 
 sections-counts : (f : Form) (s : List ℕ) (at : ℕ) → Accepts (λ g. Counted (g .value)) (markedSections f s at)
@@ -188,7 +188,7 @@ sections-counts f s at =
     then-accepts _ (front-counts f s at) λ front k.
     then-accepts _ (anything (number 1 17 (front .rest) (front .at))) λ N _.
     let part = markedPart (front .value .channels) (front .value .count) in
-    then-accepts _ (times-long part (N .value) (N .rest) (N .at)) λ parts l.
+    then-accepts _ (repeats-long part (N .value) (N .rest) (N .at)) λ parts l.
     then-accepts _ (anything (end (parts .rest) (parts .at))) λ _ _.
     accepting (k .0, l, k .1)
 
@@ -203,7 +203,7 @@ counts-read f s g e = accepts (sections-counts f s 0) e
 
 -- every number of a list is below n
 abbrev under : ℕ → List ℕ → Bool
-under n l = all (λ c. ltb c n) l
+under n l = allOf (λ c. ltb c n) l
 
 abbrev knownRule : ℕ → Rule → Bool
 knownRule R r = under R (r .events) && under R (targets (r .default)) && under R (targets (r .action))
@@ -212,16 +212,16 @@ abbrev knownPart : ℕ → Part → Bool
 knownPart M p = under M (p .carried)
 
 under-member : (n : ℕ) (l : List ℕ) → under n l ≡ true → (c : ℕ) → member c l ≡ true → c < n
-under-member n l h c m = ltb-true c n (all-member (λ c. ltb c n) l .0 h c m)
+under-member n l h c m = ltb-true c n (allOf-member (λ c. ltb c n) l .0 h c m)
 
-ranged : (d : Deck) → R d ≤ 32 → M d ≤ 64 → all (knownRule (R d)) (d .rules) ≡ true → all (knownPart (M d)) (d .parts) ≡ true
+ranged : (d : Deck) → R d ≤ 32 → M d ≤ 64 → allOf (knownRule (R d)) (d .rules) ≡ true → allOf (knownPart (M d)) (d .parts) ≡ true
     → Ranged d
 unfolding ruleAt partAt lists targets
 ranged d channels few rules parts =
     let events : Rule → Bool = λ r. under (R d) (r .events) in
     let default : Rule → Bool = λ r. under (R d) (targets (r .default)) in
     let action : Rule → Bool = λ r. under (R d) (targets (r .action)) in
-    let known : (i : ℕ) → knownRule (R d) (ruleAt d i) ≡ true = λ i. all-getD (knownRule (R d)) (d .rules) i _ rules refl in
+    let known : (i : ℕ) → knownRule (R d) (ruleAt d i) ≡ true = λ i. allOf-getD (knownRule (R d)) (d .rules) i _ rules refl in
     let first : (i : ℕ) → (events (ruleAt d i) && default (ruleAt d i)) ≡ true
     = λ i. and-left (events (ruleAt d i) && default (ruleAt d i)) (action (ruleAt d i)) (known i) in
     record {
@@ -232,7 +232,7 @@ ranged d channels few rules parts =
           (and-right (events (ruleAt d i)) (default (ruleAt d i)) (first i));
       action = λ i. under-member (R d) (targets (ruleAt d i .action))
           (and-right (events (ruleAt d i) && default (ruleAt d i)) (action (ruleAt d i)) (known i));
-      carried = λ p. under-member (M d) (partAt d p .carried) (all-getD (knownPart (M d)) (d .parts) p _ parts refl);
+      carried = λ p. under-member (M d) (partAt d p .carried) (allOf-getD (knownPart (M d)) (d .parts) p _ parts refl);
     }
 
 number-under : (lo hi : ℕ) (s : List ℕ) (at : ℕ) → Accepts (λ g. ltb (g .value) hi ≡ true) (number lo hi s at)
@@ -241,7 +241,7 @@ number-under lo hi [] at = refusing
 number-under lo hi (b ∷ s) at = go (leb lo b && ltb b hi) refl
   where
     go : (t : Bool) → (leb lo b && ltb b hi) ≡ t
-        → Accepts (λ g. ltb (g .value) hi ≡ true) (andThen (require t outOfRange at s (suc at)) (λ _. give b))
+        → Accepts (λ g. ltb (g .value) hi ≡ true) (andThen (expect t outOfRange at s (suc at)) (λ _. give b))
     go true e = accepting (and-right (leb lo b) (ltb b hi) e)
     go false e = refusing
 
@@ -251,7 +251,7 @@ rising-under zero lo hi s at = accepting refl
 rising-under (suc n) lo hi s at =
     then-accepts _ (number-under lo hi s at) λ c p.
     then-accepts _ (rising-under n (suc (c .value)) hi (c .rest) (c .at)) λ cs q.
-    accepting (all-cons (λ c. ltb c hi) (c .value) (cs .value) p q)
+    accepting (allOf-cons (λ c. ltb c hi) (c .value) (cs .value) p q)
 
 assignments-under : (sc : Scope) (n : ℕ) (ts s : List ℕ) (at : ℕ)
     → Accepts (λ g. under (sc .owns) (targets (g .value)) ≡ true) (assignments sc n ts s at)
@@ -259,10 +259,10 @@ unfolding assignments readers lists targets
 assignments-under sc zero ts s at = accepting refl
 assignments-under sc (suc n) ts s at =
     then-accepts _ (number-under 0 (sc .owns) s at) λ t p.
-    then-accepts _ (anything (require (not (member (t .value) ts)) repeatedTarget at (t .rest) (t .at))) λ u _.
+    then-accepts _ (anything (expect (not (member (t .value) ts)) repeatedTarget at (t .rest) (t .at))) λ u _.
     then-accepts _ (anything (expression (numbers sc) (u .rest) (u .at))) λ e _.
     then-accepts _ (assignments-under sc n (t .value ∷ ts) (e .rest) (e .at)) λ l q.
-    accepting (all-cons (λ c. ltb c (sc .owns)) (t .value) (targets (l .value)) p q)
+    accepting (allOf-cons (λ c. ltb c (sc .owns)) (t .value) (targets (l .value)) p q)
 
 action-under : (sc : Scope) (s : List ℕ) (at : ℕ) → Accepts (λ g. under (sc .owns) (targets (g .value)) ≡ true) (action sc s at)
 unfolding action readers
@@ -273,7 +273,7 @@ default-under : (f : Form) (R : ℕ) (s : List ℕ) (at : ℕ) → Accepts (λ g
 unfolding defaultAction readers ownOnly
 default-under f R s at =
     then-accepts _ (anything (number 0 5 s at)) λ n _.
-    then-accepts _ (anything (require (allows f (n .value)) defaultRetired at (n .rest) (n .at))) λ u _.
+    then-accepts _ (anything (expect (allows f (n .value)) defaultRetired at (n .rest) (n .at))) λ u _.
     assignments-under (ownOnly R) (n .value) [] (u .rest) (u .at)
 
 rule-under : (f : Form) (R : ℕ) (s : List ℕ) (at : ℕ) → Accepts (λ g. knownRule R (g .value) ≡ true) (rule f R s at)
@@ -291,7 +291,7 @@ rule-under f R s at =
 part-under : (R M : ℕ) (s : List ℕ) (at : ℕ) → Accepts (λ g. knownPart M (g .value) ≡ true) (part R M s at)
 unfolding part readers
 part-under R M s at =
-    then-accepts _ (anything (times R value s at)) λ opening _.
+    then-accepts _ (anything (repeats R value s at)) λ opening _.
     then-accepts _ (anything (number 0 (suc M) (opening .rest) (opening .at))) λ n _.
     then-accepts _ (rising-under (n .value) 0 M (n .rest) (n .at)) λ carried p.
     then-accepts _ (anything (expression (truths (ownOnly R)) (carried .rest) (carried .at))) λ limit _.
@@ -301,21 +301,22 @@ sections-ranged : (f : Form) (s : List ℕ) (at : ℕ) → Accepts (λ g. Ranged
 unfolding sections readers R M
 sections-ranged f s at =
     then-accepts _ (number-under 1 33 s at) λ r p.
-    then-accepts _ (times-long (number 33 127) (r .value) (r .rest) (r .at)) λ labels l.
+    then-accepts _ (repeats-long (number 33 127) (r .value) (r .rest) (r .at)) λ labels l.
     then-accepts _ (number-under 0 65 (labels .rest) (labels .at)) λ m q.
-    then-accepts _ (times-each (knownRule (r .value)) (rule f (r .value)) (rule-under f (r .value)) (m .value) (m .rest) (m .at)) λ rules k.
+    then-accepts _ (repeats-each (knownRule (r .value)) (rule f (r .value)) (rule-under f (r .value)) (m .value) (m .rest)
+    (m .at)) λ rules k.
     then-accepts _ (anything (number 1 17 (rules .rest) (rules .at))) λ n _.
     let onePart = part (r .value) (m .value) in
     let known = part-under (r .value) (m .value) in
-    then-accepts _ (times-each (knownPart (m .value)) onePart known (n .value) (n .rest) (n .at)) λ parts h.
+    then-accepts _ (repeats-each (knownPart (m .value)) onePart known (n .value) (n .rest) (n .at)) λ parts h.
     then-accepts _ (anything (end (parts .rest) (parts .at))) λ _ _.
     let d : Deck = record { labels = labels .value; rules = rules .value; parts = parts .value } in
     accepting
     (ranged d
     (omega (arith, l, ltb-true (r .value) 33 p))
     (omega (arith, k .0, ltb-true (m .value) 65 q))
-    (ap (λ c. all (knownRule c) (rules .value)) l ∙ k .1)
-    (ap (λ c. all (knownPart c) (parts .value)) (k .0) ∙ h .1))
+    (ap (λ c. allOf (knownRule c) (rules .value)) l ∙ k .1)
+    (ap (λ c. allOf (knownPart c) (parts .value)) (k .0) ∙ h .1))
 
 -- whatever the numbers in place of bytes
 pub ranged-read : (f : Form) (s : List ℕ) (l : Layout) → read f s ≡ accepted l → Ranged (l .deck)

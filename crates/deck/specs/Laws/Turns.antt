@@ -16,9 +16,9 @@ use Rattle.lists.specs.Laws.Booleans.{and-both, and-right}
 use Rattle.refusals.specs.Outcome.{Outcome, refused, accepted}
 use Rattle.refusals.specs.Numbers.{deckEnds, outOfRange}
 use Rattle.expression.specs.Reading.{word, signed}
-use Rattle.deck.specs.Reader.{Got, Reader, andThen, _>>=_, give, require, number, times, rising, value, readers}
+use Rattle.deck.specs.Reader.{Got, Reader, andThen, _>>=_, give, expect, number, repeats, rising, value, readers}
 use Rattle.deck.specs.Marks.{Reads}
-use Rattle.deck.specs.declared.Step.the-variants.{Next}
+use Rattle.deck.specs.declared.Advance.the-variants.{Next}
 use Rattle.deck.specs.Laws.Exact.{Accepts, accepting, refusing, accepts}
 
 -- ---- a number
@@ -36,7 +36,7 @@ number-cons : (lo hi b : ℕ) (s : List ℕ) (at : ℕ)
 unfolding readers
 number-cons lo hi b s at = go (leb lo b && ltb b hi)
   where
-    go : (t : Bool) → andThen (require t outOfRange at s (suc at)) (λ _. give b)
+    go : (t : Bool) → andThen (expect t outOfRange at s (suc at)) (λ _. give b)
         ≡ cond t (accepted (record { value = b; rest = s; at = suc at })) (refused outOfRange at)
     go true = refl
     go false = refl
@@ -66,7 +66,7 @@ unfolding readers
 number-below lo hi s at g e = accepts (below s) e
   where
     byTest : (b : ℕ) (s : List ℕ) (t : Bool) → (leb lo b && ltb b hi) ≡ t
-        → Accepts (λ g. g .value < hi) (andThen (require t outOfRange at s (suc at)) (λ _. give b))
+        → Accepts (λ g. g .value < hi) (andThen (expect t outOfRange at s (suc at)) (λ _. give b))
     byTest b s true e = accepting (ltb-true b hi (and-right (leb lo b) (ltb b hi) e))
     byTest b s false e = refusing
 
@@ -101,7 +101,8 @@ module _ {A : Type 0} {o : Outcome (Got (List A))} {P : List A → Type 0} where
       go (refused n p) = refl
       go (accepted g) = refl
 
-  pub turn-next : {Q : List A → Type 0} (r : Reader A) (others : A → Reader (List A)) (s : List ℕ) (at : ℕ) {g : Got A} → r s at ≡ accepted g
+  pub turn-next : {Q : List A → Type 0} (r : Reader A) (others : A → Reader (List A)) (s : List ℕ) (at : ℕ) {g : Got A}
+      → r s at ≡ accepted g
       → ((l : List A) → P l → Q (l ++ (g .value ∷ []))) → Turns o (first r others s at) P
       → Turns o (others (g .value) (g .rest) (g .at)) Q
   unfolding readers
@@ -115,9 +116,11 @@ module _ {A : Type 0} {o : Outcome (Got (List A))} {P : List A → Type 0} where
       }
     where
       go : (u : Outcome (Got (List A)))
-          → andThen (andThen u (λ xs. give (g .value ∷ xs))) (λ l. give (t .list ++ l)) ≡ andThen u (λ l. give (t .list ++ (g .value ∷ []) ++ l))
+          → andThen (andThen u (λ xs. give (g .value ∷ xs))) (λ l. give (t .list ++ l))
+          ≡ andThen u (λ l. give (t .list ++ (g .value ∷ []) ++ l))
       go (refused n p) = refl
-      go (accepted h) = ap (λ l. accepted (record { value = l; rest = h .rest; at = h .at })) (sym (append-snoc (t .list) (g .value) (h .value)))
+      go (accepted h) =
+          ap (λ l. accepted (record { value = l; rest = h .rest; at = h .at })) (sym (append-snoc (t .list) (g .value) (h .value)))
 
   pub turn-fault : (r : Reader A) (others : A → Reader (List A)) (s : List ℕ) (at : ℕ) {n p : ℕ} → r s at ≡ refused n p
       → Turns o (first r others s at) P → o ≡ refused n p
@@ -136,28 +139,28 @@ module _ {A : Type 0} {o : Outcome (Got (List A))} {P : List A → Type 0} where
 
 -- turn i of `count`, at a place of the deck, each turn by the same reader
 module _ {A : Type 0} {o : Outcome (Got (List A))} {P : List A → Type 0} (r : Reader A) (count i : ℕ) (s : List ℕ) (place : ℕ) where
-  pub times-next : {Q : List A → Type 0} {g : Got A} → i < count → r (drop place s) place ≡ accepted g
-      → ((l : List A) → P l → Q (l ++ (g .value ∷ []))) → Turns o (times (count - i) r (drop place s) place) P
-      → Turns o (times (count - (i + 1)) r (g .rest) (g .at)) Q
+  pub repeats-next : {Q : List A → Type 0} {g : Got A} → i < count → r (drop place s) place ≡ accepted g
+      → ((l : List A) → P l → Q (l ++ (g .value ∷ []))) → Turns o (repeats (count - i) r (drop place s) place) P
+      → Turns o (repeats (count - (i + 1)) r (g .rest) (g .at)) Q
   unfolding readers
-  times-next h e q t =
+  repeats-next h e q t =
       let k : count - i ≡ suc (count - (i + 1)) = omega arith in
-      turn-next r (λ _. times (count - (i + 1)) r) (drop place s) place e q
-      (subst (λ n. Turns o (times n r (drop place s) place) P) k t)
+      turn-next r (λ _. repeats (count - (i + 1)) r) (drop place s) place e q
+      (subst (λ n. Turns o (repeats n r (drop place s) place) P) k t)
 
-  pub times-fault : {n p : ℕ} → i < count → r (drop place s) place ≡ refused n p
-      → Turns o (times (count - i) r (drop place s) place) P → o ≡ refused n p
+  pub repeats-fault : {n p : ℕ} → i < count → r (drop place s) place ≡ refused n p
+      → Turns o (repeats (count - i) r (drop place s) place) P → o ≡ refused n p
   unfolding readers
-  times-fault h e t =
+  repeats-fault h e t =
       let k : count - i ≡ suc (count - (i + 1)) = omega arith in
-      turn-fault r (λ _. times (count - (i + 1)) r) (drop place s) place e
-      (subst (λ n. Turns o (times n r (drop place s) place) P) k t)
+      turn-fault r (λ _. repeats (count - (i + 1)) r) (drop place s) place e
+      (subst (λ n. Turns o (repeats n r (drop place s) place) P) k t)
 
-  pub times-end : count ≤ i → place ≤ length s → Turns o (times (count - i) r (drop place s) place) P → Reads s o P (Next place)
+  pub repeats-end : count ≤ i → place ≤ length s → Turns o (repeats (count - i) r (drop place s) place) P → Reads s o P (Next place)
   unfolding readers
-  times-end h b t =
+  repeats-end h b t =
       let k : count - i ≡ 0 = omega arith in
-      turn-end s place b (subst (λ n. Turns o (times n r (drop place s) place) P) k t)
+      turn-end s place b (subst (λ n. Turns o (repeats n r (drop place s) place) P) k t)
 
 -- the same where each turn reads a number above the one before
 module _ {o : Outcome (Got (List ℕ))} {P : List ℕ → Type 0} (count i low hi : ℕ) (s : List ℕ) (place : ℕ) where
@@ -190,7 +193,7 @@ module _ {o : Outcome (Got (List ℕ))} {P : List ℕ → Type 0} (count i low h
 
 -- n values were read
 abbrev Values : ℕ → List ℕ → ℕ → Type 0
-Values n s at = (l : List ℤ) × (times n value s at ≡ accepted (record { value = l; rest = drop (4 * n) s; at = at + 4 * n }))
+Values n s at = (l : List ℤ) × (repeats n value s at ≡ accepted (record { value = l; rest = drop (4 * n) s; at = at + 4 * n }))
 
 values-there : (n : ℕ) (s : List ℕ) (at : ℕ) → 4 * n ≤ length s → Values n s at
 unfolding readers
@@ -209,11 +212,11 @@ values-there (suc n) (a ∷ b ∷ []) at h = absurd (omega arith)
 values-there (suc n) (a ∷ []) at h = absurd (omega arith)
 values-there (suc n) [] at h = absurd (omega arith)
 
-values-short : (n : ℕ) (s : List ℕ) (at : ℕ) → length s < 4 * n → times n value s at ≡ refused deckEnds (at + length s)
+values-short : (n : ℕ) (s : List ℕ) (at : ℕ) → length s < 4 * n → repeats n value s at ≡ refused deckEnds (at + length s)
 unfolding readers
 values-short zero s at h = absurd (omega arith)
 values-short (suc n) (a ∷ b ∷ c ∷ d ∷ s) at h =
-    let e : times n value s (suc (suc (suc (suc at)))) ≡ refused deckEnds (suc (suc (suc (suc at))) + length s)
+    let e : repeats n value s (suc (suc (suc (suc at)))) ≡ refused deckEnds (suc (suc (suc (suc at))) + length s)
     = values-short n s (suc (suc (suc (suc at)))) (omega arith) in
     ap (λ o. andThen o (λ xs. give (signed (word a b c d) ∷ xs))) e ∙ ap (λ p. refused deckEnds p) (omega arith)
 values-short (suc n) (a ∷ b ∷ c ∷ []) at h = ap (λ p. refused deckEnds p) (omega arith)
@@ -222,12 +225,12 @@ values-short (suc n) (a ∷ []) at h = ap (λ p. refused deckEnds p) (omega arit
 values-short (suc n) [] at h = ap (λ p. refused deckEnds p) (omega arith)
 
 module _ (n : ℕ) (s : List ℕ) (at : ℕ) where
-  pub values-read : at + 4 * n ≤ length s → Reads s (times n value (drop at s) at) (λ _. Unit {0}) (Next (at + 4 * n))
+  pub values-read : at + 4 * n ≤ length s → Reads s (repeats n value (drop at s) at) (λ _. Unit {0}) (Next (at + 4 * n))
   values-read h =
       let v : Values n (drop at s) at = values-there n (drop at s) at (omega (arith, length-drop at s)) in
       (v .0, v .1 ∙ ap (λ t. accepted (record { value = v .0; rest = t; at = at + 4 * n })) (drop-drop (4 * n) at s), h, tt)
 
-  pub values-end : at ≤ length s → length s < at + 4 * n → times n value (drop at s) at ≡ refused deckEnds (length s)
+  pub values-end : at ≤ length s → length s < at + 4 * n → repeats n value (drop at s) at ≡ refused deckEnds (length s)
   values-end b h =
       let e : length (drop at s) ≡ length s - at = length-drop at s in
       values-short n (drop at s) at (omega arith) ∙ ap (λ p. refused deckEnds p) (omega arith)

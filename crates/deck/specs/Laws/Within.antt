@@ -13,7 +13,8 @@ use Rattle.lists.specs.Laws.Booleans.{and-right}
 use Rattle.refusals.specs.Outcome.{Outcome, refused, accepted}
 use Rattle.refusals.specs.Numbers.{outOfRange}
 use Rattle.expression.specs.Reading.{word, signed}
-use Rattle.deck.specs.Reader.{Got, Reader, andThen, _>>=_, _>>_, give, fault, here, require, byte, end, number, times, rising, value, readers}
+use Rattle.deck.specs.Reader.{Got, Reader, andThen, _>>=_, _>>_, give, fault, here, expect, byte, end, number, repeats, rising, value}
+use Rattle.deck.specs.Reader.{readers}
 
 -- s was read, and s ++ t: both were refused alike, or both accepted alike, with t left as well. At most `takes` bytes were
 -- taken, and the value has the property P
@@ -61,11 +62,11 @@ module _ {A : Type 0} {P : A → Type 0} where
   unfolding readers
   here-within w = record { continues = λ s t at h. w at .continues s t at h }
 
-  pub require-within : {looks takes : ℕ} (t : Bool) (n p : ℕ) {r : Reader A} → (t ≡ true → Within P looks takes r)
-      → Within P looks takes (require t n p >> r)
+  pub expect-within : {looks takes : ℕ} (t : Bool) (n p : ℕ) {r : Reader A} → (t ≡ true → Within P looks takes r)
+      → Within P looks takes (expect t n p >> r)
   unfolding readers
-  require-within true n p w = record { continues = λ s t at h. w refl .continues s t at h }
-  require-within false n p w = record { continues = λ s t at h. both-refuse }
+  expect-within true n p w = record { continues = λ s t at h. w refl .continues s t at h }
+  expect-within false n p w = record { continues = λ s t at h. both-refuse }
 
   -- with a byte left both refuse
   pub end-within : (a : A) → Within P 1 0 (end >> give a)
@@ -79,7 +80,8 @@ module _ {A : Type 0} {P : A → Type 0} where
 pub then-within : {A B : Type 0} {P : A → Type 0} {Q : B → Type 0} {m looks takes : ℕ} {r : Reader A} {f : A → Reader B}
     → Within P m m r → ((a : A) → P a → Within Q looks takes (f a)) → Within Q (m + looks) (m + takes) (r >>= f)
 unfolding readers
-then-within {A} {B} {P} {Q} {m} {looks} {takes} {r} {f} w x = record { continues = λ s t at h. go s t h (w .continues s t at (omega arith)) }
+then-within {A} {B} {P} {Q} {m} {looks} {takes} {r} {f} w x =
+    record { continues = λ s t at h. go s t h (w .continues s t at (omega arith)) }
   where
     further : (s t : List ℕ) (rest : List ℕ) {o o' : Outcome (Got B)} → length s ≤ length rest + m → Continues Q takes rest t o o'
         → Continues Q (m + takes) s t o o'
@@ -104,14 +106,15 @@ byte-within = record { continues = go }
 pub number-within : (lo hi : ℕ) → Within (λ b. b < hi) 1 1 (number lo hi)
 unfolding readers
 number-within lo hi =
-    here-within λ p. then-within byte-within λ b _. require-within (leb lo b && ltb b hi) outOfRange p λ e.
+    here-within λ p. then-within byte-within λ b _. expect-within (leb lo b && ltb b hi) outOfRange p λ e.
     give-within b (ltb-true b hi (and-right (leb lo b) _ e))
 
-pub times-within : {A : Type 0} {m : ℕ} {r : Reader A} → Within Anything m m r → (n : ℕ)
-    → Within Anything (n * m) (n * m) (times n r)
+pub repeats-within : {A : Type 0} {m : ℕ} {r : Reader A} → Within Anything m m r → (n : ℕ)
+    → Within Anything (n * m) (n * m) (repeats n r)
 unfolding readers
-times-within w zero = widen (omega arith) (omega arith) (give-within [] tt)
-times-within w (suc n) = widen (omega arith) (omega arith) (then-within w λ x _. then-within (times-within w n) λ xs _. give-within (x ∷ xs) tt)
+repeats-within w zero = widen (omega arith) (omega arith) (give-within [] tt)
+repeats-within w (suc n) =
+    widen (omega arith) (omega arith) (then-within w λ x _. then-within (repeats-within w n) λ xs _. give-within (x ∷ xs) tt)
 
 pub rising-within : (n lo hi : ℕ) → Within Anything n n (rising n lo hi)
 unfolding readers

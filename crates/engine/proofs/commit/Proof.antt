@@ -11,4 +11,5 @@ commit-spec =
     (λ c κs. search needs)
     (λ c κs. search needs)
     (λ c. search needs)
-    (λ c. rw (c .commit-answer .ensures (c .before .before .before .before .before .before .before .before .before .args .place)) (c .before .before .call-lent .ensures)))
+    (λ c. rw (c .commit-answer .ensures (c .before .before .before .before .before .before .before .before .before .args .place))
+    (c .before .before .call-lent .ensures)))

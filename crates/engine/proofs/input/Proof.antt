@@ -10,4 +10,5 @@ input-spec =
     (λ c κs. search needs)
     (λ c κs. search needs)
     (λ c. search needs)
-    (λ c. rw (c .input-answer .ensures (c .before .before .before .before .before .before .before .before .args .part)) (c .before .before .call-lent .ensures)))
+    (λ c. rw (c .input-answer .ensures (c .before .before .before .before .before .before .before .before .args .part))
+    (c .before .before .call-lent .ensures)))

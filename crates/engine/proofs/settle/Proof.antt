@@ -11,4 +11,5 @@ settle-spec =
     (λ c κs. search needs)
     (λ c κs. search needs)
     (λ c. search needs)
-    (λ c. rw (c .settle-answer .ensures (c .before .before .before .before .before .before .before .before .before .args .budget)) (c .before .before .call-lent .ensures)))
+    (λ c. rw (c .settle-answer .ensures (c .before .before .before .before .before .before .before .before .before .args .budget))
+    (c .before .before .call-lent .ensures)))

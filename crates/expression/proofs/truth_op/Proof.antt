@@ -6,7 +6,8 @@ use Rattle.expression.proofs.truth_op.Tie as tie
 returns-8 : tie.Need-returns-8
 returns-8 c =
     let r = c .match .rest in
-    truth-unknown (c .before .args .b) (r .0 .0 .0 .0 .0 .0 .1) (r .0 .0 .0 .0 .0 .1) (r .0 .0 .0 .0 .1) (r .0 .0 .0 .1) (r .0 .0 .1) (r .0 .1)
+    truth-unknown (c .before .args .b) (r .0 .0 .0 .0 .0 .0 .1) (r .0 .0 .0 .0 .0 .1) (r .0 .0 .0 .0 .1) (r .0 .0 .0 .1) (r .0 .0 .1)
+    (r .0 .1)
     (r .1)
 
 pub truth-op-spec : {M : Type 1} → statement M

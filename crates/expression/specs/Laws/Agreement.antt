@@ -9,7 +9,7 @@ use Rattle.clamped.specs.Clamp.{negated}
 use Rattle.expression.specs.Syntax.{Num, literal, own, far, two, negation}
 use Rattle.expression.specs.Syntax.{Truth, constant, opposite, both, compared}
 use Rattle.expression.specs.Reading.{Scope}
-use Rattle.expression.specs.Values.{arith, join, compare, numValue, truthValue}
+use Rattle.expression.specs.Values.{arith, join, comparison, numValue, truthValue}
 use Rattle.expression.specs.Encoding.{goodNum, goodTruth}
 
 module _ (sc : Scope) (o o′ f f′ : ℕ → ℤ) (owns : (c : ℕ) → c < sc .owns → o c ≡ o′ c)
@@ -28,6 +28,7 @@ module _ (sc : Scope) (o o′ f f′ : ℕ → ℤ) (owns : (c : ℕ) → c < sc
   truth-agree (constant b) h = refl
   truth-agree (opposite t) h = ap not (truth-agree t h)
   truth-agree (both k t u) h =
-      ap₂ (join k) (truth-agree t (and-left (goodTruth sc t) (goodTruth sc u) h)) (truth-agree u (and-right (goodTruth sc t) (goodTruth sc u) h))
+      ap₂ (join k) (truth-agree t (and-left (goodTruth sc t) (goodTruth sc u) h))
+      (truth-agree u (and-right (goodTruth sc t) (goodTruth sc u) h))
   truth-agree (compared k a b) h =
-      ap₂ (compare k) (num-agree a (and-left (goodNum sc a) (goodNum sc b) h)) (num-agree b (and-right (goodNum sc a) (goodNum sc b) h))
+      ap₂ (comparison k) (num-agree a (and-left (goodNum sc a) (goodNum sc b) h)) (num-agree b (and-right (goodNum sc a) (goodNum sc b) h))

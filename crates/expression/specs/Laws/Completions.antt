@@ -7,7 +7,7 @@ use native.Mathlib.Omega.{arith}
 use lib.Dec.{ltb, eqb}
 use lib.ListN.{length}
 use borrow.Author.Tests.{lt-ltb, eqb-false}
-use Rattle.lists.specs.Lists.{all}
+use Rattle.lists.specs.Lists.{allOf}
 use Rattle.expression.specs.Reading.{Scope, numOp, truthOp}
 use Rattle.expression.specs.declared.NumOp.{NumOp}
 use Rattle.expression.specs.declared.NumOp.the-variants as OfNum
@@ -41,8 +41,8 @@ abbrev pub fill : List Awaited → List ℕ
 fill [] = []
 fill (w ∷ ws) = filling w (fill ws)
 
-pub fill-bytes : (ws : List Awaited) → all (λ b. ltb b 256) (fill ws) ≡ true
-unfolding all
+pub fill-bytes : (ws : List Awaited) → allOf (λ b. ltb b 256) (fill ws) ≡ true
+unfolding allOf
 fill-bytes [] = refl
 fill-bytes (aNumber ∷ ws) = fill-bytes ws
 fill-bytes (aTruth ∷ ws) = fill-bytes ws

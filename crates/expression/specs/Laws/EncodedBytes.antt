@@ -7,9 +7,9 @@ use native.Mathlib.Omega.{arith}
 use lib.Dec.{ltb}
 use lib.IntN.{ℤ}
 use borrow.Author.Tests.{ltb-true, lt-ltb}
-use Rattle.lists.specs.Lists.{all, flatMap}
+use Rattle.lists.specs.Lists.{allOf, flatMap}
 use Rattle.lists.specs.Laws.Booleans.{and-left, and-right}
-use Rattle.lists.specs.Laws.Alls.{all-none, all-cons, all-append, all-weaken, all-flatMap}
+use Rattle.lists.specs.Laws.Alls.{allOf-none, allOf-cons, allOf-append, allOf-weaken, allOf-flatMap}
 use Rattle.expression.specs.Syntax.{Num, literal, own, far, two, negation, Truth, constant, opposite, both, compared}
 use Rattle.expression.specs.Reading.{Scope}
 use Rattle.expression.specs.Encoding.{bits, encodeValue, arithByte, constantByte, joinByte, compareByte, encodeNum, encodeTruth}
@@ -25,18 +25,18 @@ use Rattle.expression.specs.Laws.Bytes.{Bytes}
 -- ---- lists of bytes
 
 pub bytes-cons : (b : ℕ) (s : List ℕ) → b < 256 → Bytes s → Bytes (b ∷ s)
-bytes-cons b s h k = all-cons (λ b. ltb b 256) b s (lt-ltb b 256 h) k
+bytes-cons b s h k = allOf-cons (λ b. ltb b 256) b s (lt-ltb b 256 h) k
 
 pub bytes-none : Bytes []
-bytes-none = all-none (λ b. ltb b 256)
+bytes-none = allOf-none (λ b. ltb b 256)
 
 pub bytes-append : (s t : List ℕ) → Bytes s → Bytes t → Bytes (s ++ t)
-bytes-append s t h k = all-append (λ b. ltb b 256) s t h k
+bytes-append s t h k = allOf-append (λ b. ltb b 256) s t h k
 
 pub bytes-flatMap : {A : Type 0} (enc : A → List ℕ) (good : A → Bool) (l : List A) → ((x : A) → good x ≡ true → Bytes (enc x))
-    → all good l ≡ true → Bytes (flatMap enc l)
+    → allOf good l ≡ true → Bytes (flatMap enc l)
 bytes-flatMap enc good l f h =
-    all-flatMap (λ b. ltb b 256) enc l (all-weaken (λ x. all (λ b. ltb b 256) (enc x)) good f l h)
+    allOf-flatMap (λ b. ltb b 256) enc l (allOf-weaken (λ x. allOf (λ b. ltb b 256) (enc x)) good f l h)
 
 -- ---- expressions
 

@@ -53,8 +53,10 @@ module _ (sc : Scope) (s : List ℕ) (bytes : Bytes s) where
       → ((n : ℕ) → Holds (NumAt n) (go n)) → Holds (NumAt at) (numOperands sc op s (at + 1) go)
   unfolding encodingExpressions
   num-operands-sound OfNum.Literal at go o h = then-holds _ (literal-sound (at + 1)) λ z n p. held (p .0, span-append s (o tt) (p .1))
-  num-operands-sound OfNum.Own at go o h = then-holds _ (channel-sound (sc .owns) (at + 1)) λ c n p. held (p .0, span-append s (o tt) (p .1))
-  num-operands-sound OfNum.Far at go o h = then-holds _ (channel-sound (sc .fars) (at + 1)) λ c n p. held (p .0, span-append s (o tt) (p .1))
+  num-operands-sound OfNum.Own at go o h =
+      then-holds _ (channel-sound (sc .owns) (at + 1)) λ c n p. held (p .0, span-append s (o tt) (p .1))
+  num-operands-sound OfNum.Far at go o h =
+      then-holds _ (channel-sound (sc .fars) (at + 1)) λ c n p. held (p .0, span-append s (o tt) (p .1))
   num-operands-sound (OfNum.Two k) at go o h =
       then-holds _ (h (at + 1)) λ a n p. then-holds _ (h n) λ b m q.
       held (and-both (p .0) (q .0), span-append s (span-append s (o tt) (p .1)) (q .1))

@@ -90,7 +90,8 @@ truth-op OfTruth.Unknown = refl
 abbrev truthAfter : ℕ → TruthOp
 truthAfter k =
     getD
-    (OfTruth.Constant false ∷ OfTruth.Constant true ∷ OfTruth.Not ∷ OfTruth.Both And ∷ OfTruth.Both Or ∷ OfTruth.Two Less ∷ OfTruth.Two Equal ∷ [])
+    (OfTruth.Constant false ∷ OfTruth.Constant true ∷ OfTruth.Not ∷ OfTruth.Both And ∷ OfTruth.Both Or ∷ OfTruth.Two Less
+    ∷ OfTruth.Two Equal ∷ [])
     k
     OfTruth.Unknown
 

@@ -73,7 +73,13 @@ word-bytes n h =
 pub encode-word : (a b c d : ℕ) → a < 256 → b < 256 → c < 256 → d < 256 → encodeValue (signed (word a b c d)) ≡ a ∷ b ∷ c ∷ d ∷ []
 unfolding encodingExpressions
 encode-word a b c d p q r s =
-    rw (bits-signed (word a b c d) (word-below a b c d p q r s), byte-0 a b c d p, byte-1 a b c d p q, byte-2 a b c d p q r, byte-3 a b c d p q r s)
+    rw (
+      bits-signed (word a b c d) (word-below a b c d p q r s),
+      byte-0 a b c d p,
+      byte-1 a b c d p q,
+      byte-2 a b c d p q r,
+      byte-3 a b c d p q r s,
+    )
 
 pub word-fits : (a b c d : ℕ) → a < 256 → b < 256 → c < 256 → d < 256 → fits (signed (word a b c d)) ≡ true
 word-fits a b c d p q r s = signed-fits (word a b c d) (word-below a b c d p q r s)

@@ -9,7 +9,7 @@ use lib.ListN.{length}
 use borrow.Author.Tests.{not-true}
 use Rattle.lists.specs.Lists.{lists}
 use Rattle.lists.specs.Laws.Booleans.{and-left, and-right, or-left, or-right, or-cases, not-true→false, contradiction}
-use Rattle.lists.specs.Laws.Anys.{any-append}
+use Rattle.lists.specs.Laws.Anys.{anyOf-append}
 use Rattle.pool.specs.Updates.{Update, eqUpdate, isAmong, allDifferent}
 use Rattle.pool.specs.Laws.Equal.{update-true, update-refl}
 use Rattle.firing.specs.Firing.{enqueue, pick, without}
@@ -31,7 +31,7 @@ behind-among w u us = go (isAmong u us) refl
   where
     go : (b : Bool) → isAmong u us ≡ b → isAmong w (cond b us (us ++ u ∷ [])) ≡ (isAmong w us || eqUpdate w u)
     go true e = among-equal w u us e
-    go false e = any-append (eqUpdate w) us (u ∷ []) ∙ ap (λ b. isAmong w us || b) (or-false (eqUpdate w u))
+    go false e = anyOf-append (eqUpdate w) us (u ∷ []) ∙ ap (λ b. isAmong w us || b) (or-false (eqUpdate w u))
 
 pub enqueue-among : (w : Update) (us new : List Update) → isAmong w (enqueue us new) ≡ (isAmong w us || isAmong w new)
 unfolding enqueue isAmong lists

@@ -9,11 +9,11 @@ use native.Mathlib.Omega.{arith}
 use native.Mathlib.Nat.{add-zero}
 use lib.IntN.{ℤ}
 use borrow.Author.Tests.{not-true}
-use Rattle.lists.specs.Lists.{lists, flatMap, sum, below, member, eqZ}
+use Rattle.lists.specs.Lists.{lists, flatMap, sumOf, below, member, eqZ}
 use Rattle.lists.specs.Laws.Booleans.{true-or-false, contradiction}
-use Rattle.lists.specs.Laws.Filters.{filter-member}
+use Rattle.lists.specs.Laws.Filters.{select-member}
 use Rattle.lists.specs.Laws.Equalities.{eqZ-refl}
-use Rattle.lists.specs.Laws.Sums.{sum-mono, sum-map, sum-flatMap, sum-plus, sum-zero}
+use Rattle.lists.specs.Laws.Sums.{sumOf-mono, sumOf-map, sumOf-flatMap, sumOf-plus, sumOf-zero}
 use Rattle.deck.specs.Deck.{Deck, Action, Rule, R, N, ruleAt, targets, active}
 use Rattle.graph.specs.Laws.Cycles.{KnownTargets, Acyclic}
 use Rattle.charge.specs.Charge.{others, receivers, unlessEmpty, updateCharge, ruleCharge, charges}
@@ -33,13 +33,13 @@ module _ (d : Deck) where
   unfolding charge lists
   charge-none = refl
 
-  sum-one : (f : ℕ → ℕ) (p : ℕ) → sum f (p ∷ []) ≡ f p
+  sum-one : (f : ℕ → ℕ) (p : ℕ) → sumOf f (p ∷ []) ≡ f p
   unfolding lists
   sum-one f p = add-zero (f p)
 
-  charge-flatMap : {A : Type 0} (g : A → List Update) (l : List A) → charge d (flatMap g l) ≡ sum (λ x. charge d (g x)) l
+  charge-flatMap : {A : Type 0} (g : A → List Update) (l : List A) → charge d (flatMap g l) ≡ sumOf (λ x. charge d (g x)) l
   unfolding charge
-  charge-flatMap g l = sum-flatMap (one d) g l
+  charge-flatMap g l = sumOf-flatMap (one d) g l
 
   module _ (values : List ℤ) (p : ℕ) where
     sent-charge : (q : ℕ) (a : Action) → charge d (sent values p q a) ≡ at q a
@@ -55,11 +55,12 @@ module _ (d : Deck) where
     maybe-charge false q a = omega (arith, charge-none)
 
     -- only assigned channels change
-    pub changed-assigned : (l : List Pair) (c : ℕ) → member c (changed d p values (assign p l values)) ≡ true → member c (channelsIn l) ≡ true
+    pub changed-assigned : (l : List Pair) (c : ℕ) → member c (changed d p values (assign p l values)) ≡ true
+        → member c (channelsIn l) ≡ true
     unfolding changed
     changed-assigned l c m =
         let t : ℕ → Bool = λ c. not (eqZ (valueAt values p c) (valueAt (assign p l values) p c)) in
-        let differs = not-true (eqZ (valueAt values p c) (valueAt (assign p l values) p c)) (filter-member t (below (R d)) c .0 m .1) in
+        let differs = not-true (eqZ (valueAt values p c) (valueAt (assign p l values) p c)) (select-member t (below (R d)) c .0 m .1) in
         ⊎-elim
         (λ y. y)
         (λ n. contradiction (ap (eqZ (valueAt values p c)) (assign-other p c l values n) ∙ eqZ-refl (valueAt values p c)) differs)
@@ -67,7 +68,9 @@ module _ (d : Deck) where
 
     module _ (known : KnownTargets d) (acyclic : Acyclic d) (lp : p < N d) where
       -- what rule r adds, at p and at the other parts
-      rule-most : (r : ℕ) → charge d (firedHere values p (ruleAt d r)) + charge d (flatMap (firedThere values p (ruleAt d r)) (others d p)) ≤ ruleCharge d p r
+      rule-most : (r : ℕ)
+          → charge d (firedHere values p (ruleAt d r)) + charge d (flatMap (firedThere values p (ruleAt d r)) (others d p))
+          ≤ ruleCharge d p r
       unfolding firedHere firedThere receivers
       rule-most r =
           subst (λ (n : ℕ). charge d (firedHere values p rule) + charge d (flatMap (firedThere values p rule) (others d p)) ≤ n)
@@ -80,9 +83,10 @@ module _ (d : Deck) where
           there : Bool → ℕ → List Update
           there b q = cond (b && holds values p q rule) (sent values p q (rule .action)) []
 
-          go : (b : Bool) → charge d (sent values p p (rule .default) ++ cond (not b && holds values p p rule) (sent values p p (rule .action)) [])
+          go : (b : Bool)
+              → charge d (sent values p p (rule .default) ++ cond (not b && holds values p p rule) (sent values p p (rule .action)) [])
               + charge d (flatMap (λ q. cond (b && holds values p q rule) (sent values p q (rule .action)) []) (others d p))
-              ≤ at p (rule .default) + sum (λ q. at q (rule .action)) (cond b (others d p) (p ∷ []))
+              ≤ at p (rule .default) + sumOf (λ q. at q (rule .action)) (cond b (others d p) (p ∷ []))
           go true =
               omega (
                 arith,
@@ -90,7 +94,8 @@ module _ (d : Deck) where
                 charge-none,
                 sent-charge p (rule .default),
                 charge-flatMap (there true) (others d p),
-                sum-mono (λ q. charge d (there true q)) (λ q. at q (rule .action)) (others d p) (λ q m. maybe-charge (holds values p q rule) q (rule .action)),
+                sumOf-mono (λ q. charge d (there true q)) (λ q. at q (rule .action)) (others d p)
+                    (λ q m. maybe-charge (holds values p q rule) q (rule .action)),
               )
           go false =
               omega (
@@ -99,7 +104,7 @@ module _ (d : Deck) where
                 sent-charge p (rule .default),
                 maybe-charge (holds values p p rule) p (rule .action),
                 charge-flatMap (there false) (others d p),
-                sum-zero (λ q. charge d (there false q)) (others d p) (λ q. charge-none),
+                sumOf-zero (λ q. charge d (there false q)) (others d p) (λ q. charge-none),
                 sum-one (λ q. at q (rule .action)) p,
               )
             where
@@ -107,7 +112,7 @@ module _ (d : Deck) where
               there′ b = cond b (sent values p p (rule .action)) []
 
       -- "a firing adds at most the charges of the active rules"
-      pub fired-most : (cs : List ℕ) → charge d (fired d values p cs) ≤ sum (ruleCharge d p) (active d p cs)
+      pub fired-most : (cs : List ℕ) → charge d (fired d values p cs) ≤ sumOf (ruleCharge d p) (active d p cs)
       unfolding fired
       fired-most cs =
           let rs = active d p cs in
@@ -118,9 +123,10 @@ module _ (d : Deck) where
             charge-append d (flatMap here (map (ruleAt d) rs)) (flatMap there (map (ruleAt d) rs)),
             over-rules here rs,
             over-rules there rs,
-            sum-plus (λ r. charge d (here (ruleAt d r))) (λ r. charge d (there (ruleAt d r))) rs,
-            sum-mono (λ r. charge d (here (ruleAt d r)) + charge d (there (ruleAt d r))) (ruleCharge d p) rs (λ r m. rule-most r),
+            sumOf-plus (λ r. charge d (here (ruleAt d r))) (λ r. charge d (there (ruleAt d r))) rs,
+            sumOf-mono (λ r. charge d (here (ruleAt d r)) + charge d (there (ruleAt d r))) (ruleCharge d p) rs (λ r m. rule-most r),
           )
         where
-          over-rules : (g : Rule → List Update) (rs : List ℕ) → charge d (flatMap g (map (ruleAt d) rs)) ≡ sum (λ r. charge d (g (ruleAt d r))) rs
-          over-rules g rs = charge-flatMap g (map (ruleAt d) rs) ∙ sum-map (λ r. charge d (g r)) (ruleAt d) rs
+          over-rules : (g : Rule → List Update) (rs : List ℕ)
+              → charge d (flatMap g (map (ruleAt d) rs)) ≡ sumOf (λ r. charge d (g (ruleAt d r))) rs
+          over-rules g rs = charge-flatMap g (map (ruleAt d) rs) ∙ sumOf-map (λ r. charge d (g r)) (ruleAt d) rs

@@ -8,9 +8,9 @@ use native.Mathlib.Nat.{not-suc-le-zero, le-of-suc-le-suc}
 use lib.Dec.{ltb}
 use lib.ListN.{length, take, drop}
 use borrow.Author.Tests.{ltb-true, not-true}
-use Rattle.lists.specs.Lists.{lists, all, distinct, isEmpty}
+use Rattle.lists.specs.Lists.{lists, allOf, distinct, isEmpty}
 use Rattle.lists.specs.Laws.Booleans.{and-both, and-left, and-right, four}
-use Rattle.lists.specs.Laws.Alls.{all-append, all-take, all-drop, all-at, any-none}
+use Rattle.lists.specs.Laws.Alls.{allOf-append, allOf-take, allOf-drop, allOf-at, anyOf-none}
 use Rattle.deck.specs.Deck.{Deck, R, N}
 use Rattle.deck.specs.Laws.Formed.{Formed}
 use Rattle.graph.specs.Laws.Cycles.{Acyclic}
@@ -31,15 +31,15 @@ use Rattle.firing.specs.Laws.Charges.{fired-most, changed-assigned}
 
 -- ---- an update that is taken out
 
-pub without-all : (test : Update → Bool) (k : ℕ) (us : List Update) → all test us ≡ true → all test (without k us) ≡ true
+pub without-all : (test : Update → Bool) (k : ℕ) (us : List Update) → allOf test us ≡ true → allOf test (without k us) ≡ true
 unfolding without
-without-all test k us h = all-append test (take k us) (drop (suc k) us) (all-take test k us h) (all-drop test (suc k) us h)
+without-all test k us h = allOf-append test (take k us) (drop (suc k) us) (allOf-take test k us h) (allOf-drop test (suc k) us h)
 
 without-among : (w : Update) (k : ℕ) (us : List Update) → isAmong w us ≡ false → isAmong w (without k us) ≡ false
 unfolding isAmong
 without-among w k us h =
-    any-none (eqUpdate w) (without k us) .1
-    (without-all (λ u. not (eqUpdate w u)) k us (any-none (eqUpdate w) us .0 h))
+    anyOf-none (eqUpdate w) (without k us) .1
+    (without-all (λ u. not (eqUpdate w u)) k us (anyOf-none (eqUpdate w) us .0 h))
 
 pub without-different : (k : ℕ) (us : List Update) → allDifferent us ≡ true → allDifferent (without k us) ≡ true
 unfolding without allDifferent
@@ -64,13 +64,13 @@ without-charge d (suc k) (u ∷ us) h = let e = without-charge d k us (le-of-suc
 pub record Known (d : Deck) (u : Update) : Type 0 where
   pub part : u .part < N d
   pub some : isEmpty (u .pairs) ≡ false
-  pub inside : all (λ c. ltb c (R d)) (channels u) ≡ true
+  pub inside : allOf (λ c. ltb c (R d)) (channels u) ≡ true
   pub different : distinct (channels u) ≡ true
 
 pub known-has : (d : Deck) (u : Update) → known d u ≡ true → Known d u
 unfolding known
 known-has d u h =
-    let tests = four (ltb (u .part) (N d)) (not (isEmpty (u .pairs))) (all (λ c. ltb c (R d)) (channels u)) (distinct (channels u)) h in
+    let tests = four (ltb (u .part) (N d)) (not (isEmpty (u .pairs))) (allOf (λ c. ltb c (R d)) (channels u)) (distinct (channels u)) h in
     record {
       part = ltb-true (u .part) (N d) (tests .0);
       some = not-true (isEmpty (u .pairs)) (tests .1);
@@ -80,7 +80,8 @@ known-has d u h =
 
 pub pick-known : (d : Deck) (C : ℕ) (x : Machine) (k : ℕ) → Fine d C x → k < length (x .pending) → Known d (pick k (x .pending))
 unfolding pick
-pick-known d C x k f h = known-has d (pick k (x .pending)) (all-at (known d) (x .pending) k (record { part = 0; pairs = [] }) (f .known) h)
+pick-known d C x k f h =
+    known-has d (pick k (x .pending)) (allOf-at (known d) (x .pending) k (record { part = 0; pairs = [] }) (f .known) h)
 
 -- ---- a commit, applied or discarded
 
@@ -112,7 +113,7 @@ module _ (d : Deck) (formed : Formed d) where
   -- ---- setting channels
 
   -- with the charge that is then pending
-  pub set-fine : (C C′ p : ℕ) (l : List Pair) (x : Machine) → Fine d C x → p < N d → all (λ c. ltb c (R d)) (channelsIn l) ≡ true
+  pub set-fine : (C C′ p : ℕ) (l : List Pair) (x : Machine) → Fine d C x → p < N d → allOf (λ c. ltb c (R d)) (channelsIn l) ≡ true
       → charge d (setAndFire d p l x .pending) ≤ C′ → Fine d C′ (setAndFire d p l x)
   unfolding setAndFire
   set-fine C C′ p l x f lp known bounded =
@@ -121,7 +122,8 @@ module _ (d : Deck) (formed : Formed d) where
       record {
         long = assign-length p l (x .values) ∙ f .long;
         unused = unused-assign d p l (x .values) lp (formed .channels) known (f .unused);
-        known = enqueue-all (Rattle.pool.specs.States.known d) (x .pending) new (f .known) (fired-known d values p formed lp (changed d p (x .values) values));
+        known = enqueue-all (Rattle.pool.specs.States.known d) (x .pending) new (f .known)
+            (fired-known d values p formed lp (changed d p (x .values) values));
         short = enqueue-all short (x .pending) new (f .short) (fired-short d values p formed lp (changed d p (x .values) values));
         different = enqueue-different (x .pending) new (f .different);
         bounded = bounded;

@@ -5,10 +5,10 @@ use mathlib.Core.Bool.{Bool, true, false, not, cond}
 use mathlib.Core.List.{List, [], _∷_, _++_}
 use native.Mathlib.Omega.{arith}
 use borrow.Author.Tests.{not-true}
-use Rattle.lists.specs.Lists.{lists, all, any}
+use Rattle.lists.specs.Lists.{lists, allOf, anyOf}
 use Rattle.lists.specs.Laws.Booleans.{and-both, and-left, and-right, or-false-left, or-false-right, contradiction, not-true→false}
-use Rattle.lists.specs.Laws.Alls.{all-cons, all-append, all-none, all-head, all-tail, any-none}
-use Rattle.lists.specs.Laws.Sums.{sum-append}
+use Rattle.lists.specs.Laws.Alls.{allOf-cons, allOf-append, allOf-none, allOf-head, allOf-tail, anyOf-none}
+use Rattle.lists.specs.Laws.Sums.{sumOf-append}
 use Rattle.deck.specs.Deck.{Deck}
 use Rattle.charge.specs.Charge.{updateCharge}
 use Rattle.pool.specs.Updates.{Update, channels, eqUpdate, isAmong, allDifferent, charge}
@@ -33,17 +33,17 @@ among-behind : (w u : Update) (us : List Update) → isAmong w us ≡ false → 
 unfolding isAmong
 among-behind w u us h e =
     let differs : Update → Bool = λ x. not (eqUpdate w x) in
-    any-none (eqUpdate w) (us ++ u ∷ []) .1
-    (all-append differs us (u ∷ []) (any-none (eqUpdate w) us .0 h) (all-cons differs u [] (ap not e) (all-none differs)))
+    anyOf-none (eqUpdate w) (us ++ u ∷ []) .1
+    (allOf-append differs us (u ∷ []) (anyOf-none (eqUpdate w) us .0 h) (allOf-cons differs u [] (ap not e) (allOf-none differs)))
 
 -- no first, and none later
 among-head : (u w : Update) (us : List Update) → isAmong u (w ∷ us) ≡ false → eqUpdate u w ≡ false
 unfolding isAmong lists
-among-head u w us h = or-false-left (eqUpdate u w) (any (eqUpdate u) us) h
+among-head u w us h = or-false-left (eqUpdate u w) (anyOf (eqUpdate u) us) h
 
 among-tail : (u w : Update) (us : List Update) → isAmong u (w ∷ us) ≡ false → isAmong u us ≡ false
 unfolding isAmong lists
-among-tail u w us h = or-false-right (eqUpdate u w) (any (eqUpdate u) us) h
+among-tail u w us h = or-false-right (eqUpdate u w) (anyOf (eqUpdate u) us) h
 
 update-sym : (u w : Update) → eqUpdate u w ≡ false → eqUpdate w u ≡ false
 update-sym u w h =
@@ -60,15 +60,15 @@ different-behind u (w ∷ us) h e =
 -- ---- all of them
 
 module _ (test : Update → Bool) where
-  pub enqueue-all : (us new : List Update) → all test us ≡ true → all test new ≡ true → all test (enqueue us new) ≡ true
+  pub enqueue-all : (us new : List Update) → allOf test us ≡ true → allOf test new ≡ true → allOf test (enqueue us new) ≡ true
   unfolding enqueue
   enqueue-all us [] h g = h
   enqueue-all us (u ∷ new) h g =
-      enqueue-all (behind us u) new (more (isAmong u us)) (all-tail test u new g)
+      enqueue-all (behind us u) new (more (isAmong u us)) (allOf-tail test u new g)
     where
-      more : (b : Bool) → all test (cond b us (us ++ u ∷ [])) ≡ true
+      more : (b : Bool) → allOf test (cond b us (us ++ u ∷ [])) ≡ true
       more true = h
-      more false = all-append test us (u ∷ []) h (all-cons test u [] (all-head test u new g) (all-none test))
+      more false = allOf-append test us (u ∷ []) h (allOf-cons test u [] (allOf-head test u new g) (allOf-none test))
 
 pub enqueue-different : (us new : List Update) → allDifferent us ≡ true → allDifferent (enqueue us new) ≡ true
 unfolding enqueue
@@ -86,12 +86,13 @@ module _ (d : Deck) where
 
   pub charge-append : (l m : List Update) → charge d (l ++ m) ≡ charge d l + charge d m
   unfolding charge
-  charge-append l m = sum-append one l m
+  charge-append l m = sumOf-append one l m
 
-  behind-charge : (us : List Update) (u : Update) (b : Bool) → (charge d us ≤ charge d (cond b us (us ++ u ∷ []))) × (charge d (cond b us (us ++ u ∷ [])) ≤ charge d us + one u)
+  behind-charge : (us : List Update) (u : Update) (b : Bool) → (charge d us ≤ charge d (cond b us (us ++ u ∷ [])))
+      × (charge d (cond b us (us ++ u ∷ [])) ≤ charge d us + one u)
   unfolding charge lists
   behind-charge us u true = (omega arith, omega arith)
-  behind-charge us u false = let e = sum-append one us (u ∷ []) in (omega arith, omega arith)
+  behind-charge us u false = let e = sumOf-append one us (u ∷ []) in (omega arith, omega arith)
 
   pub enqueue-grows : (us new : List Update) → charge d us ≤ charge d (enqueue us new)
   unfolding enqueue

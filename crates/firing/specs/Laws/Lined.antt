@@ -12,7 +12,7 @@ use Rattle.refusals.specs.Outcome.{accepted}
 use Rattle.refusals.specs.Laws.Outcomes.{refused≢accepted, accepted-inj}
 use Rattle.expression.specs.Reading.{Scope, wholeNum}
 use Rattle.deck.specs.Deck.{Action}
-use Rattle.deck.specs.Reader.{Got, _>>=_, _>>_, give, fault, here, require, number}
+use Rattle.deck.specs.Reader.{Got, _>>=_, _>>_, give, fault, here, expect, number}
 use Rattle.deck.specs.Layout.{Expected, numbers, expression, assignments, action}
 use Rattle.deck.specs.Laws.Judging.{judged-read}
 use Rattle.deck.specs.Laws.Turns.{number-ends, number-small, number-large, number-reads}
@@ -81,15 +81,15 @@ module _ {A : Type 0} (j : Expected A) (s : List ℕ) (at : ℕ) (g : Got A) (e 
 
 -- ---- the assignments
 
-require-tracks : (b : Bool) (n p : ℕ) → Tracks (require b n p)
-unfolding require fault
-require-tracks true n p s at g e = give-tracks tt s at g e
-require-tracks false n p s at g e = refused≢accepted e
+expect-tracks : (b : Bool) (n p : ℕ) → Tracks (expect b n p)
+unfolding expect fault
+expect-tracks true n p s at g e = give-tracks tt s at g e
+expect-tracks false n p s at g e = refused≢accepted e
 
-require-stays : (b : Bool) (n p : ℕ) (s : List ℕ) (at : ℕ) (g : Got (Unit {0})) → require b n p s at ≡ accepted g → g .at ≡ at
-unfolding require fault give
-require-stays true n p s at g e = ap (λ g. g .at) (sym (accepted-inj e))
-require-stays false n p s at g e = refused≢accepted e
+expect-stays : (b : Bool) (n p : ℕ) (s : List ℕ) (at : ℕ) (g : Got (Unit {0})) → expect b n p s at ≡ accepted g → g .at ≡ at
+unfolding expect fault give
+expect-stays true n p s at g e = ap (λ g. g .at) (sym (accepted-inj e))
+expect-stays false n p s at g e = refused≢accepted e
 
 assignments-tracks : (sc : Scope) (n : ℕ) (ts : List ℕ) → Tracks (assignments sc n ts)
 unfolding assignments _>>=_ _>>_
@@ -99,7 +99,7 @@ assignments-tracks sc (suc n) ts =
     (λ at.
     then-tracks (number 0 (sc .owns)) _ (number-tracks 0 (sc .owns))
     (λ t.
-    then-tracks (require (not (member t ts)) 4 at) _ (require-tracks (not (member t ts)) 4 at)
+    then-tracks (expect (not (member t ts)) 4 at) _ (expect-tracks (not (member t ts)) 4 at)
     (λ _.
     then-tracks (expression (numbers sc)) _ (expression-tracks (numbers sc))
     (λ e.
@@ -118,11 +118,11 @@ assignments-lined sc s (suc n) ts at g e =
     let i = then-at (number 0 (sc .owns)) _ (number-tracks 0 (sc .owns)) s at g h in
     let t = i .0 .value in
     let test = not (member t ts) in
-    let j = then-at (require test 4 at) _ (require-tracks test 4 at) s (i .0 .at) g (i .2) in
+    let j = then-at (expect test 4 at) _ (expect-tracks test 4 at) s (i .0 .at) g (i .2) in
     let k = then-at (expression (numbers sc)) _ (expression-tracks (numbers sc)) s (j .0 .at) g (j .2) in
     let l = then-at (assignments sc n (t ∷ ts)) _ (assignments-tracks sc n (t ∷ ts)) s (k .0 .at) g (k .2) in
     let r = number-read 0 (sc .owns) s at (i .0) (i .1) in
-    let stays = require-stays test 4 at (drop (i .0 .at) s) (i .0 .at) (j .0) (j .1) in
+    let stays = expect-stays test 4 at (drop (i .0 .at) s) (i .0 .at) (j .0) (j .1) in
     let first : j .0 .at ≡ at + 1 = stays ∙ r .next in
     let there = subst (λ p. Stands (wholeNum sc) s p (k .0 .value)) first (expression-stands (numbers sc) s (j .0 .at) (k .0) (k .1)) in
     let after = expression-next (numbers sc) s (j .0 .at) (k .0) (k .1) in

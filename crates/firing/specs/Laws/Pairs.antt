@@ -10,11 +10,11 @@ use lib.ListN.{length, getD, set, take, drop, length-set, length-drop}
 use lib.Seq.{drop-cons, take-suc-set}
 use lib.IntN.{ℤ, pos, natAbs}
 use borrow.Author.Tests.{ltb-true, lt-ltb}
-use Rattle.lists.specs.Lists.{lists, all, keep, filter, flatMap, eqZ}
+use Rattle.lists.specs.Lists.{lists, allOf, keep, select, flatMap, eqZ}
 use Rattle.lists.specs.Bits.{maskFrom, maskOf}
 use Rattle.lists.specs.Laws.Booleans.{not-true→false}
 use Rattle.lists.specs.Laws.Equalities.{eqZ-true, eqZ-refl}
-use Rattle.lists.specs.Laws.Alls.{all-head, all-tail, all-cons, all-none}
+use Rattle.lists.specs.Laws.Alls.{allOf-head, allOf-tail, allOf-cons, allOf-none}
 use Rattle.pool.specs.Updates.{Pair, valueAt, assign, updates}
 use Rattle.pool.specs.Places.{pairsOf}
 use Rattle.pool.specs.Laws.Values.{channelsIn}
@@ -29,23 +29,24 @@ unfolding lists pairsOf
 pairs-numbers [] = refl
 pairs-numbers (a ∷ l) = ap (λ m. a ∷ m) (pairs-numbers l)
 
-pub numbers-assignable : (l : List Pair) → all (λ c. ltb c 32) (channelsIn l) ≡ true → Assignable (flatMap numbers l)
+pub numbers-assignable : (l : List Pair) → allOf (λ c. ltb c 32) (channelsIn l) ≡ true → Assignable (flatMap numbers l)
 unfolding lists
 numbers-assignable [] h i k = absurd (omega arith)
-numbers-assignable (a ∷ l) h zero k = (a .channel, refl, ltb-true (a .channel) 32 (all-head (λ c. ltb c 32) (a .channel) (channelsIn l) h))
+numbers-assignable (a ∷ l) h zero k =
+    (a .channel, refl, ltb-true (a .channel) 32 (allOf-head (λ c. ltb c 32) (a .channel) (channelsIn l) h))
 numbers-assignable (a ∷ l) h (suc i) k =
     let e : 2 * suc i ≡ suc (suc (2 * i)) = omega arith in
-    let x = numbers-assignable l (all-tail (λ c. ltb c 32) (a .channel) (channelsIn l) h) i (omega arith) in
+    let x = numbers-assignable l (allOf-tail (λ c. ltb c 32) (a .channel) (channelsIn l) h) i (omega arith) in
     (x .0, ap (λ j. getD (pos (a .channel) ∷ a .value ∷ flatMap numbers l) j (pos 0)) e ∙ x .1, x .2)
 
 -- the channels of assignable pairs are below 32
-pub assignable-low : (l : List ℤ) → Assignable l → all (λ c. ltb c 32) (channelsIn (pairsOf l)) ≡ true
+pub assignable-low : (l : List ℤ) → Assignable l → allOf (λ c. ltb c 32) (channelsIn (pairsOf l)) ≡ true
 unfolding pairsOf
-assignable-low [] h = all-none (λ c. ltb c 32)
-assignable-low (x ∷ []) h = all-none (λ c. ltb c 32)
+assignable-low [] h = allOf-none (λ c. ltb c 32)
+assignable-low (x ∷ []) h = allOf-none (λ c. ltb c 32)
 assignable-low (x ∷ y ∷ l) h =
     let first = h 0 (omega arith) in
-    all-cons (λ c. ltb c 32) (natAbs x) (channelsIn (pairsOf l))
+    allOf-cons (λ c. ltb c 32) (natAbs x) (channelsIn (pairsOf l))
     (lt-ltb (natAbs x) 32 (omega (arith, ap natAbs (first .1), first .2)))
     (assignable-low l (λ i k.
     let e : 2 * (suc i) ≡ suc (suc (2 * i)) = omega arith in
@@ -138,11 +139,17 @@ module _ (p : ℕ) (pairs values : List ℤ) where
         ∙ w .held
 
     next-found : (t : Bool) → test ≡ t
-        → maskFrom mask (map (λ a. a .channel) (keep t (record { channel = c; value = getD pairs (2 * i + 1) (pos 0) }) (filter (λ a. not (eqZ (valueAt values p (a .channel)) (a .value))) rest)))
+        → maskFrom mask
+        (map (λ a. a .channel)
+        (keep t (record { channel = c; value = getD pairs (2 * i + 1) (pos 0) })
+        (select (λ a. not (eqZ (valueAt values p (a .channel)) (a .value))) rest)))
         ≡ maskOf (channelsSet p values (pairsOf pairs))
     unfolding channelsSet lists
     next-found t f =
-        ap (λ b. maskFrom mask (map (λ a. a .channel) (keep b (record { channel = c; value = getD pairs (2 * i + 1) (pos 0) }) (filter (λ a. not (eqZ (valueAt values p (a .channel)) (a .value))) rest)))) (sym f)
+        ap (λ b. maskFrom mask
+        (map (λ a. a .channel)
+        (keep b (record { channel = c; value = getD pairs (2 * i + 1) (pos 0) })
+        (select (λ a. not (eqZ (valueAt values p (a .channel)) (a .value))) rest)))) (sym f)
         ∙ ap (λ l. maskFrom mask (channelsSet p values l)) (sym (pairs-next pairs i c h e))
         ∙ w .found
 
@@ -160,16 +167,19 @@ module _ (p : ℕ) (pairs values : List ℤ) where
   unfolding channelsSet heldPairs maskFrom lists
   compared back mask i even end low w =
       let none = few (drop (2 * i) pairs) (omega (arith, length-drop (2 * i) pairs)) in
-      let all : take (length pairs) back ≡ flatMap numbers (heldPairs p values (pairsOf pairs)) =
+      let written : take (length pairs) back ≡ flatMap numbers (heldPairs p values (pairsOf pairs)) =
       ap (λ n. take n back) (sym end)
       ∙ sym (append-nil (take (2 * i) back))
       ∙ ap (λ l. take (2 * i) back ++ flatMap numbers (heldPairs p values l)) (sym none)
       ∙ w .held in
       record {
-        held = ap pairsOf all ∙ pairs-numbers (heldPairs p values (pairsOf pairs));
-        assignable = subst Assignable (sym all) (numbers-assignable (heldPairs p values (pairsOf pairs)) (held-low (pairsOf pairs) (assignable-low pairs low)));
+        held = ap pairsOf written ∙ pairs-numbers (heldPairs p values (pairsOf pairs));
+        assignable =
+            subst Assignable (sym written)
+            (numbers-assignable (heldPairs p values (pairsOf pairs)) (held-low (pairsOf pairs) (assignable-low pairs low)));
         mask = ap (λ l. maskFrom mask (channelsSet p values l)) (sym none) ∙ w .found;
       }
     where
-      held-low : (l : List Pair) → all (λ c. ltb c 32) (channelsIn l) ≡ true → all (λ c. ltb c 32) (channelsIn (heldPairs p values l)) ≡ true
-      held-low l h = ap (all (λ c. ltb c 32)) (held-channels p values l) ∙ h
+      held-low : (l : List Pair) → allOf (λ c. ltb c 32) (channelsIn l) ≡ true → allOf (λ c. ltb c 32) (channelsIn (heldPairs p values l))
+          ≡ true
+      held-low l h = ap (allOf (λ c. ltb c 32)) (held-channels p values l) ∙ h

@@ -10,13 +10,13 @@ use lib.ListN.{length, set, getD}
 use lib.Seq.{set-set, set-comm, set-getD}
 use lib.IntN.{ℤ, pos}
 use borrow.Author.Tests.{ltb-true, eqb-true, not-true}
-use Rattle.lists.specs.Lists.{lists, all, keep, filter, member, distinct, eqZ}
+use Rattle.lists.specs.Lists.{lists, allOf, keep, select, member, distinct, eqZ}
 use Rattle.lists.specs.Bits.{bit, maskOf}
-use Rattle.lists.specs.Laws.Alls.{all-head, all-tail}
-use Rattle.lists.specs.Laws.Below.{filter-below}
+use Rattle.lists.specs.Laws.Alls.{allOf-head, allOf-tail}
+use Rattle.lists.specs.Laws.Below.{select-below}
 use Rattle.lists.specs.Laws.Bits.{bit-up, bit-low, maskOf-bit}
 use Rattle.lists.specs.Laws.Booleans.{and-left, and-right, or-false-right, contradiction, true-or-false}
-use Rattle.lists.specs.Laws.Members.{member-head, all-member}
+use Rattle.lists.specs.Laws.Members.{member-head, allOf-member}
 use Rattle.lists.specs.Laws.Same.{SameMembers}
 use Rattle.lists.specs.Laws.Statements.{same-test}
 use Rattle.deck.specs.Deck.{Deck, R}
@@ -102,12 +102,12 @@ differs-not p before after c e = equal (valueAt before p c) (valueAt after p c) 
 
 module _ (n p : ℕ) (values : List ℤ) (few : n ≤ 32) (low : p < 16) (long : length values ≡ 512) where
   -- the channels that the pairs change are those whose value differs
-  set-differs : (l : List Pair) → all (λ c. ltb c n) (channelsIn l) ≡ true → distinct (channelsIn l) ≡ true
+  set-differs : (l : List Pair) → allOf (λ c. ltb c n) (channelsIn l) ≡ true → distinct (channelsIn l) ≡ true
       → (c : ℕ) → member c (channelsSet p values l) ≡ differs p values (assign p l values) c
   unfolding channelsSet lists assign differs
   set-differs [] k h c = sym (differs-not p values values c refl)
   set-differs (a ∷ l) k h c =
-      go (set-differs l (all-tail (λ c. ltb c n) (a .channel) (channelsIn l) k) (tail-distinct a l h) c)
+      go (set-differs l (allOf-tail (λ c. ltb c n) (a .channel) (channelsIn l) k) (tail-distinct a l h) c)
       (eqb c (a .channel)) (not (eqZ (valueAt values p (a .channel)) (a .value))) refl refl
       ∙ sym (ap (λ v. not (eqZ (valueAt values p c) v)) then)
     where
@@ -117,7 +117,7 @@ module _ (n p : ℕ) (values : List ℤ) (few : n ≤ 32) (low : p < 16) (long :
       inside : indexOf p (a .channel) < length after
       inside =
           unfold indexOf in
-          omega (arith, ltb-true (a .channel) n (all-head (λ c. ltb c n) (a .channel) (channelsIn l) k), assign-length p l values)
+          omega (arith, ltb-true (a .channel) n (allOf-head (λ c. ltb c n) (a .channel) (channelsIn l) k), assign-length p l values)
 
       -- the value that is read afterwards
       then : valueAt (assign p (a ∷ l) values) p c ≡ cond (eqb c (a .channel)) (a .value) (valueAt after p c)
@@ -126,10 +126,12 @@ module _ (n p : ℕ) (values : List ℤ) (few : n ≤ 32) (low : p < 16) (long :
           ∙ set-value p (a .channel) c (a .value) after inside
 
       none : member c (channelsSet p values l) ≡ differs p values after c → c ≡ a .channel → member c (channelsSet p values l) ≡ false
-      none rest e = rest ∙ differs-not p values after c (sym (assign-other p c l values (ap (λ x. member x (channelsIn l)) e ∙ head-apart a l h)))
+      none rest e =
+          rest ∙ differs-not p values after c (sym (assign-other p c l values (ap (λ x. member x (channelsIn l)) e ∙ head-apart a l h)))
 
-      go : member c (channelsSet p values l) ≡ differs p values after c → (same t : Bool) → eqb c (a .channel) ≡ same → not (eqZ (valueAt values p (a .channel)) (a .value)) ≡ t
-          → member c (map (λ a. a .channel) (keep t a (filter (λ a. not (eqZ (valueAt values p (a .channel)) (a .value))) l)))
+      go : member c (channelsSet p values l) ≡ differs p values after c → (same t : Bool) → eqb c (a .channel) ≡ same
+          → not (eqZ (valueAt values p (a .channel)) (a .value)) ≡ t
+          → member c (map (λ a. a .channel) (keep t a (select (λ a. not (eqZ (valueAt values p (a .channel)) (a .value))) l)))
           ≡ not (eqZ (valueAt values p c) (cond same (a .value) (valueAt after p c)))
       go rest true true e f =
           let q = eqb-true c (a .channel) e in
@@ -141,7 +143,7 @@ module _ (n p : ℕ) (values : List ℤ) (few : n ≤ 32) (low : p < 16) (long :
       go rest false false e f = rest
 
 pub compared-changed : (d : Deck) (p : ℕ) (l : List Pair) (values : List ℤ) → R d ≤ 32 → p < 16 → length values ≡ 512
-    → all (λ c. ltb c (R d)) (channelsIn l) ≡ true → distinct (channelsIn l) ≡ true
+    → allOf (λ c. ltb c (R d)) (channelsIn l) ≡ true → distinct (channelsIn l) ≡ true
     → maskOf (channelsSet p values l) ≡ maskOf (changed d p values (assign p l values))
 unfolding changed differs
 compared-changed d p l values few low long k h =
@@ -157,14 +159,14 @@ compared-changed d p l values few low long k h =
     known : (c : ℕ) → test c ≡ true → c < R d
     known c t =
         ltb-true c (R d)
-        (all-member (λ c. ltb c (R d)) (channelsIn l) .0 k c
+        (allOf-member (λ c. ltb c (R d)) (channelsIn l) .0 k c
         (⊎-elim
         (λ y. y)
         (λ n. contradiction t (differs-not p values (assign p l values) c (sym (assign-other p c l values n))))
         (true-or-false (member c (channelsIn l)))))
 
     to : (c : ℕ) → member c (channelsSet p values l) ≡ true → member c (changed d p values (assign p l values)) ≡ true
-    to c m = let t = sym (same c) ∙ m in filter-below test (R d) c .1 (known c t, t)
+    to c m = let t = sym (same c) ∙ m in select-below test (R d) c .1 (known c t, t)
 
     from : (c : ℕ) → member c (changed d p values (assign p l values)) ≡ true → member c (channelsSet p values l) ≡ true
-    from c m = same c ∙ filter-below test (R d) c .0 m .1
+    from c m = same c ∙ select-below test (R d) c .0 m .1

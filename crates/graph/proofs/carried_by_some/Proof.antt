@@ -7,7 +7,7 @@ use lib.ListN.{getD}
 use Rattle.lists.specs.Lists.{lists}
 use Rattle.lists.specs.Bits.{bit}
 use Rattle.lists.specs.Laws.Bits.{bit-or, bit-zero}
-use Rattle.lists.specs.Laws.Agreement.{any-more}
+use Rattle.lists.specs.Laws.Agreement.{anyOf-more}
 use Rattle.graph.specs.Masks.{carriedAt, CarriedIs}
 use Rattle.graph.proofs.carried_by_some.Statement.{statement}
 use Rattle.graph.proofs.carried_by_some.Tie as tie
@@ -32,7 +32,7 @@ loop-again c =
         each = λ r.
             bit-or (i .set) (getD parts (4 * i .p) 0) r
             ∙ ap (λ b. b || bit (getD parts (4 * i .p) 0) r) (i .inv .1 .each r)
-            ∙ sym (any-more (λ p. bit (getD parts (4 * p) 0) r) (i .p));
+            ∙ sym (anyOf-more (λ p. bit (getD parts (4 * p) 0) r) (i .p));
       },
     )
 

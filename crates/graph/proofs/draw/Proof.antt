@@ -27,7 +27,8 @@ loop-holds c =
 
 loop-less : tie.Need-loop-less Inv-loop μ-loop
 loop-less c =
-    let n = walk-on (c .before .before .before .before .before .before .before .before .before .before .loop .inv .0) (c .before .rest .ensures) (c .lowest2 .ensures) in
+    let n = walk-on (c .before .before .before .before .before .before .before .before .before .before .loop .inv .0)
+    (c .before .rest .ensures) (c .lowest2 .ensures) in
     omega (arith, n .on (omega arith), n .most)
 
 loop-again : tie.Need-loop-again Inv-loop μ-loop

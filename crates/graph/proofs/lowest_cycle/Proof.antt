@@ -31,7 +31,8 @@ abbrev μ-search : tie.MeasureT-search
 loop-again : tie.Need-loop-again Inv-loop μ-loop Inv-search μ-search
 loop-again c = (
   omega arith,
-  searching-more (c .before .before .before .before .loop .inv .1) (c .before .before .before .before .before .search-test .taken) (c .before .before .spread .ensures)
+  searching-more (c .before .before .before .before .loop .inv .1) (c .before .before .before .before .before .search-test .taken)
+      (c .before .before .spread .ensures)
       (bit-no _ _ (c .before .if1 .left)),
 )
 

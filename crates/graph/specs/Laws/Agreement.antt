@@ -7,11 +7,11 @@ use mathlib.Core.List.{_∷_}
 use native.Mathlib.Omega.{arith}
 use lib.Dec.{ltb}
 use borrow.Author.Tests.{ltb-true, lt-ltb}
-use Rattle.lists.specs.Lists.{any, filter, below, member}
+use Rattle.lists.specs.Lists.{anyOf, select, below, member}
 use Rattle.lists.specs.Laws.Booleans.{and-left}
 use Rattle.lists.specs.Laws.Members.{member-cases}
 use Rattle.lists.specs.Laws.Below.{below-member}
-use Rattle.lists.specs.Laws.Agreement.{any-agree, filter-agree}
+use Rattle.lists.specs.Laws.Agreement.{anyOf-agree, select-agree}
 use Rattle.graph.specs.Graph.{reached, reachesItself}
 use Rattle.graph.specs.Masks.{inner}
 use Rattle.graph.specs.Laws.Rounds.{in-round}
@@ -21,9 +21,9 @@ module _ (n : ℕ) (e f : ℕ → ℕ → Bool) (agree : (a b : ℕ) → a < n �
   unfolding reached
   reached-agree zero a l = refl
   reached-agree (suc k) a l =
-      filter-agree (λ c. any (λ b. e b c) (a ∷ reached n e k a)) (λ c. any (λ b. f b c) (a ∷ reached n f k a)) (below n) λ c m.
-      ap (λ r. any (λ b. e b c) (a ∷ r)) (reached-agree k a l)
-      ∙ any-agree (λ b. e b c) (λ b. f b c) (a ∷ reached n f k a) (λ b h. agree b c (source b h) (below-member n c .1 m))
+      select-agree (λ c. anyOf (λ b. e b c) (a ∷ reached n e k a)) (λ c. anyOf (λ b. f b c) (a ∷ reached n f k a)) (below n) λ c m.
+      ap (λ r. anyOf (λ b. e b c) (a ∷ r)) (reached-agree k a l)
+      ∙ anyOf-agree (λ b. e b c) (λ b. f b c) (a ∷ reached n f k a) (λ b h. agree b c (source b h) (below-member n c .1 m))
     where
       source : (b : ℕ) → member b (a ∷ reached n f k a) ≡ true → b < n
       source b h =
@@ -36,9 +36,9 @@ module _ (n : ℕ) (e f : ℕ → ℕ → Bool) (agree : (a b : ℕ) → a < n �
   unfolding reachesItself
   itself-agree a l = ap (member a) (reached-agree n a l)
 
-  pub cyclic-agree : filter (reachesItself n e) (below n) ≡ filter (reachesItself n f) (below n)
+  pub cyclic-agree : select (reachesItself n e) (below n) ≡ select (reachesItself n f) (below n)
   cyclic-agree =
-      filter-agree (reachesItself n e) (reachesItself n f) (below n) (λ a m. itself-agree a (below-member n a .1 m))
+      select-agree (reachesItself n e) (reachesItself n f) (below n) (λ a m. itself-agree a (below-member n a .1 m))
 
 -- the inner edges lead to channels below n, and are all edges that do
 pub inner-below : (n : ℕ) (e : ℕ → ℕ → Bool) (a b : ℕ) → inner n e a b ≡ true → b < n

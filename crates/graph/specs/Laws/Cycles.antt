@@ -6,7 +6,7 @@ use mathlib.Core.Logic.{_↔_}
 use mathlib.Core.Bool.{true}
 use mathlib.Core.List.{List, [], _∷_}
 use Rattle.lists.specs.Laws.Booleans.{contradiction, not-true→false}
-use Rattle.lists.specs.Laws.Below.{none-below, filter-first}
+use Rattle.lists.specs.Laws.Below.{none-below, select-first}
 use Rattle.deck.specs.Deck.{Deck, R}
 use Rattle.graph.specs.Graph.{Reaches, one, more, reachesItself, assigns, edge, cyclic}
 use Rattle.graph.specs.Laws.Edges.{edge-found}
@@ -43,5 +43,5 @@ module _ {d : Deck} (known : KnownTargets d) where
       → Reaches (edge d) c c × ((b : ℕ) → b < c → Reaches (edge d) b b → ⊥)
   unfolding cyclic
   lowest-cycle {c} {cs} h =
-      let first = filter-first (reachesItself (R d) (edge d)) (R d) c cs h in
+      let first = select-first (reachesItself (R d) (edge d)) (R d) c cs h in
       (itself c .0 (first .0), λ b l p. contradiction (itself b .1 p) (first .2 b l))

@@ -9,8 +9,8 @@ use native.Mathlib.Decide.{decLt}
 use lib.ListN.{length}
 use Rattle.lists.specs.Lists.{below, member}
 use Rattle.lists.specs.Laws.Booleans.{not-true→false, contradiction}
-use Rattle.lists.specs.Laws.Members.{within-cons, member-head, member-tail, any-intro, any-within}
-use Rattle.lists.specs.Laws.Lengths.{filter-length, filter-strict, filter-same, filter-short}
+use Rattle.lists.specs.Laws.Members.{within-cons, member-head, member-tail, anyOf-intro, anyOf-within}
+use Rattle.lists.specs.Laws.Lengths.{select-length, select-strict, select-same, select-short}
 use Rattle.lists.specs.Laws.Below.{below-length, below-member}
 use Rattle.graph.specs.Graph.{Reaches, one, more, reached, reachesItself}
 use Rattle.graph.specs.Laws.Rounds.{passes, reached-is, in-round, last-edge, passes-again}
@@ -30,7 +30,7 @@ module _ (n : ℕ) (e : ℕ → ℕ → Bool) where
       (last-edge n e k a b (in-round n e (suc k) a b .0 m .1))
 
   reached-most : (k a : ℕ) → length (reached n e k a) ≤ n
-  reached-most k a = omega (arith, ap length (reached-is n e k a), filter-length (passes n e k a) (below n), below-length n)
+  reached-most k a = omega (arith, ap length (reached-is n e k a), select-length (passes n e k a) (below n), below-length n)
 
   -- how many channels a path leads to from a
   unfoldable pub height : ℕ → ℕ
@@ -60,7 +60,7 @@ module _ (n : ℕ) (e : ℕ → ℕ → Bool) where
         let m = passes-below k a b t in
         in-round n e k a b .1 (
           m,
-          filter-same (passes n e k a) (passes n e (suc k) a) (below n) (λ c _. passes-again n e k a c)
+          select-same (passes n e k a) (passes n e (suc k) a) (below n) (λ c _. passes-again n e k a c)
               (omega (arith, ap length (reached-is n e k a), ap length (reached-is n e (suc k) a))) b m t,
         )
 
@@ -69,7 +69,7 @@ module _ (n : ℕ) (e : ℕ → ℕ → Bool) where
     closed-stays k a h b t =
         in-round n e (suc k) a b .1 (
           passes-below (suc k) a b t,
-          any-within (λ c. e c b) (a ∷ reached n e (suc k) a) (a ∷ reached n e k a)
+          anyOf-within (λ c. e c b) (a ∷ reached n e (suc k) a) (a ∷ reached n e k a)
               (within-cons a (reached n e (suc k) a) (reached n e k a) (λ c m. h c (in-round n e (suc k) a c .0 m .1)))
               t,
         )
@@ -94,10 +94,10 @@ module _ (n : ℕ) (e : ℕ → ℕ → Bool) where
     pub reached-complete : {a b : ℕ} → Reaches e a b → member b (reached n e n a) ≡ true
     unfolding Closed passes
     reached-complete {a} {b} (one h) =
-        closed a b (any-intro (λ c. e c b) (a ∷ reached n e n a) a (member-head a (reached n e n a)) h)
+        closed a b (anyOf-intro (λ c. e c b) (a ∷ reached n e n a) a (member-head a (reached n e n a)) h)
     reached-complete {a} (more {b = b} {c = c} p h) =
         let m = member-tail b a (reached n e n a) (reached-complete p) in
-        closed a c (any-intro (λ d. e d c) (a ∷ reached n e n a) b m h)
+        closed a c (anyOf-intro (λ d. e d c) (a ∷ reached n e n a) b m h)
 
     pub reaches-itself : (a : ℕ) → (reachesItself n e a ≡ true) ↔ Reaches e a a
     unfolding reachesItself
@@ -115,7 +115,7 @@ module _ (n : ℕ) (e : ℕ → ℕ → Bool) where
           omega (
             arith,
             ap length (reached-is n e n a),
-            filter-short (passes n e n a) (below n) a (below-member n a .0 l) (not-itself a l),
+            select-short (passes n e n a) (below n) a (below-member n a .0 l) (not-itself a l),
             below-length n,
           )
 
@@ -127,7 +127,7 @@ module _ (n : ℕ) (e : ℕ → ℕ → Bool) where
             arith,
             ap length (reached-is n e n a),
             ap length (reached-is n e n b),
-            filter-strict (passes n e n b) (passes n e n a) (below n) b further
+            select-strict (passes n e n b) (passes n e n a) (below n) b further
                 (below-member n b .0 (inside a b h))
                 (not-itself b (inside a b h))
                 (in-round n e n a b .0 (reached-complete (one h)) .1),

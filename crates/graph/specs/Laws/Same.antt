@@ -3,8 +3,8 @@
 use Prim.Native.Nat.{ℕ}
 use mathlib.Core.Path.{_≡_, ap, ap₂, _∙_, sym}
 use mathlib.Core.Bool.{_&&_, _||_}
-use Rattle.lists.specs.Lists.{any, filter, below, member, firstOr}
-use Rattle.lists.specs.Laws.Agreement.{any-agree}
+use Rattle.lists.specs.Lists.{anyOf, select, below, member, firstOr}
+use Rattle.lists.specs.Laws.Agreement.{anyOf-agree}
 use Rattle.deck.specs.Deck.{Deck, R, M, N, ruleAt, carries}
 use Rattle.deck.specs.Laws.Tables.{SameTests}
 use Rattle.graph.specs.Graph.{carried, assigns, edge, reachesItself, cyclic}
@@ -16,8 +16,8 @@ module _ {d e : Deck} (t : SameTests d e) where
   same-carried : (r : ℕ) → carried d r ≡ carried e r
   unfolding carried
   same-carried r =
-      any-agree (λ p. carries d p r) (λ p. carries e p r) (below (N d)) (λ p _. t .carried p r)
-      ∙ ap (λ n. any (λ p. carries e p r) (below n)) (t .parts)
+      anyOf-agree (λ p. carries d p r) (λ p. carries e p r) (below (N d)) (λ p _. t .carried p r)
+      ∙ ap (λ n. anyOf (λ p. carries e p r) (below n)) (t .parts)
 
   same-assigns : (r b : ℕ) → assigns d r b ≡ assigns e r b
   unfolding assigns
@@ -26,17 +26,17 @@ module _ {d e : Deck} (t : SameTests d e) where
   pub same-edge : (a b : ℕ) → edge d a b ≡ edge e a b
   unfolding edge
   same-edge a b =
-      any-agree
+      anyOf-agree
       (λ r. carried d r && (member a (ruleAt d r .events) && assigns d r b))
       (λ r. carried e r && (member a (ruleAt e r .events) && assigns e r b))
       (below (M d))
       (λ r _. ap₂ (λ x y. x && y) (same-carried r) (ap₂ (λ x y. x && y) (t .events r a) (same-assigns r b)))
-      ∙ ap (λ n. any (λ r. carried e r && (member a (ruleAt e r .events) && assigns e r b)) (below n)) (t .rules)
+      ∙ ap (λ n. anyOf (λ r. carried e r && (member a (ruleAt e r .events) && assigns e r b)) (below n)) (t .rules)
 
   pub same-cyclic : cyclic d ≡ cyclic e
   unfolding cyclic
   same-cyclic =
-      ap (λ n. filter (reachesItself n (edge d)) (below n)) (t .channels)
+      ap (λ n. select (reachesItself n (edge d)) (below n)) (t .channels)
       ∙ cyclic-agree (R e) (edge d) (edge e) (λ a b _ _. same-edge a b)
 
   pub same-first : firstCycle d ≡ firstCycle e

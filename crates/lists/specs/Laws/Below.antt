@@ -7,10 +7,10 @@ use mathlib.Core.List.{List, [], _∷_, nil≢cons, head-eq-of-cons-eq}
 use native.Mathlib.Nat.{eq-or-lt-of-le}
 use native.Mathlib.Omega.{arith}
 use lib.ListN.{length}
-use Rattle.lists.specs.Lists.{any, keep, filter, from, below, member}
-use Rattle.lists.specs.Laws.Members.{member-empty, member-head, member-tail, member-cases, any-found, any-intro}
-use Rattle.lists.specs.Laws.Filters.{filter-member, filter-none}
-use Rattle.lists.specs.Laws.FlatMaps.{filter-one-by-one, flatMap-first}
+use Rattle.lists.specs.Lists.{anyOf, keep, select, from, below, member}
+use Rattle.lists.specs.Laws.Members.{member-empty, member-head, member-tail, member-cases, anyOf-found, anyOf-intro}
+use Rattle.lists.specs.Laws.Filters.{select-member, select-none}
+use Rattle.lists.specs.Laws.FlatMaps.{select-one-by-one, flatMap-first}
 
 pub from-length : (a n : ℕ) → length (from a n) ≡ n
 unfolding from
@@ -44,22 +44,22 @@ unfolding below
 below-member n k = (λ h. from-holds 0 n k (omega arith) (omega arith), λ m. omega (arith, from-within 0 n k m .1))
 
 module _ (f : ℕ → Bool) (n : ℕ) where
-  pub any-below : (any f (below n) ≡ true) ↔ ((k : ℕ) × (k < n) × (f k ≡ true))
-  any-below = (
-    λ h. let found = any-found f (below n) h in (found .0, below-member n (found .0) .1 (found .1), found .2),
-    λ h. any-intro f (below n) (h .0) (below-member n (h .0) .0 (h .1)) (h .2),
+  pub anyOf-below : (anyOf f (below n) ≡ true) ↔ ((k : ℕ) × (k < n) × (f k ≡ true))
+  anyOf-below = (
+    λ h. let found = anyOf-found f (below n) h in (found .0, below-member n (found .0) .1 (found .1), found .2),
+    λ h. anyOf-intro f (below n) (h .0) (below-member n (h .0) .0 (h .1)) (h .2),
   )
 
-  pub filter-below : (k : ℕ) → (member k (filter f (below n)) ≡ true) ↔ ((k < n) × (f k ≡ true))
-  filter-below k =
-      let passing = filter-member f (below n) k in (
+  pub select-below : (k : ℕ) → (member k (select f (below n)) ≡ true) ↔ ((k < n) × (f k ≡ true))
+  select-below k =
+      let passing = select-member f (below n) k in (
         λ m. let h = passing .0 m in (below-member n k .1 (h .0), h .1),
         λ h. passing .1 (below-member n k .0 (h .0), h .1),
       )
 
-  pub none-below : (filter f (below n) ≡ []) ↔ ((k : ℕ) → k < n → f k ≡ false)
+  pub none-below : (select f (below n) ≡ []) ↔ ((k : ℕ) → k < n → f k ≡ false)
   none-below =
-      let none = filter-none f (below n) in
+      let none = select-none f (below n) in
       (λ e k l. none .0 e k (below-member n k .0 l), λ h. none .1 (λ k m. h k (below-member n k .1 m)))
 
 -- what is kept of one element
@@ -74,10 +74,10 @@ kept-none true x e = absurd (nil≢cons (sym e))
 kept-none false x e = refl
 
 -- the first number that passes a test
-pub filter-first : (f : ℕ → Bool) (n c : ℕ) (cs : List ℕ) → filter f (below n) ≡ c ∷ cs
+pub select-first : (f : ℕ → Bool) (n c : ℕ) (cs : List ℕ) → select f (below n) ≡ c ∷ cs
     → (f c ≡ true) × (c < n) × ((b : ℕ) → b < c → f b ≡ false)
-filter-first f n c cs e =
-    let first = flatMap-first (λ x. keep (f x) x []) n c cs (sym (filter-one-by-one f (below n)) ∙ e) in
+select-first f n c cs e =
+    let first = flatMap-first (λ x. keep (f x) x []) n c cs (sym (select-one-by-one f (below n)) ∙ e) in
     let head = kept-head (f (first .0)) (first .0) c (first .1) (first .2) in (
       ap f (sym (head .1)) ∙ head .0,
       omega (arith, first .3, head .1),

@@ -10,11 +10,11 @@ use lib.Bits.{bitOr, bitAnd, bitXor, differ, or-shr, and-shr, xor-shr, or-step, 
 use lib.Pow.{pow-pos, shl-exact}
 use lib.Dec.{eqb, lit<, eqb·zero-suc, eqb·suc-zero, eqb·suc-suc}
 use borrow.Author.Tests.{eqb-false}
-use Rattle.lists.specs.Lists.{lists, any, member}
+use Rattle.lists.specs.Lists.{lists, anyOf, member}
 use Rattle.lists.specs.Bits.{bit, maskFrom, maskOf}
 use Rattle.lists.specs.Laws.Booleans.{contradiction, not-true→false, and-both, and-left, and-right}
-use Rattle.lists.specs.Laws.Members.{member-head, any-intro}
-use Rattle.lists.specs.Laws.Anys.{any-fails}
+use Rattle.lists.specs.Laws.Members.{member-head, anyOf-intro}
+use Rattle.lists.specs.Laws.Anys.{anyOf-fails}
 
 -- two digits
 two-or : (x y : ℕ) → x < 2 → y < 2 → eqb (max x y) 1 ≡ (eqb x 1 || eqb y 1)
@@ -161,21 +161,21 @@ mask-empty cs = (to cs, λ e. ap maskOf e)
         contradiction (sym (ap (λ m. bit m c) e) ∙ maskOf-bit (c ∷ cs) c ∙ member-head c cs) (bit-zero c)
 
 -- two sets have no number in common
-pub meets : (ks ms : List ℕ) → (bitAnd (maskOf ks) (maskOf ms) ≡ 0) ↔ (any (λ c. member c ks) ms ≡ false)
+pub meets : (ks ms : List ℕ) → (bitAnd (maskOf ks) (maskOf ms) ≡ 0) ↔ (anyOf (λ c. member c ks) ms ≡ false)
 meets ks ms = (to, from)
   where
     both : (c : ℕ) → bit (bitAnd (maskOf ks) (maskOf ms)) c ≡ (member c ks && member c ms)
     both c = bit-and (maskOf ks) (maskOf ms) c ∙ ap₂ (λ a b. a && b) (maskOf-bit ks c) (maskOf-bit ms c)
 
-    to : bitAnd (maskOf ks) (maskOf ms) ≡ 0 → any (λ c. member c ks) ms ≡ false
-    to e = any-fails (λ c. member c ks) ms λ c m.
+    to : bitAnd (maskOf ks) (maskOf ms) ≡ 0 → anyOf (λ c. member c ks) ms ≡ false
+    to e = anyOf-fails (λ c. member c ks) ms λ c m.
         not-true→false (member c ks) (λ k. contradiction (and-both k m) (sym (both c) ∙ ap (λ x. bit x c) e ∙ bit-zero c))
 
-    from : any (λ c. member c ks) ms ≡ false → bitAnd (maskOf ks) (maskOf ms) ≡ 0
+    from : anyOf (λ c. member c ks) ms ≡ false → bitAnd (maskOf ks) (maskOf ms) ≡ 0
     from n =
         no-bits _ (bitAnd (maskOf ks) (maskOf ms)) (below-power _) λ c w.
         both c
         ∙ not-true→false (member c ks && member c ms) (λ t.
         contradiction
-        (any-intro (λ c. member c ks) ms c (and-right (member c ks) (member c ms) t) (and-left (member c ks) (member c ms) t))
+        (anyOf-intro (λ c. member c ks) ms c (and-right (member c ks) (member c ms) t) (and-left (member c ks) (member c ms) t))
         n)

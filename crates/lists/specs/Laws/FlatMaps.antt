@@ -6,16 +6,16 @@ use mathlib.Core.Bool.{Bool, true, false}
 use mathlib.Core.List.{List, [], _∷_, _++_, map, nil≢cons, head-eq-of-cons-eq, map-append, append-eq-nil-iff}
 use native.Mathlib.Nat.{eq-or-lt-of-le}
 use native.Mathlib.Omega.{arith}
-use Rattle.lists.specs.Lists.{lists, keep, filter, flatMap, from, below, member}
+use Rattle.lists.specs.Lists.{lists, keep, select, flatMap, from, below, member}
 use Rattle.lists.specs.Laws.Members.{member-empty, member-head, member-tail, member-cases}
 
-filter-append : {A : Type 0} (f : A → Bool) (l m : List A) → filter f (l ++ m) ≡ filter f l ++ filter f m
+filter-append : {A : Type 0} (f : A → Bool) (l m : List A) → select f (l ++ m) ≡ select f l ++ select f m
 unfolding lists
 filter-append f [] m = refl
 filter-append {A} f (x ∷ l) m = go (f x) (filter-append f l m)
   where
-    go : (b : Bool) → filter f (l ++ m) ≡ filter f l ++ filter f m
-        → keep b x (filter f (l ++ m)) ≡ keep b x (filter f l) ++ filter f m
+    go : (b : Bool) → select f (l ++ m) ≡ select f l ++ select f m
+        → keep b x (select f (l ++ m)) ≡ keep b x (select f l) ++ select f m
     go true e = ap (λ n. x ∷ n) e
     go false e = e
 
@@ -25,21 +25,21 @@ flatMap-one [] = refl
 flatMap-one (x ∷ l) = ap (λ m. x ∷ m) (flatMap-one l)
 
 -- a filter as what is kept of each element
-pub filter-one-by-one : {A : Type 0} (f : A → Bool) (l : List A) → filter f l ≡ flatMap (λ x. keep (f x) x []) l
+pub select-one-by-one : {A : Type 0} (f : A → Bool) (l : List A) → select f l ≡ flatMap (λ x. keep (f x) x []) l
 unfolding lists
-filter-one-by-one f [] = refl
-filter-one-by-one {A} f (x ∷ l) = go (f x) (filter-one-by-one f l)
+select-one-by-one f [] = refl
+select-one-by-one {A} f (x ∷ l) = go (f x) (select-one-by-one f l)
   where
-    go : (b : Bool) → filter f l ≡ flatMap (λ x. keep (f x) x []) l
-        → keep b x (filter f l) ≡ keep b x [] ++ flatMap (λ x. keep (f x) x []) l
+    go : (b : Bool) → select f l ≡ flatMap (λ x. keep (f x) x []) l
+        → keep b x (select f l) ≡ keep b x [] ++ flatMap (λ x. keep (f x) x []) l
     go true e = ap (λ m. x ∷ m) e
     go false e = e
 
-pub filter-flatMap : {A B : Type 0} (f : B → Bool) (g : A → List B) (l : List A)
-    → filter f (flatMap g l) ≡ flatMap (λ x. filter f (g x)) l
+pub select-flatMap : {A B : Type 0} (f : B → Bool) (g : A → List B) (l : List A)
+    → select f (flatMap g l) ≡ flatMap (λ x. select f (g x)) l
 unfolding lists
-filter-flatMap f g [] = refl
-filter-flatMap f g (x ∷ l) = filter-append f (g x) (flatMap g l) ∙ ap (λ n. filter f (g x) ++ n) (filter-flatMap f g l)
+select-flatMap f g [] = refl
+select-flatMap f g (x ∷ l) = filter-append f (g x) (flatMap g l) ∙ ap (λ n. select f (g x) ++ n) (select-flatMap f g l)
 
 pub map-flatMap : {A B C : Type 0} (f : B → C) (g : A → List B) (l : List A)
     → map f (flatMap g l) ≡ flatMap (λ x. map f (g x)) l

@@ -6,16 +6,16 @@ use mathlib.Core.Bool.{Bool, true, false}
 use mathlib.Core.List.{List, [], _∷_}
 use native.Mathlib.Omega.{arith}
 use lib.ListN.{length}
-use Rattle.lists.specs.Lists.{lists, keep, filter, member}
+use Rattle.lists.specs.Lists.{lists, keep, select, member}
 use Rattle.lists.specs.Laws.Booleans.{contradiction, true-or-false}
 use Rattle.lists.specs.Laws.Members.{member-empty, member-head, member-tail, member-cases}
 
-pub filter-length : {A : Type 0} (f : A → Bool) (l : List A) → length (filter f l) ≤ length l
+pub select-length : {A : Type 0} (f : A → Bool) (l : List A) → length (select f l) ≤ length l
 unfolding lists
-filter-length f [] = zero-le
-filter-length {A} f (x ∷ l) = go (f x) (filter-length f l)
+select-length f [] = zero-le
+select-length {A} f (x ∷ l) = go (f x) (select-length f l)
   where
-    go : (b : Bool) → length (filter f l) ≤ length l → length (keep b x (filter f l)) ≤ suc (length l)
+    go : (b : Bool) → length (select f l) ≤ length l → length (keep b x (select f l)) ≤ suc (length l)
     go true h = suc-le-suc h
     go false h = omega arith
 
@@ -35,11 +35,11 @@ module _ (f g : ℕ → Bool) where
   keep-longer false true x l m h le = omega arith
   keep-longer false false x l m h le = le
 
-  pub filter-longer : (l : List ℕ) → Implies l f g → length (filter f l) ≤ length (filter g l)
-  unfolding filter
-  filter-longer [] h = zero-le
-  filter-longer (x ∷ l) h =
-      keep-longer (f x) (g x) x (filter f l) (filter g l) (h x (member-head x l)) (filter-longer l (implies-tail x l f g h))
+  pub select-longer : (l : List ℕ) → Implies l f g → length (select f l) ≤ length (select g l)
+  unfolding select
+  select-longer [] h = zero-le
+  select-longer (x ∷ l) h =
+      keep-longer (f x) (g x) x (select f l) (select g l) (h x (member-head x l)) (select-longer l (implies-tail x l f g h))
 
   keep-strict : (b c : Bool) (x : ℕ) (l m : List ℕ) → (b ≡ true → c ≡ true) → length l < length m
       → length (keep b x l) < length (keep c x m)
@@ -57,25 +57,25 @@ module _ (f g : ℕ → Bool) where
   keep-new false false x l m p q le = contradiction q refl
 
   -- a member that only g lets pass
-  pub filter-strict : (l : List ℕ) (y : ℕ) → Implies l f g → member y l ≡ true → f y ≡ false → g y ≡ true
-      → length (filter f l) < length (filter g l)
-  unfolding filter
-  filter-strict [] y h m p q = member-empty y m
-  filter-strict (x ∷ l) y h m p q =
+  pub select-strict : (l : List ℕ) (y : ℕ) → Implies l f g → member y l ≡ true → f y ≡ false → g y ≡ true
+      → length (select f l) < length (select g l)
+  unfolding select
+  select-strict [] y h m p q = member-empty y m
+  select-strict (x ∷ l) y h m p q =
       ⊎-elim
       (λ e.
-      keep-new (f x) (g x) x (filter f l) (filter g l) (ap f (sym e) ∙ p) (ap g (sym e) ∙ q)
-      (filter-longer l (implies-tail x l f g h)))
+      keep-new (f x) (g x) x (select f l) (select g l) (ap f (sym e) ∙ p) (ap g (sym e) ∙ q)
+      (select-longer l (implies-tail x l f g h)))
       (λ k.
-      keep-strict (f x) (g x) x (filter f l) (filter g l) (h x (member-head x l))
-      (filter-strict l y (implies-tail x l f g h) k p q))
+      keep-strict (f x) (g x) x (select f l) (select g l) (h x (member-head x l))
+      (select-strict l y (implies-tail x l f g h) k p q))
       (member-cases y x l m)
 
   -- no longer, so no member is new
-  pub filter-same : (l : List ℕ) → Implies l f g → length (filter g l) ≤ length (filter f l) → Implies l g f
-  filter-same l h le y m q =
-      ⊎-elim (λ p. p) (λ p. absurd (omega (arith, filter-strict l y h m p q))) (true-or-false (f y))
+  pub select-same : (l : List ℕ) → Implies l f g → length (select g l) ≤ length (select f l) → Implies l g f
+  select-same l h le y m q =
+      ⊎-elim (λ p. p) (λ p. absurd (omega (arith, select-strict l y h m p q))) (true-or-false (f y))
 
-pub filter-short : (f : ℕ → Bool) (l : List ℕ) (y : ℕ) → member y l ≡ true → f y ≡ false → length (filter f l) < length l
-filter-short f l y m p =
-    omega (arith, filter-strict f (λ _. true) l y (λ x k t. refl) m p refl, filter-length (λ (_ : ℕ). true) l)
+pub select-short : (f : ℕ → Bool) (l : List ℕ) (y : ℕ) → member y l ≡ true → f y ≡ false → length (select f l) < length l
+select-short f l y m p =
+    omega (arith, select-strict f (λ _. true) l y (λ x k t. refl) m p refl, select-length (λ (_ : ℕ). true) l)

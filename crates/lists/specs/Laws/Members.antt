@@ -6,7 +6,7 @@ use mathlib.Core.Bool.{Bool, true, false≢true}
 use mathlib.Core.List.{List, [], _∷_}
 use lib.Dec.{eqb}
 use borrow.Author.Tests.{eqb-true, eq-eqb}
-use Rattle.lists.specs.Lists.{lists, all, any, member}
+use Rattle.lists.specs.Lists.{lists, allOf, anyOf, member}
 use Rattle.lists.specs.Laws.Booleans.{or-left, or-right, or-cases, and-both, and-left, and-right}
 
 pub member-empty : {A : Type 0} (x : ℕ) → member x [] ≡ true → A
@@ -33,38 +33,38 @@ pub within-cons : (a : ℕ) (l m : List ℕ) → Within l m → Within (a ∷ l)
 within-cons a l m h x p =
     ⊎-elim (λ e. rw e (member-head a m)) (λ q. member-tail x a m (h x q)) (member-cases x a l p)
 
-pub any-found : (f : ℕ → Bool) (l : List ℕ) → any f l ≡ true → (x : ℕ) × (member x l ≡ true) × (f x ≡ true)
-unfolding any
-any-found f [] h = absurd (false≢true h)
-any-found f (y ∷ l) h =
+pub anyOf-found : (f : ℕ → Bool) (l : List ℕ) → anyOf f l ≡ true → (x : ℕ) × (member x l ≡ true) × (f x ≡ true)
+unfolding anyOf
+anyOf-found f [] h = absurd (false≢true h)
+anyOf-found f (y ∷ l) h =
     ⊎-elim
     (λ t. (y, member-head y l, t))
-    (λ t. let found = any-found f l t in (found .0, member-tail (found .0) y l (found .1), found .2))
+    (λ t. let found = anyOf-found f l t in (found .0, member-tail (found .0) y l (found .1), found .2))
     (or-cases (f y) h)
 
-pub any-intro : (f : ℕ → Bool) (l : List ℕ) (x : ℕ) → member x l ≡ true → f x ≡ true → any f l ≡ true
-unfolding any
-any-intro f [] x m t = member-empty x m
-any-intro f (y ∷ l) x m t =
-    ⊎-elim (λ e. or-left (any f l) (ap f (sym e) ∙ t)) (λ q. or-right (f y) (any-intro f l x q t)) (member-cases x y l m)
+pub anyOf-intro : (f : ℕ → Bool) (l : List ℕ) (x : ℕ) → member x l ≡ true → f x ≡ true → anyOf f l ≡ true
+unfolding anyOf
+anyOf-intro f [] x m t = member-empty x m
+anyOf-intro f (y ∷ l) x m t =
+    ⊎-elim (λ e. or-left (anyOf f l) (ap f (sym e) ∙ t)) (λ q. or-right (f y) (anyOf-intro f l x q t)) (member-cases x y l m)
 
-pub any-within : (f : ℕ → Bool) (l m : List ℕ) → Within l m → any f l ≡ true → any f m ≡ true
-any-within f l m h t = let found = any-found f l t in any-intro f m (found .0) (h (found .0) (found .1)) (found .2)
+pub anyOf-within : (f : ℕ → Bool) (l m : List ℕ) → Within l m → anyOf f l ≡ true → anyOf f m ≡ true
+anyOf-within f l m h t = let found = anyOf-found f l t in anyOf-intro f m (found .0) (h (found .0) (found .1)) (found .2)
 
 -- a test holds for every element exactly if every member passes it
-every : (f : ℕ → Bool) (l : List ℕ) → all f l ≡ true → (x : ℕ) → member x l ≡ true → f x ≡ true
-unfolding all
+every : (f : ℕ → Bool) (l : List ℕ) → allOf f l ≡ true → (x : ℕ) → member x l ≡ true → f x ≡ true
+unfolding allOf
 every f [] h x m = member-empty x m
 every f (y ∷ l) h x m =
     ⊎-elim
-    (λ e. ap f e ∙ and-left (f y) (all f l) h)
-    (λ q. every f l (and-right (f y) (all f l) h) x q)
+    (λ e. ap f e ∙ and-left (f y) (allOf f l) h)
+    (λ q. every f l (and-right (f y) (allOf f l) h) x q)
     (member-cases x y l m)
 
-all-intro : (f : ℕ → Bool) (l : List ℕ) → ((x : ℕ) → member x l ≡ true → f x ≡ true) → all f l ≡ true
-unfolding all
+all-intro : (f : ℕ → Bool) (l : List ℕ) → ((x : ℕ) → member x l ≡ true → f x ≡ true) → allOf f l ≡ true
+unfolding allOf
 all-intro f [] h = refl
 all-intro f (y ∷ l) h = and-both (h y (member-head y l)) (all-intro f l (λ x m. h x (member-tail x y l m)))
 
-pub all-member : (f : ℕ → Bool) (l : List ℕ) → (all f l ≡ true) ↔ ((x : ℕ) → member x l ≡ true → f x ≡ true)
-all-member f l = (every f l, all-intro f l)
+pub allOf-member : (f : ℕ → Bool) (l : List ℕ) → (allOf f l ≡ true) ↔ ((x : ℕ) → member x l ≡ true → f x ≡ true)
+allOf-member f l = (every f l, all-intro f l)

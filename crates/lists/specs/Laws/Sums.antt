@@ -7,34 +7,34 @@ use mathlib.Core.List.{List, [], _∷_, _++_, map}
 use native.Mathlib.Nat.{add-le-add, zero-add, add-assoc}
 use native.Mathlib.Omega.{arith}
 use native.Mathlib.Decide.{decLe}
-use Rattle.lists.specs.Lists.{lists, keep, filter, flatMap, sum, largest, member}
+use Rattle.lists.specs.Lists.{lists, keep, select, flatMap, sumOf, largest, member}
 use Rattle.lists.specs.Laws.Booleans.{contradiction}
 use Rattle.lists.specs.Laws.Members.{member-empty, member-head, member-tail, member-cases}
 use Rattle.lists.specs.Laws.Lengths.{Implies, implies-tail}
 
-pub sum-append : {A : Type 0} (f : A → ℕ) (l m : List A) → sum f (l ++ m) ≡ sum f l + sum f m
-unfolding sum
-sum-append f [] m = sym (zero-add (sum f m))
-sum-append f (x ∷ l) m = ap (λ n. f x + n) (sum-append f l m) ∙ sym (add-assoc (f x) (sum f l) (sum f m))
+pub sumOf-append : {A : Type 0} (f : A → ℕ) (l m : List A) → sumOf f (l ++ m) ≡ sumOf f l + sumOf f m
+unfolding sumOf
+sumOf-append f [] m = sym (zero-add (sumOf f m))
+sumOf-append f (x ∷ l) m = ap (λ n. f x + n) (sumOf-append f l m) ∙ sym (add-assoc (f x) (sumOf f l) (sumOf f m))
 
-pub sum-cong : (f g : ℕ → ℕ) (l : List ℕ) → ((x : ℕ) → member x l ≡ true → f x ≡ g x) → sum f l ≡ sum g l
-unfolding sum
-sum-cong f g [] h = refl
-sum-cong f g (x ∷ l) h = ap₂ _+_ (h x (member-head x l)) (sum-cong f g l (λ y m. h y (member-tail y x l m)))
+pub sumOf-cong : (f g : ℕ → ℕ) (l : List ℕ) → ((x : ℕ) → member x l ≡ true → f x ≡ g x) → sumOf f l ≡ sumOf g l
+unfolding sumOf
+sumOf-cong f g [] h = refl
+sumOf-cong f g (x ∷ l) h = ap₂ _+_ (h x (member-head x l)) (sumOf-cong f g l (λ y m. h y (member-tail y x l m)))
 
-pub sum-mono : (f g : ℕ → ℕ) (l : List ℕ) → ((x : ℕ) → member x l ≡ true → f x ≤ g x) → sum f l ≤ sum g l
-unfolding sum
-sum-mono f g [] h = zero-le
-sum-mono f g (x ∷ l) h = add-le-add (h x (member-head x l)) (sum-mono f g l (λ y m. h y (member-tail y x l m)))
+pub sumOf-mono : (f g : ℕ → ℕ) (l : List ℕ) → ((x : ℕ) → member x l ≡ true → f x ≤ g x) → sumOf f l ≤ sumOf g l
+unfolding sumOf
+sumOf-mono f g [] h = zero-le
+sumOf-mono f g (x ∷ l) h = add-le-add (h x (member-head x l)) (sumOf-mono f g l (λ y m. h y (member-tail y x l m)))
 
 -- the more pass, the larger the sum
-pub sum-filter : (f g : ℕ → Bool) (h : ℕ → ℕ) (l : List ℕ) → Implies l f g → sum h (filter f l) ≤ sum h (filter g l)
+pub sumOf-select : (f g : ℕ → Bool) (h : ℕ → ℕ) (l : List ℕ) → Implies l f g → sumOf h (select f l) ≤ sumOf h (select g l)
 unfolding lists
-sum-filter f g h [] i = zero-le
-sum-filter f g h (x ∷ l) i = go (f x) (g x) (i x (member-head x l)) (sum-filter f g h l (implies-tail x l f g i))
+sumOf-select f g h [] i = zero-le
+sumOf-select f g h (x ∷ l) i = go (f x) (g x) (i x (member-head x l)) (sumOf-select f g h l (implies-tail x l f g i))
   where
-    go : (b c : Bool) → (b ≡ true → c ≡ true) → sum h (filter f l) ≤ sum h (filter g l)
-        → sum h (keep b x (filter f l)) ≤ sum h (keep c x (filter g l))
+    go : (b c : Bool) → (b ≡ true → c ≡ true) → sumOf h (select f l) ≤ sumOf h (select g l)
+        → sumOf h (keep b x (select f l)) ≤ sumOf h (keep c x (select g l))
     go true true j le = omega arith
     go true false j le = contradiction (j refl) refl
     go false true j le = omega arith
@@ -91,22 +91,22 @@ largest-flatMap f g [] = refl
 largest-flatMap f g (x ∷ l) = largest-append f (g x) (flatMap g l) ∙ ap (max (largest f (g x))) (largest-flatMap f g l)
 
 -- over a map, over lists one behind the other, and of two functions at once
-pub sum-map : {A B : Type 0} (f : B → ℕ) (g : A → B) (l : List A) → sum f (map g l) ≡ sum (λ x. f (g x)) l
-unfolding sum
-sum-map f g [] = refl
-sum-map f g (x ∷ l) = ap (λ n. f (g x) + n) (sum-map f g l)
+pub sumOf-map : {A B : Type 0} (f : B → ℕ) (g : A → B) (l : List A) → sumOf f (map g l) ≡ sumOf (λ x. f (g x)) l
+unfolding sumOf
+sumOf-map f g [] = refl
+sumOf-map f g (x ∷ l) = ap (λ n. f (g x) + n) (sumOf-map f g l)
 
-pub sum-flatMap : {A B : Type 0} (f : B → ℕ) (g : A → List B) (l : List A) → sum f (flatMap g l) ≡ sum (λ x. sum f (g x)) l
+pub sumOf-flatMap : {A B : Type 0} (f : B → ℕ) (g : A → List B) (l : List A) → sumOf f (flatMap g l) ≡ sumOf (λ x. sumOf f (g x)) l
 unfolding lists
-sum-flatMap f g [] = refl
-sum-flatMap f g (x ∷ l) = sum-append f (g x) (flatMap g l) ∙ ap (λ n. sum f (g x) + n) (sum-flatMap f g l)
+sumOf-flatMap f g [] = refl
+sumOf-flatMap f g (x ∷ l) = sumOf-append f (g x) (flatMap g l) ∙ ap (λ n. sumOf f (g x) + n) (sumOf-flatMap f g l)
 
-pub sum-plus : {A : Type 0} (f g : A → ℕ) (l : List A) → sum (λ x. f x + g x) l ≡ sum f l + sum g l
-unfolding sum
-sum-plus f g [] = refl
-sum-plus f g (x ∷ l) = let e = sum-plus f g l in omega arith
+pub sumOf-plus : {A : Type 0} (f g : A → ℕ) (l : List A) → sumOf (λ x. f x + g x) l ≡ sumOf f l + sumOf g l
+unfolding sumOf
+sumOf-plus f g [] = refl
+sumOf-plus f g (x ∷ l) = let e = sumOf-plus f g l in omega arith
 
-pub sum-zero : {A : Type 0} (f : A → ℕ) (l : List A) → ((x : A) → f x ≡ 0) → sum f l ≡ 0
-unfolding sum
-sum-zero f [] h = refl
-sum-zero f (x ∷ l) h = let e = sum-zero f l h in omega (arith, h x)
+pub sumOf-zero : {A : Type 0} (f : A → ℕ) (l : List A) → ((x : A) → f x ≡ 0) → sumOf f l ≡ 0
+unfolding sumOf
+sumOf-zero f [] h = refl
+sumOf-zero f (x ∷ l) h = let e = sumOf-zero f l h in omega (arith, h x)

@@ -94,7 +94,8 @@ module _ (f : Form) (bytes : List ℕ) (l : Layout) (passes : passing f bytes �
   tested-stored : testedAs f bytes m ≡ accepted d
   unfolding testedAs outcomes
   tested-stored =
-      ap (λ o. o >>= λ k. require (goodLength (length (m .pool))) badPool 0 >> (require (good (k .deck) m) badState 0 >> accepted (k .deck))) passes
+      ap (λ o. o >>= λ k. require (goodLength (length (m .pool))) badPool 0 >>
+      (require (good (k .deck) m) badState 0 >> accepted (k .deck))) passes
       ∙ ap (λ b. require b badPool 0 >> (require (good d m) badState 0 >> accepted d)) (ap goodLength same-length ∙ long)
       ∙ ap (λ b. require b badState 0 >> accepted d) (good-stored d n x fine)
 
@@ -138,7 +139,8 @@ module _ (f : Form) (bytes : List ℕ) (l : Layout) (passes : passing f bytes �
   settle-agrees b =
       goes-on (λ k C y. settleBody k y b)
       ∙ guarded (leb b 65535) budgetTooLarge _ _
-      (ap₂ (λ c y. reply m (accepted (record { answer = cond (isEmpty (y .pending)) (settled c) (spent c); machine = y }))) (settling-made d b x) (settling-ends d b x)
+      (ap₂ (λ c y. reply m (accepted (record { answer = cond (isEmpty (y .pending)) (settled c) (spent c); machine = y })))
+      (settling-made d b x) (settling-ends d b x)
       ∙ accepted-handed _ (turns d b x) (ending x (turns d b x)))
 
   pub made-agrees : (c : Call) → madeAs f bytes m c ≡ handed n x (taken d (capacity n) x c)

@@ -6,7 +6,7 @@ use mathlib.Core.List.{List}
 use lib.Dec.{ltb, eqb}
 use lib.IntN.{ℤ}
 use borrow.Author.Tests.{eqb-true, eqb-false}
-use Rattle.lists.specs.Lists.{all}
+use Rattle.lists.specs.Lists.{allOf}
 use Rattle.deck.specs.Deck.{Deck, R, N}
 use Rattle.deck.specs.Laws.Formed.{Formed}
 use Rattle.deck.specs.Laws.Scoped.{Scoped}
@@ -29,7 +29,7 @@ use Rattle.orders.specs.Laws.Invariants.{InputKeeps, CommitKeeps, along-
 
 module _ (d : Deck) (formed : Formed d) (scope : Scoped d) where
   -- a limit reads known own channels alone: what is assigned at another part, it does not see
-  within-other : (p q : ℕ) (l : List Pair) (values : List ℤ) → all (λ c. ltb c (R d)) (channelsIn l) ≡ true → (q ≡ p → ⊥)
+  within-other : (p q : ℕ) (l : List Pair) (values : List ℤ) → allOf (λ c. ltb c (R d)) (channelsIn l) ≡ true → (q ≡ p → ⊥)
       → within d q (assign p l values) ≡ within d q values
   unfolding within satisfies
   within-other p q l values known other =
@@ -37,7 +37,7 @@ module _ (d : Deck) (formed : Formed d) (scope : Scoped d) where
       (λ c low. assign-part (R d) p q c l values (formed .channels) other low known) q
 
   -- values that are set at a part leave every part within its limit where they leave that part so
-  set-within : (p : ℕ) (l : List Pair) (x : Machine) → all (λ c. ltb c (R d)) (channelsIn l) ≡ true
+  set-within : (p : ℕ) (l : List Pair) (x : Machine) → allOf (λ c. ltb c (R d)) (channelsIn l) ≡ true
       → within d p (assign p l (x .values)) ≡ true → EveryWithin d x → EveryWithin d (setAndFire d p l x)
   unfolding EveryWithin setAndFire
   set-within p l x known here h q = go (eqb q p) refl

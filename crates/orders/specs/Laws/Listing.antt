@@ -9,8 +9,8 @@ use lib.Dec.{leb}
 use lib.ListN.{length}
 use lib.IntN.{ℤ}
 use borrow.Author.Tests.{le-leb, ltb-true}
-use Rattle.lists.specs.Lists.{lists, all, sum}
-use Rattle.lists.specs.Laws.Alls.{all-append, all-every}
+use Rattle.lists.specs.Lists.{lists, allOf, sumOf}
+use Rattle.lists.specs.Laws.Alls.{allOf-append, allOf-every}
 use Rattle.refusals.specs.Outcome.{Outcome, refused, accepted, _>>=_, _>>_, require, outcomes}
 use Rattle.refusals.specs.Numbers.{badPool, placeNotPending, budgetTooLarge}
 use Rattle.refusals.specs.Laws.Outcomes.{refused≢accepted, accepted-inj}
@@ -32,7 +32,8 @@ use Rattle.calls.specs.Calls as Calls
 use Rattle.calls.specs.Calls.{started, settled, spent, Reply, reply, opened}
 use Rattle.calls.specs.Laws.Opening.{fine-opened}
 use Rattle.orders.specs.Calling.{Call, input, commit, settle, runFromAs, runAs}
-use Rattle.orders.specs.Listed.{turn, turns, Taken, taken, machineAfter, Listed, inFront, listFrom, listed, commitsOf, addedOf, commitsMade, chargeAdded, chargePending}
+use Rattle.orders.specs.Listed.{turn, turns, Taken, taken, machineAfter, Listed, inFront, listFrom, listed, commitsOf, addedOf}
+use Rattle.orders.specs.Listed.{commitsMade, chargeAdded, chargePending}
 use Rattle.orders.specs.Order.{Along, Accepted, yes-accepted, RefusedAsPlaced, Settles, leavesWithin, EveryWithin, hasCharge, Order}
 use Rattle.orders.specs.Laws.Agreement.{handed, made-agrees}
 use Rattle.orders.specs.Laws.Taking.{answered, turnsOf, guard, takenTurn, commit-taken, turning, taking}
@@ -93,13 +94,15 @@ module _ (d : Deck) (C : ℕ) where
         (ap (λ z. cond z (settled (length (turns d b x))) (spent (length (turns d b x)))) (turning d formed acyclic C b x f .settles h)))
 
     -- the same with a good state at each call
-    along-fine : (P : Machine → Call → Type 0) → ((x : Machine) → Fine d C x → (c : Call) → P x c) → (x : Machine) → Fine d C x → (cs : List Call) → Along P d C x cs
+    along-fine : (P : Machine → Call → Type 0) → ((x : Machine) → Fine d C x → (c : Call) → P x c) → (x : Machine) → Fine d C x
+        → (cs : List Call) → Along P d C x cs
     unfolding Along
     along-fine P h x f [] = tt
     along-fine P h x f (c ∷ cs) = (h x f c, along-fine P h (machineAfter x (taken d C x c)) (taking d formed acyclic C x f c .fine) cs)
 
     list-paid : (x : Machine) → Fine d C x → (cs : List Call)
-        → sum commitsOf (listFrom d C x cs .answers) + charge d (listFrom d C x cs .machine .pending) ≤ sum addedOf (listFrom d C x cs .answers) + charge d (x .pending)
+        → sumOf commitsOf (listFrom d C x cs .answers) + charge d (listFrom d C x cs .machine .pending)
+        ≤ sumOf addedOf (listFrom d C x cs .answers) + charge d (x .pending)
     unfolding listFrom lists
     list-paid x f [] = omega arith
     list-paid x f (c ∷ cs) =
@@ -108,21 +111,22 @@ module _ (d : Deck) (C : ℕ) where
         let rest = listFrom d C (machineAfter x o) cs in
         omega (
           arith,
-          ap (sum commitsOf) (front-answers o rest),
-          ap (sum addedOf) (front-answers o rest),
+          ap (sumOf commitsOf) (front-answers o rest),
+          ap (sumOf addedOf) (front-answers o rest),
           ap (λ m. charge d (m .pending)) (front-machine o rest),
           t .paid,
           list-paid (machineAfter x o) (t .fine) cs,
         )
 
-    list-stays : (x : Machine) → Fine d C x → (cs : List Call) → all (leavesWithin d) (listFrom d C x cs .turns) ≡ true
+    list-stays : (x : Machine) → Fine d C x → (cs : List Call) → allOf (leavesWithin d) (listFrom d C x cs .turns) ≡ true
     unfolding listFrom lists
     list-stays x f [] = refl
     list-stays x f (c ∷ cs) =
         let o = taken d C x c in
         let t = taking d formed acyclic C x f c in
         let rest = listFrom d C (machineAfter x o) cs in
-        ap (all (leavesWithin d)) (front-turns o rest) ∙ all-append (leavesWithin d) (turnsOf o) (rest .turns) (t .stays) (list-stays (machineAfter x o) (t .fine) cs)
+        ap (allOf (leavesWithin d)) (front-turns o rest)
+        ∙ allOf-append (leavesWithin d) (turnsOf o) (rest .turns) (t .stays) (list-stays (machineAfter x o) (t .fine) cs)
 
 -- ---- the calls on memory
 
@@ -187,10 +191,10 @@ start-fresh form bytes pool h = go (passing form bytes) refl (goodLength (length
         (l, record { passes = e; long = f; left = ap₂ (λ o b. after o b .memory) e f })
 
 -- an update's charge counts the commit of the update itself
-all-charged : (d : Deck) (us : List Update) → all (hasCharge d) us ≡ true
+all-charged : (d : Deck) (us : List Update) → allOf (hasCharge d) us ≡ true
 unfolding hasCharge
 all-charged d us =
-    all-every (hasCharge d) (λ u. le-leb 1 (updateCharge d (u .part) (channels u)) (update-at-least-one d (u .part) (channels u))) us
+    allOf-every (hasCharge d) (λ u. le-leb 1 (updateCharge d (u .part) (channels u)) (update-at-least-one d (u .part) (channels u))) us
 
 nothing-charged : (d : Deck) → charge d (opened d .pending) ≡ 0
 unfolding opened charge lists

@@ -8,7 +8,7 @@ use native.Mathlib.Omega.{arith}
 use lib.Dec.{ltb}
 use lib.ListN.{length}
 use lib.IntN.{ℤ}
-use Rattle.lists.specs.Lists.{all, any, filter, eqList}
+use Rattle.lists.specs.Lists.{allOf, anyOf, select, eqList}
 use Rattle.lists.specs.Laws.Statements.{or-iff}
 use Rattle.deck.specs.Deck.{Deck, Rule, R, N, ruleAt}
 use Rattle.deck.specs.Laws.Formed.{Formed}
@@ -18,7 +18,8 @@ use Rattle.pool.specs.Laws.Values.{channelsIn}
 use Rattle.pool.specs.Laws.Assigned.{assign-part}
 use Rattle.firing.specs.Firing.{fired, enqueue, changed}
 use Rattle.firing.specs.Laws.Among.{enqueue-among}
-use Rattle.orders.specs.Calculus.{Agree, In, Task, overridden, changedBy, activeRules, updatesFrom, defUpds, localUpds, extTasks, partialTask, discovered, programOf}
+use Rattle.orders.specs.Calculus.{Agree, In, Task, overridden, changedBy, activeRules, updatesFrom, defUpds, localUpds, extTasks}
+use Rattle.orders.specs.Calculus.{partialTask, discovered, programOf}
 use Rattle.orders.specs.Laws.Active.{assign-overridden, numbers, active-rules, active-changed}
 use Rattle.orders.specs.Laws.Fired.{at, firedBy, local, fired-here}
 use Rattle.orders.specs.Laws.Discovered.{fired-there}
@@ -34,7 +35,7 @@ either-iff a b c = (
 )
 
 module _ (d : Deck) (formed : Formed d) (scoped : Scoped d) (p : ℕ) (inside : p < N d) (l : List Pair) (values : List ℤ)
-    (known : all (λ c. ltb c (R d)) (channelsIn l) ≡ true) where
+    (known : allOf (λ c. ltb c (R d)) (channelsIn l) ≡ true) where
   abbrev after : List ℤ
   after = assign p l values
 
@@ -58,7 +59,8 @@ module _ (d : Deck) (formed : Formed d) (scoped : Scoped d) (p : ℕ) (inside : 
   new-same = ap (λ rs. firedBy d after p (map (ruleAt d) rs)) (active-changed d p l values known)
 
   pub pool-here : (us : List Update) (u : List Pair)
-      → (isAmong (at p u) (enqueue us new) ≡ true) ↔ ((isAmong (at p u) us ≡ true) ⊎ (In u (defUpds rules X (valueAt after p)) ⊎ In u (localUpds rules X (valueAt after p))))
+      → (isAmong (at p u) (enqueue us new) ≡ true) ↔ ((isAmong (at p u) us ≡ true)
+      ⊎ (In u (defUpds rules X (valueAt after p)) ⊎ In u (localUpds rules X (valueAt after p))))
   unfolding defUpds localUpds
   pool-here us u =
       same-iff (isAmong (at p u) (enqueue us new)) _
@@ -67,15 +69,18 @@ module _ (d : Deck) (formed : Formed d) (scoped : Scoped d) (p : ℕ) (inside : 
       (ap (isAmong (at p u)) new-same
       ∙ fired-here d after p u (map (ruleAt d) (numbers d p X))
       ∙ ap₂ _||_
-      (ap (λ rs. any (eqList eqPair u) (updatesFrom (valueAt after p) (map (λ r. r .default) rs))) back)
-      (ap (λ rs. any (eqList eqPair u) (updatesFrom (valueAt after p) (map (λ r. r .action) (filter (local (valueAt after p)) rs)))) back)))
-      (either-iff (isAmong (at p u) us) (any (eqList eqPair u) (defUpds rules X (valueAt after p))) (any (eqList eqPair u) (localUpds rules X (valueAt after p))))
+      (ap (λ rs. anyOf (eqList eqPair u) (updatesFrom (valueAt after p) (map (λ r. r .default) rs))) back)
+      (ap (λ rs. anyOf (eqList eqPair u) (updatesFrom (valueAt after p) (map (λ r. r .action) (select (local (valueAt after p)) rs))))
+      back)))
+      (either-iff (isAmong (at p u) us) (anyOf (eqList eqPair u) (defUpds rules X (valueAt after p)))
+      (anyOf (eqList eqPair u) (localUpds rules X (valueAt after p))))
     where
       back : map (ruleAt d) (numbers d p X) ≡ activeRules rules X
       back = sym (active-rules d p X)
 
   pub pool-there : (us : List Update) (q : ℕ) → q < N d → (q ≡ p → ⊥) → (u : List Pair)
-      → (isAmong (at q u) (enqueue us new) ≡ true) ↔ ((isAmong (at q u) us ≡ true) ⊎ In u (discovered (extTasks rules X (valueAt after p)) (valueAt values q)))
+      → (isAmong (at q u) (enqueue us new) ≡ true) ↔ ((isAmong (at q u) us ≡ true)
+      ⊎ In u (discovered (extTasks rules X (valueAt after p)) (valueAt values q)))
   unfolding extTasks
   pool-there us q lq other u =
       let tasks : List Task = extTasks rules X (valueAt after p) in
@@ -84,6 +89,7 @@ module _ (d : Deck) (formed : Formed d) (scoped : Scoped d) (p : ℕ) (inside : 
       ∙ ap (λ b. isAmong (at q u) us || b)
       (ap (isAmong (at q u)) new-same
       ∙ fired-there d scoped after p q (valueAt values q) (state-there q other) lq other u (numbers d p X)
-      ∙ ap (λ rs. any (eqList eqPair u) (discovered (map (partialTask (valueAt after p)) (filter (λ r. r .everywhere) rs)) (valueAt values q)))
+      ∙ ap (λ rs. anyOf (eqList eqPair u)
+      (discovered (map (partialTask (valueAt after p)) (select (λ r. r .everywhere) rs)) (valueAt values q)))
       (sym (active-rules d p X))))
-      (or-iff (isAmong (at q u) us) (any (eqList eqPair u) (discovered tasks (valueAt values q))))
+      (or-iff (isAmong (at q u) us) (anyOf (eqList eqPair u) (discovered tasks (valueAt values q))))

@@ -3,7 +3,7 @@ use mathlib.Core.Path.{_≡_, refl, ap, ap₂}
 use mathlib.Core.Bool.{not}
 use Rattle.expression.specs.Syntax.{Num, literal, own, far, two, negation}
 use Rattle.expression.specs.Syntax.{Truth, constant, opposite, both, compared}
-use Rattle.expression.specs.Values.{arith, join, compare, numValue, truthValue}
+use Rattle.expression.specs.Values.{arith, join, comparison, numValue, truthValue}
 use Rattle.orders.specs.Calculus.{State, partialNum, partialTruth}
 
 -- s is the sender's state and q the receiver's; no far channel is left, so f has no say
@@ -21,4 +21,4 @@ module _ (s q f : State) where
   partial-truth (constant b) = refl
   partial-truth (opposite t) = ap not (partial-truth t)
   partial-truth (both k t u) = ap₂ (join k) (partial-truth t) (partial-truth u)
-  partial-truth (compared k a b) = ap₂ (compare k) (partial-num a) (partial-num b)
+  partial-truth (compared k a b) = ap₂ (comparison k) (partial-num a) (partial-num b)

@@ -65,7 +65,8 @@ module _ (bytes : List ℕ) (b : Bytes bytes) (m : Memory) (t : Tested bytes m) 
   taken-answer : (c : Call) (a : Answer) → made bytes m c .answer ≡ accepted a
       → answered (taken deckOf (capacity (length (m .pool))) (load m) c) ≡ accepted a
   taken-answer c a h =
-      sym (ap (λ r. r .answer) (from-loaded c) ∙ handed-answer (length (m .pool)) (load m) (taken deckOf (capacity (length (m .pool))) (load m) c)) ∙ h
+      sym (ap (λ r. r .answer) (from-loaded c)
+      ∙ handed-answer (length (m .pool)) (load m) (taken deckOf (capacity (length (m .pool))) (load m) c)) ∙ h
 
 -- ---- inputs
 
@@ -102,7 +103,8 @@ module _ (d : Deck) (formed : Formed d) (scope : Scoped d) (C : ℕ) (x : Machin
         (input-step d formed scope p (ltb-true p (N d) lp) (pairsOf l) x (f .long) (input-known d l g), g),
       )))))
 
-pub input-is-published : (bytes : List ℕ) (m : Memory) (p : ℕ) (l : List ℤ) → Bytes bytes → (a : Answer) → Calls.input bytes m p l .answer ≡ accepted a
+pub input-is-published : (bytes : List ℕ) (m : Memory) (p : ℕ) (l : List ℤ) → Bytes bytes → (a : Answer)
+    → Calls.input bytes m p l .answer ≡ accepted a
     → InputStep bytes m (Calls.input bytes m p l .memory) p (pairsOf l)
 unfolding madeAs
 input-is-published bytes m p l b a h =
@@ -144,7 +146,9 @@ pub record CommitStep (bytes : List ℕ) (m m′ : Memory) (k : ℕ) (a : Answer
   pub told : Told a
   pub applied-executes : (c : ℕ) → a ≡ applied c
       → Exec (programOf (layout .deck) part) (systemOf (load m) part) upd (systemOf (load m′) part)
-      × Step (layout .deck) (systemOf (load m)) part (executes upd (sentTasks (programOf (layout .deck) part) (systemOf (load m) part) upd (systemOf (load m′) part))) (systemOf (load m′))
+      × Step (layout .deck) (systemOf (load m)) part
+      (executes upd (sentTasks (programOf (layout .deck) part) (systemOf (load m) part) upd (systemOf (load m′) part)))
+      (systemOf (load m′))
   pub discarded-fails : (c : ℕ) → a ≡ discarded c
       → ExecFail (programOf (layout .deck) part) (systemOf (load m) part) upd (systemOf (load m′) part)
       × Step (layout .deck) (systemOf (load m)) part (executes upd []) (systemOf (load m′))
@@ -176,7 +180,9 @@ module _ (d : Deck) (C : ℕ) (x : Machine) (k : ℕ) (a : Answer) where
   pub record Took (o : Outcome Taken) : Type 0 where
     pub place : k < length (x .pending)
     pub after : machineAfter x o ≡ committed d k x .machine
-    pub answer : a ≡ cond (committed d k x .applied) (applied (charge d (committed d k x .machine .pending))) (discarded (charge d (committed d k x .machine .pending)))
+    pub answer : a
+        ≡ cond (committed d k x .applied) (applied (charge d (committed d k x .machine .pending)))
+        (discarded (charge d (committed d k x .machine .pending)))
 
   took : answered (taken d C x (commit k)) ≡ accepted a → Took (taken d C x (commit k))
   unfolding taken machineAfter turn
@@ -234,7 +240,8 @@ pub record ReachedByCall (bytes : List ℕ) (m : Memory) (d : Deck) (p : ℕ) (u
   pub fail-discarded : ExecFail (programOf d p) (systemOf (load m) p) upd (S p)
       → (c : ℕ) × (Calls.commit bytes m place .answer ≡ accepted (discarded c))
 
-pub commit-reached : (bytes : List ℕ) (m : Memory) → Bytes bytes → (t : Tested bytes m) (p : ℕ) (upd : List Pair) (ts : List Task) (S : System)
+pub commit-reached : (bytes : List ℕ) (m : Memory) → Bytes bytes
+    → (t : Tested bytes m) (p : ℕ) (upd : List Pair) (ts : List Task) (S : System)
     → Step (t .layout .deck) (systemOf (load m)) p (executes upd ts) S → ReachedByCall bytes m (t .layout .deck) p upd S
 unfolding madeAs machineAfter turn
 commit-reached bytes m b t p upd ts S step =

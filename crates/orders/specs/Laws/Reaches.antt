@@ -7,7 +7,7 @@ use mathlib.Core.List.{List, []}
 use lib.Dec.{ltb, eqb}
 use lib.ListN.{length}
 use borrow.Author.Tests.{eqb-true, eqb-false}
-use Rattle.lists.specs.Lists.{all}
+use Rattle.lists.specs.Lists.{allOf}
 use Rattle.lists.specs.Laws.Booleans.{contradiction}
 use Rattle.deck.specs.Deck.{Deck, R, N}
 use Rattle.deck.specs.Laws.Formed.{Formed}
@@ -43,7 +43,7 @@ pub record Alike (n : ℕ) (a b : Node) : Type 0 where
   pub pool : (u : List Pair) → a .pool u ↔ b .pool u
 
 module _ (d : Deck) (scoped : Scoped d) (p : ℕ) (n a b : Node) (upd : List Pair)
-    (few : all (λ c. ltb c (R d)) (channelsIn upd) ≡ true) where
+    (few : allOf (λ c. ltb c (R d)) (channelsIn upd) ≡ true) where
   abbrev P : Program
   P = programOf d p
 
@@ -54,17 +54,20 @@ module _ (d : Deck) (scoped : Scoped d) (p : ℕ) (n a b : Node) (upd : List Pai
     new-same : (u : List Pair) → New P n upd a u → New P n upd b u
     new-same u (inl h) =
         inl (subst (λ us. In u us)
-        (defUpds-same d scoped (a .state) (b .state) same p (changedBy upd (n .state) (a .state)) ∙ ap (λ X. defUpds (P .rules) X (b .state)) X-same) h)
+        (defUpds-same d scoped (a .state) (b .state) same p (changedBy upd (n .state) (a .state))
+        ∙ ap (λ X. defUpds (P .rules) X (b .state)) X-same) h)
     new-same u (inr h) =
         inr (subst (λ us. In u us)
-        (localUpds-same d scoped (a .state) (b .state) same p (changedBy upd (n .state) (a .state)) ∙ ap (λ X. localUpds (P .rules) X (b .state)) X-same) h)
+        (localUpds-same d scoped (a .state) (b .state) same p (changedBy upd (n .state) (a .state))
+        ∙ ap (λ X. localUpds (P .rules) X (b .state)) X-same) h)
 
     sent-same : sentTasks P n upd a ≡ sentTasks P n upd b
     sent-same =
-        extTasks-same d scoped (a .state) (b .state) same p (changedBy upd (n .state) (a .state)) ∙ ap (λ X. extTasks (P .rules) X (b .state)) X-same
+        extTasks-same d scoped (a .state) (b .state) same p (changedBy upd (n .state) (a .state))
+        ∙ ap (λ X. extTasks (P .rules) X (b .state)) X-same
 
 module _ (d : Deck) (scoped : Scoped d) (p : ℕ) (n a b : Node) (upd : List Pair)
-    (few : all (λ c. ltb c (R d)) (channelsIn upd) ≡ true) where
+    (few : allOf (λ c. ltb c (R d)) (channelsIn upd) ≡ true) where
   abbrev Q : Program
   Q = programOf d p
 
@@ -73,10 +76,10 @@ module _ (d : Deck) (scoped : Scoped d) (p : ℕ) (n a b : Node) (upd : List Pai
   exec-state e f c lc = e .state c lc ∙ sym (f .state c lc)
 
   -- what is kept, and what is new
-  abbrev Holds : (List Pair → Type 0) → Node → Type 0
-  Holds kept m = (u : List Pair) → m .pool u ↔ (kept u ⊎ New Q n upd m u)
+  abbrev PoolHolds : (List Pair → Type 0) → Node → Type 0
+  PoolHolds kept m = (u : List Pair) → m .pool u ↔ (kept u ⊎ New Q n upd m u)
 
-  new-pool : (kept : List Pair → Type 0) → Agree (R d) (a .state) (b .state) → Holds kept a → Holds kept b
+  new-pool : (kept : List Pair → Type 0) → Agree (R d) (a .state) (b .state) → PoolHolds kept a → PoolHolds kept b
       → (u : List Pair) → a .pool u → b .pool u
   new-pool kept same e f u h = f u .1 (⊎-elim (λ w. inl w) (λ w. inr (new-same d scoped p n a b upd few same u w)) (e u .0 h))
 
@@ -98,7 +101,7 @@ module _ (d : Deck) (scoped : Scoped d) (p : ℕ) (n a b : Node) (upd : List Pai
   input-state e f c lc = e .state c lc ∙ sym (f .state c lc)
 
 -- two nodes that came to the same state, each with what was kept and what is new, are alike
-alike-new : (d : Deck) → Scoped d → (p : ℕ) (n a b : Node) (upd : List Pair) → all (λ c. ltb c (R d)) (channelsIn upd) ≡ true
+alike-new : (d : Deck) → Scoped d → (p : ℕ) (n a b : Node) (upd : List Pair) → allOf (λ c. ltb c (R d)) (channelsIn upd) ≡ true
     → (kept : List Pair → Type 0) → Agree (R d) (a .state) (b .state)
     → ((u : List Pair) → a .pool u ↔ (kept u ⊎ New (programOf d p) n upd a u))
     → ((u : List Pair) → b .pool u ↔ (kept u ⊎ New (programOf d p) n upd b u)) → Alike (R d) a b
@@ -113,7 +116,7 @@ alike-new d scoped p n a b upd few kept same e f =
 
 -- two inputs of the same values at one node end alike and send the same tasks
 pub enters-determined : (d : Deck) → Scoped d → (p : ℕ) (n a b : Node) (upd : List Pair) (ts us : List Task)
-    → all (λ c. ltb c (R d)) (channelsIn upd) ≡ true
+    → allOf (λ c. ltb c (R d)) (channelsIn upd) ≡ true
     → Acts (programOf d p) n (enters upd ts) a → Acts (programOf d p) n (enters upd us) b → Alike (R d) a b × (ts ≡ us)
 enters-determined d scoped p n a b upd ts us few x y =
     let e = entered (programOf d p) n a upd ts x in
@@ -125,7 +128,7 @@ enters-determined d scoped p n a b upd ts us few x y =
 
 -- two executions of one update at one node end alike and send the same tasks
 pub acts-determined : (d : Deck) → Scoped d → (p : ℕ) (n a b : Node) (upd : List Pair) (ts us : List Task)
-    → all (λ c. ltb c (R d)) (channelsIn upd) ≡ true
+    → allOf (λ c. ltb c (R d)) (channelsIn upd) ≡ true
     → Acts (programOf d p) n (executes upd ts) a → Acts (programOf d p) n (executes upd us) b → Alike (R d) a b × (ts ≡ us)
 acts-determined d scoped p n a b upd ts us few x y = go (executed _ n a upd ts x) (executed _ n b upd us y)
   where
@@ -174,7 +177,7 @@ steps-alike d S p α β A B x y both q lq = go (eqb q p) refl
         discovers-determined d q (S q) (A q) (B q) (tasksOf α) (tasksOf β) (both .1) (x .others q lq other) (y .others q lq other)
 
 pub step-determined : (d : Deck) → Scoped d → (S : System) (p : ℕ) (upd : List Pair) (ts us : List Task) (A B : System)
-    → all (λ c. ltb c (R d)) (channelsIn upd) ≡ true
+    → allOf (λ c. ltb c (R d)) (channelsIn upd) ≡ true
     → Step d S p (executes upd ts) A → Step d S p (executes upd us) B → (q : ℕ) → q < N d → Alike (R d) (A q) (B q)
 unfolding tasksOf
 step-determined d scoped S p upd ts us A B few x y =
@@ -182,7 +185,7 @@ step-determined d scoped S p upd ts us A B few x y =
     (acts-determined d scoped p (S p) (A p) (B p) upd ts us few (x .acts) (y .acts))
 
 pub input-determined : (d : Deck) → Scoped d → (S : System) (p : ℕ) (upd : List Pair) (ts us : List Task) (A B : System)
-    → all (λ c. ltb c (R d)) (channelsIn upd) ≡ true
+    → allOf (λ c. ltb c (R d)) (channelsIn upd) ≡ true
     → Step d S p (enters upd ts) A → Step d S p (enters upd us) B → (q : ℕ) → q < N d → Alike (R d) (A q) (B q)
 unfolding tasksOf
 input-determined d scoped S p upd ts us A B few x y =
@@ -208,11 +211,14 @@ picked d x p upd ts S step =
 
 -- whether it is applied or discarded, the commit of a place executes some tasks
 commits : (d : Deck) (k : ℕ) (x : Machine) → Committing d k x
-    → (ts : List Task) × Step d (systemOf x) (pick k (x .pending) .part) (executes (pick k (x .pending) .pairs) ts) (systemOf (committed d k x .machine))
+    → (ts : List Task)
+    × Step d (systemOf x) (pick k (x .pending) .part) (executes (pick k (x .pending) .pairs) ts) (systemOf (committed d k x .machine))
 commits d k x c = go (committed d k x .applied) refl
   where
     go : (b : Bool) → committed d k x .applied ≡ b
-        → (ts : List Task) × Step d (systemOf x) (pick k (x .pending) .part) (executes (pick k (x .pending) .pairs) ts) (systemOf (committed d k x .machine))
+        → (ts : List Task)
+        × Step d (systemOf x) (pick k (x .pending) .part) (executes (pick k (x .pending) .pairs) ts)
+        (systemOf (committed d k x .machine))
     go true e = (sending d (pick k (x .pending) .part) (pick k (x .pending) .pairs) x (committed d k x .machine), c .applied e)
     go false e = ([], c .discarded e)
 
@@ -223,8 +229,11 @@ commit-reaches d formed scoped C x fine p upd ts S step =
     let found = among-pick (at p upd) (x .pending) (picked d x p upd ts S step) in
     let k = found .0 in
     let made = commits d k x (commit-step d formed scoped C x fine k (found .1)) in
-    let few = subst (λ u. all (λ c. ltb c (R d)) (channelsIn (u .pairs)) ≡ true) (found .2) (pick-known d C x k fine (found .1) .inside) in
-    let there = subst (λ u. Step d (systemOf x) (u .part) (executes (u .pairs) (made .0)) (systemOf (committed d k x .machine))) (found .2) (made .1) in
+    let few =
+    subst (λ u. allOf (λ c. ltb c (R d)) (channelsIn (u .pairs)) ≡ true) (found .2) (pick-known d C x k fine (found .1) .inside) in
+    let there =
+    subst (λ u. Step d (systemOf x) (u .part) (executes (u .pairs) (made .0)) (systemOf (committed d k x .machine))) (found .2)
+    (made .1) in
     let alike = step-determined d scoped (systemOf x) p upd ts (made .0) S (systemOf (committed d k x .machine)) few step there in
     let y = committed d k x .machine in
     let c = commit-step d formed scoped C x fine k (found .1) in

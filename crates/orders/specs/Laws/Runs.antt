@@ -9,10 +9,10 @@ use native.Mathlib.Omega.{arith}
 use lib.Dec.{ltb}
 use lib.ListN.{length}
 use borrow.Author.Tests.{ltb-true}
-use Rattle.lists.specs.Lists.{lists, all, filter, member, isEmpty, eqZ, keep}
-use Rattle.lists.specs.Laws.Alls.{all-head, all-tail}
-use Rattle.lists.specs.Laws.Members.{all-member}
-use Rattle.lists.specs.Laws.Filters.{filter-map}
+use Rattle.lists.specs.Lists.{lists, allOf, select, member, isEmpty, eqZ, keep}
+use Rattle.lists.specs.Laws.Alls.{allOf-head, allOf-tail}
+use Rattle.lists.specs.Laws.Members.{allOf-member}
+use Rattle.lists.specs.Laws.Filters.{select-map}
 use Rattle.expression.specs.Encoding.{goodNum}
 use Rattle.expression.specs.Reading.{Scope}
 use Rattle.expression.specs.Laws.Agreement.{num-agree, truth-agree}
@@ -44,17 +44,17 @@ use Rattle.orders.specs.Laws.Kept.{Tested, passed-formed, passed-acyclic
 
 -- ---- the node that acts
 
-changed-left : (n : ℕ) (l : List Pair) (v w s : State) → all (λ c. ltb c n) (channelsIn l) ≡ true → Agree n v w
+changed-left : (n : ℕ) (l : List Pair) (v w s : State) → allOf (λ c. ltb c n) (channelsIn l) ≡ true → Agree n v w
     → changedBy l v s ≡ changedBy l w s
 unfolding changedBy
 changed-left n l v w s known same = fun-ext (λ c. go c (member c (channelsIn l)) refl)
   where
     go : (c : ℕ) (b : Bool) → member c (channelsIn l) ≡ b → (b && not (eqZ (v c) (s c))) ≡ (b && not (eqZ (w c) (s c)))
-    go c true e = ap (λ z. not (eqZ z (s c))) (same c (ltb-true c n (all-member (λ c. ltb c n) (channelsIn l) .0 known c e)))
+    go c true e = ap (λ z. not (eqZ z (s c))) (same c (ltb-true c n (allOf-member (λ c. ltb c n) (channelsIn l) .0 known c e)))
     go c false e = refl
 
 module _ (d : Deck) (scoped : Scoped d) (p : ℕ) (n m : Node) (alike : Alike (R d) n m) (upd : List Pair)
-    (few : all (λ c. ltb c (R d)) (channelsIn upd) ≡ true) (a : Node) where
+    (few : allOf (λ c. ltb c (R d)) (channelsIn upd) ≡ true) (a : Node) where
   abbrev P : Program
   P = programOf d p
 
@@ -130,9 +130,9 @@ module _ (d : Deck) (scoped : Scoped d) (s t t′ : State) (same : Agree (R d) t
   values-there sc fars (x ∷ a) h =
       ap₂ (λ v l. record { channel = x .target; value = v } ∷ l)
       (partial-num s t t (x .value)
-      ∙ num-agree sc s s t t′ (λ c l. refl) (λ c l. same c (omega arith)) (x .value) (all-head (λ x. goodNum sc (x .value)) x a h)
+      ∙ num-agree sc s s t t′ (λ c l. refl) (λ c l. same c (omega arith)) (x .value) (allOf-head (λ x. goodNum sc (x .value)) x a h)
       ∙ sym (partial-num s t′ t′ (x .value)))
-      (values-there sc fars a (all-tail (λ x. goodNum sc (x .value)) x a h))
+      (values-there sc fars a (allOf-tail (λ x. goodNum sc (x .value)) x a h))
 
   action-there : (r : ℕ) → evaluate t (sent r .action) ≡ evaluate t′ (sent r .action)
   unfolding partialTask
@@ -145,7 +145,7 @@ module _ (d : Deck) (scoped : Scoped d) (s t t′ : State) (same : Agree (R d) t
   madeBy v ts = map (evaluate v) (map (λ k. k .action) ts)
 
   abbrev holding : State → List Task → List Task
-  holding v ts = filter (λ k. satisfies v (k .condition)) ts
+  holding v ts = select (λ k. satisfies v (k .condition)) ts
 
   one-there : (r : ℕ) (l : List Task) (b c : Bool) → b ≡ c → madeBy t (holding t l) ≡ madeBy t′ (holding t′ l)
       → madeBy t (keep b (sent r) (holding t l)) ≡ madeBy t′ (keep c (sent r) (holding t′ l))
@@ -159,22 +159,22 @@ module _ (d : Deck) (scoped : Scoped d) (s t t′ : State) (same : Agree (R d) t
   tasks l = map (partialTask s) (map (ruleAt d) l)
 
   made-there : (l : List ℕ) → madeBy t (holding t (tasks l)) ≡ madeBy t′ (holding t′ (tasks l))
-  unfolding filter
+  unfolding select
   made-there [] = refl
   made-there (r ∷ l) =
       one-there r (tasks l) (satisfies t (sent r .condition)) (satisfies t′ (sent r .condition)) (condition-there r) (made-there l)
 
   discovered-there : (l : List ℕ) → discovered (tasks l) t ≡ discovered (tasks l) t′
   unfolding discovered updatesFrom
-  discovered-there l = ap (filter (λ u. not (isEmpty u))) (made-there l)
+  discovered-there l = ap (select (λ u. not (isEmpty u))) (made-there l)
 
 -- the tasks that a node of a deck sends are its everywhere rules', by number
 sent-numbers : (d : Deck) (p : ℕ) (X : ℕ → Bool) (s : State)
-    → extTasks (programOf d p .rules) X s ≡ map (partialTask s) (map (ruleAt d) (filter (λ r. ruleAt d r .everywhere) (numbers d p X)))
+    → extTasks (programOf d p .rules) X s ≡ map (partialTask s) (map (ruleAt d) (select (λ r. ruleAt d r .everywhere) (numbers d p X)))
 unfolding extTasks
 sent-numbers d p X s =
     ap (map (partialTask s))
-    (ap (filter (λ r. r .everywhere)) (active-rules d p X) ∙ filter-map (λ r. r .everywhere) (ruleAt d) (numbers d p X))
+    (ap (select (λ r. r .everywhere)) (active-rules d p X) ∙ select-map (λ r. r .everywhere) (ruleAt d) (numbers d p X))
 
 -- whatever was executed, a node discovers the same where known channels have the same values
 discovers-same : (d : Deck) → Scoped d → (p : ℕ) (n a : Node) (upd : List Pair) (ts : List Task)
@@ -190,7 +190,7 @@ discovers-same d scoped p n a upd ts x t t′ same = go (executed (programOf d p
     go (inl (e, i)) =
         let j = i ∙ sent-numbers d p X (a .state) in
         ap (λ l. discovered l t) j
-        ∙ discovered-there d scoped (a .state) t t′ same (filter (λ r. ruleAt d r .everywhere) (numbers d p X))
+        ∙ discovered-there d scoped (a .state) t t′ same (select (λ r. ruleAt d r .everywhere) (numbers d p X))
         ∙ sym (ap (λ l. discovered l t′) j)
     go (inr (e, i)) = ap (λ l. discovered l t) i ∙ sym (ap (λ l. discovered l t′) i)
 
@@ -202,7 +202,7 @@ Same d S T = (q : ℕ) → q < N d → Alike (R d) (S q) (T q)
 
 -- systems that cannot be told apart have the same commits
 pub step-alike : (d : Deck) → Scoped d → (S T : System) → Same d S T → (p : ℕ) (upd : List Pair) (ts : List Task) (A : System)
-    → all (λ c. ltb c (R d)) (channelsIn upd) ≡ true → Step d S p (executes upd ts) A → Step d T p (executes upd ts) A
+    → allOf (λ c. ltb c (R d)) (channelsIn upd) ≡ true → Step d S p (executes upd ts) A → Step d T p (executes upd ts) A
 unfolding tasksOf programOf
 step-alike d scoped S T same p upd ts A few x =
     record {
@@ -241,7 +241,7 @@ module _ (d : Deck) (formed : Formed d) (acyclic : Acyclic d) (scoped : Scoped d
   runs-from (suc n) x f S same (then {A = A} p upd ts step rest) =
       let found = among-pick (at p upd) (x .pending) (picked-here x S same p upd ts A step) in
       let known = pick-known d C x (found .0) f (found .1) .inside in
-      let few = subst (λ u. all (λ c. ltb c (R d)) (channelsIn (u .pairs)) ≡ true) (found .2) known in
+      let few = subst (λ u. allOf (λ c. ltb c (R d)) (channelsIn (u .pairs)) ≡ true) (found .2) known in
       let here = step-alike d scoped S (systemOf x) same p upd ts A few step in
       let r = commit-reaches d formed scoped C x f p upd ts A here in
       let k = r .place in

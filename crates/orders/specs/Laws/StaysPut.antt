@@ -8,10 +8,10 @@ use lib.Dec.{leb, ltb, eqb}
 use lib.ListN.{length}
 use lib.IntN.{ℤ}
 use borrow.Author.Tests.{ltb-true, eqb-true, eqb-false}
-use Rattle.lists.specs.Lists.{lists, all, flatMap, member, isEmpty}
+use Rattle.lists.specs.Lists.{lists, allOf, flatMap, member, isEmpty}
 use Rattle.lists.specs.Laws.Booleans.{or-left, or-right, not-true→false, contradiction}
-use Rattle.lists.specs.Laws.Alls.{all-none, all-cons, all-left, all-right, all-at, all-flatMap, flatMap-all}
-use Rattle.lists.specs.Laws.Members.{all-member}
+use Rattle.lists.specs.Laws.Alls.{allOf-none, allOf-cons, allOf-left, allOf-right, allOf-at, allOf-flatMap, flatMap-all}
+use Rattle.lists.specs.Laws.Members.{allOf-member}
 use Rattle.refusals.specs.Outcome.{Outcome, refused, accepted}
 use Rattle.refusals.specs.Numbers.{unknownPart, badInput, inputOutside, overCapacity, placeNotPending, budgetTooLarge}
 use Rattle.expression.specs.Laws.Bytes.{Bytes}
@@ -67,12 +67,12 @@ module _ (d : Deck) (names : List ℕ) (kept : List ℤ) where
   isLed = led d names
 
   abbrev setsLed : Update → Bool
-  setsLed u = all isLed (channels u)
+  setsLed u = allOf isLed (channels u)
 
   -- every other channel has its value of the table `kept`, and no pending update sets one
   record Untouched (x : Machine) : Type 0 where
     pub value : (p c : ℕ) → p < N d → c < R d → isLed c ≡ false → valueAt (x .values) p c ≡ valueAt kept p c
-    pub pending : all setsLed (x .pending) ≡ true
+    pub pending : allOf setsLed (x .pending) ≡ true
 
   -- in a good state with C places
   abbrev FineUntouched : ℕ → Machine → Type 0
@@ -80,12 +80,12 @@ module _ (d : Deck) (names : List ℕ) (kept : List ℤ) where
 
   -- ---- the firing
 
-  sent-sets-led : (values : List ℤ) (p q : ℕ) (a : Action) → all isLed (targets a) ≡ true → all setsLed (sent values p q a) ≡ true
+  sent-sets-led : (values : List ℤ) (p q : ℕ) (a : Action) → allOf isLed (targets a) ≡ true → allOf setsLed (sent values p q a) ≡ true
   unfolding sent channels
-  sent-sets-led values p q [] h = all-none setsLed
+  sent-sets-led values p q [] h = allOf-none setsLed
   sent-sets-led values p q (s ∷ a) h =
-      all-cons setsLed (record { part = q; pairs = map (evaluated values p q) (s ∷ a) }) []
-      (ap (all isLed) (sent-channels values p q (s ∷ a)) ∙ h) (all-none setsLed)
+      allOf-cons setsLed (record { part = q; pairs = map (evaluated values p q) (s ∷ a) }) []
+      (ap (allOf isLed) (sent-channels values p q (s ∷ a)) ∙ h) (allOf-none setsLed)
 
   module _ (formed : Formed d) where
     module _ (values : List ℤ) (p : ℕ) (lp : p < N d) (cs : List ℕ) (from : (c : ℕ) → member c cs ≡ true → isLed c ≡ true) where
@@ -96,23 +96,23 @@ module _ (d : Deck) (names : List ℕ) (kept : List ℤ) where
           led-closed d names (known-targets d formed) (a .2 .0) t (from (a .2 .0) (a .2 .1))
           (edge-intro d r (a .2 .0) t (a .0) (carried-intro d p r lp (a .1)) (a .2 .2) h)
 
-      fired-sets-led : all setsLed (fired d values p cs) ≡ true
+      fired-sets-led : allOf setsLed (fired d values p cs) ≡ true
       unfolding assigns
       fired-sets-led =
           fired-active d values p setsLed lp cs
           (λ r m.
           let rule = ruleAt d r in
           sent-sets-led values p p (rule .default)
-          (all-member isLed (targets (rule .default)) .1 (λ t k. assigned-led r t m (or-left (member t (targets (rule .action))) k))))
+          (allOf-member isLed (targets (rule .default)) .1 (λ t k. assigned-led r t m (or-left (member t (targets (rule .action))) k))))
           (λ q r _ m.
           let rule = ruleAt d r in
           sent-sets-led values p q (rule .action)
-          (all-member isLed (targets (rule .action)) .1 (λ t k. assigned-led r t m (or-right (member t (targets (rule .default))) k))))
+          (allOf-member isLed (targets (rule .action)) .1 (λ t k. assigned-led r t m (or-right (member t (targets (rule .default))) k))))
 
     -- ---- setting channels, and commits
 
-    set-untouched : (p : ℕ) (l : List Pair) (x : Machine) → p < N d → all (λ c. ltb c (R d)) (channelsIn l) ≡ true
-        → all isLed (channelsIn l) ≡ true → Untouched x → Untouched (setAndFire d p l x)
+    set-untouched : (p : ℕ) (l : List Pair) (x : Machine) → p < N d → allOf (λ c. ltb c (R d)) (channelsIn l) ≡ true
+        → allOf isLed (channelsIn l) ≡ true → Untouched x → Untouched (setAndFire d p l x)
     unfolding setAndFire
     set-untouched p l x lp known leads h =
         let values = assign p l (x .values) in
@@ -124,7 +124,7 @@ module _ (d : Deck) (names : List ℕ) (kept : List ℤ) where
         }
       where
         each-led : (c : ℕ) → member c (channelsIn l) ≡ true → isLed c ≡ true
-        each-led = all-member isLed (channelsIn l) .0 leads
+        each-led = allOf-member isLed (channelsIn l) .0 leads
 
         same : (q c : ℕ) (b : Bool) → eqb q p ≡ b → c < R d → isLed c ≡ false
             → valueAt (assign p l (x .values)) q c ≡ valueAt (x .values) q c
@@ -138,7 +138,7 @@ module _ (d : Deck) (names : List ℕ) (kept : List ℤ) where
     commit-untouched C x f h k low =
         let u = pick k (x .pending) in
         let has = pick-known d C x k f low in
-        let leads = all-at setsLed (x .pending) k (record { part = 0; pairs = [] }) (h .pending) low in
+        let leads = allOf-at setsLed (x .pending) k (record { part = 0; pairs = [] }) (h .pending) low in
         let out : Untouched (takenOut k x) = record { value = h .value; pending = without-all setsLed k (x .pending) (h .pending) } in
         commit-either d k x (λ _ y. Untouched y)
         (λ _. set-untouched (u .part) (u .pairs) (takenOut k x) (has .part) (has .inside) leads out) (λ _. out)
@@ -157,11 +157,11 @@ module _ (d : Deck) (names : List ℕ) (kept : List ℤ) where
           (λ j l. some (suc j) (omega arith))
 
       -- a call whose names are all led to
-      call-untouched : (x : Machine) → Fine d C x → Untouched x → (c : Call) → all isLed (namedBy c (answered (taken d C x c))) ≡ true
+      call-untouched : (x : Machine) → Fine d C x → Untouched x → (c : Call) → allOf isLed (namedBy c (answered (taken d C x c))) ≡ true
           → Untouched (machineAfter x (taken d C x c))
       unfolding taken machineAfter namedBy turn
       call-untouched x f h (input p l) =
-          let goal : Outcome Taken → Type 0 = λ o. all isLed (namedBy (input p l) (answered o)) ≡ true → Untouched (machineAfter x o) in
+          let goal : Outcome Taken → Type 0 = λ o. allOf isLed (namedBy (input p l) (answered o)) ≡ true → Untouched (machineAfter x o) in
           guard goal (ltb p (N d)) unknownPart _ (λ _. h)
           (λ lp.
           guard goal (goodInput d l) badInput _ (λ _. h)
@@ -180,16 +180,16 @@ module _ (d : Deck) (names : List ℕ) (kept : List ℤ) where
           subst Untouched (sym (repeats .machine) ∙ settling-ends d b x)
           (repeated-untouched (settling d b x .made) x f h (repeats .earlier)))
 
-      along-untouched : (x : Machine) → FineUntouched C x → (cs : List Call) → all isLed (named cs (listFrom d C x cs .answers)) ≡ true
+      along-untouched : (x : Machine) → FineUntouched C x → (cs : List Call) → allOf isLed (named cs (listFrom d C x cs .answers)) ≡ true
           → Along (λ y c. FineUntouched C (machineAfter y (taken d C y c))) d C x cs
       unfolding Along listFrom
       along-untouched x (f, h) [] leads = tt
       along-untouched x (f, h) (c ∷ cs) leads =
           let o = taken d C x c in
           let rest = listFrom d C (machineAfter x o) cs in
-          let all-led = subst (λ ns. all isLed ns ≡ true) (named-front c cs o rest) leads in
-          let first = all-left isLed (namedBy c (answered o)) (named cs (rest .answers)) all-led in
-          let later = all-right isLed (namedBy c (answered o)) (named cs (rest .answers)) all-led in
+          let all-led = subst (λ ns. allOf isLed ns ≡ true) (named-front c cs o rest) leads in
+          let first = allOf-left isLed (namedBy c (answered o)) (named cs (rest .answers)) all-led in
+          let later = allOf-right isLed (namedBy c (answered o)) (named cs (rest .answers)) all-led in
           let after : FineUntouched C (machineAfter x o) = (taking d formed acyclic C x f c .fine, call-untouched x f h c first) in
           (after, along-untouched (machineAfter x o) after cs later)
 
@@ -214,22 +214,22 @@ module _ (d : Deck) (formed : Formed d) (acyclic : Acyclic d) (n : ℕ) (x : Mac
         fine,
         record {
           value = λ p c lp lc other. refl;
-          pending = flatMap-all (led d names) channels (x .pending) (all-left (led d names) waiting later (led-named d names));
+          pending = flatMap-all (led d names) channels (x .pending) (allOf-left (led d names) waiting later (led-named d names));
         },
       ) in
       along-ends d C (FineUntouched d names (x .values) C) x first cs
-      (along-untouched d names (x .values) formed acyclic C x first cs (all-right (led d names) waiting later (led-named d names)))
+      (along-untouched d names (x .values) formed acyclic C x first cs (allOf-right (led d names) waiting later (led-named d names)))
 
   list-stays-put : (c : ℕ) → LeftAlone d names c → StaysPut d (x .values) (store n end) c
   unfolding store load targeted
   list-stays-put c alone =
       let other = left-alone-tested d names (known-targets d formed) c .0 alone .1 in
       let waiting = flatMap channels (end .pending) in
-      let all-led = all-flatMap (led d names) channels (end .pending) (list-untouched .1 .pending) in
+      let all-led = allOf-flatMap (led d names) channels (end .pending) (list-untouched .1 .pending) in
       record {
         value = λ p lp. list-untouched .1 .value p c lp (alone .channel) other;
         pending = ap (λ y. member c (flatMap channels (y .pending))) (load-store d n end (list-untouched .0))
-            ∙ not-true→false (member c waiting) (λ m. contradiction (all-member (led d names) waiting .0 all-led c m) other);
+            ∙ not-true→false (member c waiting) (λ m. contradiction (allOf-member (led d names) waiting .0 all-led c m) other);
       }
 
   -- the same of answers and of memory that are those of the list

@@ -7,7 +7,7 @@ use mathlib.Core.List.{List, []}
 use lib.Dec.{ltb}
 use lib.ListN.{length}
 use borrow.Author.Tests.{ne-eqb, not-true}
-use Rattle.lists.specs.Lists.{lists, all, eqList}
+use Rattle.lists.specs.Lists.{lists, allOf, eqList}
 use Rattle.lists.specs.Laws.Booleans.{and-both, and-left, and-right, not-true→false, contradiction}
 use Rattle.deck.specs.Deck.{Deck, R, N, partAt}
 use Rattle.deck.specs.Laws.Formed.{Formed}
@@ -21,7 +21,8 @@ use Rattle.passing.specs.Check.{within}
 use Rattle.firing.specs.Firing.{setAndFire, pick, without, committed}
 use Rattle.firing.specs.Laws.Among.{pick-among, without-among}
 use Rattle.firing.specs.Laws.Commits.{pick-known}
-use Rattle.orders.specs.Calculus.{Task, satisfies, updatesFrom, discovered, overridden, executes, enters, tasksOf, sentTasks, Exec, ExecFail, exec, exec-fail, input, programOf, Step, systemOf}
+use Rattle.orders.specs.Calculus.{Task, satisfies, updatesFrom, discovered, overridden, executes, enters, tasksOf, sentTasks, Exec}
+use Rattle.orders.specs.Calculus.{ExecFail, exec, exec-fail, input, programOf, Step, systemOf}
 use Rattle.orders.specs.Laws.Fired.{at}
 use Rattle.orders.specs.Laws.Nodes.{state-here, state-there, pool-here, pool-there}
 
@@ -36,7 +37,7 @@ abbrev pub sending : Deck → ℕ → List Pair → Machine → Machine → List
 sending d p pairs x y = sentTasks (programOf d p) (systemOf x p) pairs (systemOf y p)
 
 pub input-step : (d : Deck) → Formed d → Scoped d → (p : ℕ) → p < N d → (pairs : List Pair) (x : Machine)
-    → length (x .values) ≡ 512 → all (λ c. ltb c (R d)) (channelsIn pairs) ≡ true
+    → length (x .values) ≡ 512 → allOf (λ c. ltb c (R d)) (channelsIn pairs) ≡ true
     → Step d (systemOf x) p (enters pairs (sending d p pairs x (setAndFire d p pairs x))) (systemOf (setAndFire d p pairs x))
 unfolding systemOf setAndFire tasksOf programOf
 input-step d formed scoped p inside pairs x long few =
@@ -67,7 +68,8 @@ module _ (k : ℕ) (us : List Update) (l : k < length us) (different : allDiffer
         λ h.
             let both = sym e ∙ h in (
               and-left (isAmong this us) (not (eqUpdate this u)) both,
-              λ same. contradiction (ap (λ w. eqUpdate (at (u .part) w) u) same ∙ update-refl u) (not-true (eqUpdate this u) (and-right (isAmong this us) (not (eqUpdate this u)) both)),
+              λ same. contradiction (ap (λ w. eqUpdate (at (u .part) w) u) same
+                  ∙ update-refl u) (not-true (eqUpdate this u) (and-right (isAmong this us) (not (eqUpdate this u)) both)),
             ),
         λ h. e ∙ and-both (h .0) (ap not (not-true→false (eqUpdate this u) (λ t. h .1 (ap (λ w. w .pairs) (update-true this u t))))),
       )
@@ -92,7 +94,8 @@ pub record Committing (d : Deck) (k : ℕ) (x : Machine) : Type 1 where
   -- and all other parts discover what it sends, in the same step
   pub applied : committed d k x .applied ≡ true
       → Step d (systemOf x) (pick k (x .pending) .part)
-      (executes (pick k (x .pending) .pairs) (sending d (pick k (x .pending) .part) (pick k (x .pending) .pairs) x (committed d k x .machine)))
+      (executes (pick k (x .pending) .pairs)
+      (sending d (pick k (x .pending) .part) (pick k (x .pending) .pairs) x (committed d k x .machine)))
       (systemOf (committed d k x .machine))
   pub discarded : committed d k x .applied ≡ false
       → Step d (systemOf x) (pick k (x .pending) .part) (executes (pick k (x .pending) .pairs) []) (systemOf (committed d k x .machine))
@@ -111,7 +114,7 @@ module _ (d : Deck) (formed : Formed d) (scoped : Scoped d) (C : ℕ) (x : Machi
   inside : p < N d
   inside = pick-known d C x k fine l .part
 
-  below : all (λ c. ltb c (R d)) (channelsIn (up .pairs)) ≡ true
+  below : allOf (λ c. ltb c (R d)) (channelsIn (up .pairs)) ≡ true
   unfolding channels
   below = pick-known d C x k fine l .inside
 
@@ -132,7 +135,8 @@ module _ (d : Deck) (formed : Formed d) (scoped : Scoped d) (C : ℕ) (x : Machi
       }
 
   exec-step : within d p (assign p (up .pairs) (x .values)) ≡ true
-      → Step d (systemOf x) p (executes (up .pairs) (sending d p (up .pairs) x (setAndFire d p (up .pairs) taken))) (systemOf (setAndFire d p (up .pairs) taken))
+      → Step d (systemOf x) p (executes (up .pairs) (sending d p (up .pairs) x (setAndFire d p (up .pairs) taken)))
+      (systemOf (setAndFire d p (up .pairs) taken))
   unfolding systemOf setAndFire tasksOf programOf
   exec-step h =
       record {

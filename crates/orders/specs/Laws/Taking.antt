@@ -9,9 +9,9 @@ use native.Mathlib.Nat.{not-suc-le-zero}
 use lib.Dec.{leb, ltb}
 use lib.ListN.{length}
 use borrow.Author.Tests.{leb-true, ltb-true, lt-ltb}
-use Rattle.lists.specs.Lists.{lists, all, isEmpty}
+use Rattle.lists.specs.Lists.{lists, allOf, isEmpty}
 use Rattle.lists.specs.Laws.Booleans.{contradiction}
-use Rattle.lists.specs.Laws.Alls.{all-cons}
+use Rattle.lists.specs.Laws.Alls.{allOf-cons}
 use Rattle.refusals.specs.Outcome.{Outcome, refused, accepted, _>>_, require, outcomes}
 use Rattle.refusals.specs.Numbers.{unknownPart, badInput, inputOutside, overCapacity, placeNotPending, budgetTooLarge}
 use Rattle.deck.specs.Deck.{Deck, N}
@@ -40,7 +40,8 @@ turnsOf (refused n p) = []
 turnsOf (accepted t) = t .turns
 
 -- a property of outcomes that a refusal has and, where the test holds, the rest has too
-pub guard {ℓ} : (P : Outcome Taken → Type ℓ) (b : Bool) (number : ℕ) (o : Outcome Taken) → P (refused number 0) → (b ≡ true → P o) → P (require b number 0 >> o)
+pub guard {ℓ} : (P : Outcome Taken → Type ℓ) (b : Bool) (number : ℕ) (o : Outcome Taken) → P (refused number 0) → (b ≡ true → P o)
+    → P (require b number 0 >> o)
 unfolding outcomes
 guard P true number o h g = g refl
 guard P false number o h g = h
@@ -78,7 +79,7 @@ module _ (d : Deck) (formed : Formed d) (acyclic : Acyclic d) where
   pub record Turning (C b : ℕ) (x : Machine) (ts : List Turn) : Type 0 where
     pub fine : Fine d C (ending x ts)
     pub paid : length ts + charge d (ending x ts .pending) ≤ charge d (x .pending)
-    pub stays : all (leavesWithin d) ts ≡ true
+    pub stays : allOf (leavesWithin d) ts ≡ true
     pub settles : charge d (x .pending) ≤ b → isEmpty (ending x ts .pending) ≡ true
 
   pub turning : (C b : ℕ) (x : Machine) → Fine d C x → Turning C b x (turns d b x)
@@ -90,7 +91,8 @@ module _ (d : Deck) (formed : Formed d) (acyclic : Acyclic d) where
         stays = refl;
         settles = λ h. none-pending (x .pending) (omega (arith, count-bounded d (x .pending)));
       }
-  turning C (suc b) x f = go (isEmpty (x .pending)) refl (λ h. turning C b (committed d 0 x .machine) (commit-fine d formed acyclic C 0 x f h))
+  turning C (suc b) x f =
+      go (isEmpty (x .pending)) refl (λ h. turning C b (committed d 0 x .machine) (commit-fine d formed acyclic C 0 x f h))
     where
       first : Turn
       first = turn d 0 x
@@ -105,7 +107,7 @@ module _ (d : Deck) (formed : Formed d) (acyclic : Acyclic d) where
           record {
             fine = rest .fine;
             paid = omega (arith, rest .paid);
-            stays = all-cons (leavesWithin d) first (turns d b (first .after)) (turn-within 0 x) (rest .stays);
+            stays = allOf-cons (leavesWithin d) first (turns d b (first .after)) (turn-within 0 x) (rest .stays);
             settles = λ h. rest .settles (omega arith);
           }
 
@@ -114,18 +116,20 @@ module _ (d : Deck) (formed : Formed d) (acyclic : Acyclic d) where
   pub record Taking (C : ℕ) (x : Machine) (o : Outcome Taken) : Type 0 where
     pub fine : Fine d C (machineAfter x o)
     pub paid : commitsOf (answered o) + charge d (machineAfter x o .pending) ≤ addedOf (answered o) + charge d (x .pending)
-    pub stays : all (leavesWithin d) (turnsOf o) ≡ true
+    pub stays : allOf (leavesWithin d) (turnsOf o) ≡ true
 
   refusal-taking : (C : ℕ) (x : Machine) (number : ℕ) → Fine d C x → Taking C x (refused number 0)
   unfolding listing lists
   refusal-taking C x number f = record { fine = f; paid = omega arith; stays = refl }
 
-  commit-counts : (b : Bool) (n : ℕ) → (commitsOf (accepted (cond b (applied n) (discarded n))) ≡ 1) × (addedOf (accepted (cond b (applied n) (discarded n))) ≡ 0)
+  commit-counts : (b : Bool) (n : ℕ) → (commitsOf (accepted (cond b (applied n) (discarded n))) ≡ 1)
+      × (addedOf (accepted (cond b (applied n) (discarded n))) ≡ 0)
   unfolding commitsOf addedOf
   commit-counts true n = (refl, refl)
   commit-counts false n = (refl, refl)
 
-  settle-counts : (b : Bool) (n : ℕ) → (commitsOf (accepted (cond b (settled n) (spent n))) ≡ n) × (addedOf (accepted (cond b (settled n) (spent n))) ≡ 0)
+  settle-counts : (b : Bool) (n : ℕ) → (commitsOf (accepted (cond b (settled n) (spent n))) ≡ n)
+      × (addedOf (accepted (cond b (settled n) (spent n))) ≡ 0)
   unfolding commitsOf addedOf
   settle-counts true n = (refl, refl)
   settle-counts false n = (refl, refl)
@@ -156,7 +160,7 @@ module _ (d : Deck) (formed : Formed d) (acyclic : Acyclic d) where
       record {
         fine = commit-fine d formed acyclic C k x f below;
         paid = omega (arith, count .0, count .1, commit-falls d formed acyclic k x below (pick-known d C x k f below .part));
-        stays = all-cons (leavesWithin d) (turn d k x) [] (turn-within k x) refl;
+        stays = allOf-cons (leavesWithin d) (turn d k x) [] (turn-within k x) refl;
       })
   taking C x f (settle b) =
       guard (Taking C x) (leb b 65535) budgetTooLarge _ (refusal-taking C x budgetTooLarge f)

@@ -18,7 +18,7 @@ use Rattle.charge.specs.Answer.{boundBy, boundOf}
 use Rattle.charge.specs.declared.Bound.{Bound}
 use Rattle.charge.specs.declared.Bound.the-variants.{Within, Above}
 use Rattle.passing.specs.Check.{within, openingValues, outside, passing}
-use Rattle.passing.specs.Laws.Passing.{judge, judge-clean, passing-judges}
+use Rattle.passing.specs.Laws.Passing.{laterTests, later-clean, passing-judges}
 
 -- the lowest part that opens outside its limit, or N where none does
 unfoldable pub firstOutside : Deck → ℕ
@@ -61,17 +61,17 @@ module _ (f : Form) (bytes : List ℕ) (l : Layout) (e : read f bytes ≡ accept
   d = l .deck
 
   pub passing-6 : (p : ℕ) → firstOutside d ≡ p → p < N d → passing f bytes ≡ refused opensOutside p
-  unfolding firstOutside judge outcomes
+  unfolding firstOutside laterTests outcomes
   passing-6 p h k = passing-judges f bytes l e ∙ rw (first-found (N d) p (outside d) h k .1)
 
   module _ (six : firstOutside d ≡ N d) where
     pub passing-7 : (c : ℕ) → firstCycle d ≡ c → c < R d → passing f bytes ≡ refused cyclicGraph c
-    unfolding firstCycle judge outcomes
+    unfolding firstCycle laterTests outcomes
     passing-7 c h k = passing-judges f bytes l e ∙ rw (none-outside d six, first-found (R d) c (cyclic d) h k .1)
 
     module _ (seven : firstCycle d ≡ R d) where
       pub passing-8 : (p : ℕ) → boundOf d ≡ Above p → passing f bytes ≡ refused overcharged p
-      unfolding boundOf judge outcomes
+      unfolding boundOf laterTests outcomes
       passing-8 p h =
           passing-judges f bytes l e
           ∙ rw (none-outside d six, none-cyclic d seven, above-bound (aboveBound (carriedCharges d)) (largestCharge d) p h .1)
@@ -80,4 +80,4 @@ module _ (f : Form) (bytes : List ℕ) (l : Layout) (e : read f bytes ≡ accept
       unfolding boundOf
       passing-whole n h =
           let b = within-bound (aboveBound (carriedCharges d)) (largestCharge d) n h in
-          (passing-judges f bytes l e ∙ judge-clean l (none-outside d six) (none-cyclic d seven) (b .0), b .1)
+          (passing-judges f bytes l e ∙ later-clean l (none-outside d six) (none-cyclic d seven) (b .0), b .1)

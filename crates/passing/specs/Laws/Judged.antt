@@ -10,8 +10,8 @@ use lib.ListN.{length, getD, replicate, length-replicate, getD-replicate, List·
 use mir.Syntax.{w8}
 use mir.Val.{Fits}
 use borrow.Author.Tests.{lt-ltb}
-use Rattle.lists.specs.Lists.{filter, below, firstOr, lists}
-use Rattle.lists.specs.Laws.Below.{filter-first}
+use Rattle.lists.specs.Lists.{select, below, firstOr, lists}
+use Rattle.lists.specs.Laws.Below.{select-first}
 use Rattle.lists.specs.Laws.Booleans.{and-both}
 use Rattle.refusals.specs.Outcome.{refused, accepted}
 use Rattle.refusals.specs.Numbers.{opensOutside}
@@ -103,13 +103,13 @@ wrong-place New s n p e = omega (arith, read-place New s n p e)
 -- ---- the searches
 
 -- a search that found none below its bound found the bound
-first-whole : (f : ℕ → Bool) (n c : ℕ) → c ≡ firstOr n (filter f (below n)) → n ≤ c → firstOr n (filter f (below n)) ≡ n
+first-whole : (f : ℕ → Bool) (n c : ℕ) → c ≡ firstOr n (select f (below n)) → n ≤ c → firstOr n (select f (below n)) ≡ n
 unfolding firstOr
-first-whole f n c e h = go (filter f (below n)) refl e
+first-whole f n c e h = go (select f (below n)) refl e
   where
-    go : (l : List ℕ) → filter f (below n) ≡ l → c ≡ firstOr n l → firstOr n l ≡ n
+    go : (l : List ℕ) → select f (below n) ≡ l → c ≡ firstOr n l → firstOr n l ≡ n
     go [] g e = refl
-    go (x ∷ xs) g e = absurd (omega (arith, h, e, filter-first f n x xs g .1))
+    go (x ∷ xs) g e = absurd (omega (arith, h, e, select-first f n x xs g .1))
 
 module _ (rules parts : List ℕ) (k : Counted.Deck) (w : RulesKnown rules parts k) where
   abbrev d : Deck

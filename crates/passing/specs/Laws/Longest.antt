@@ -6,7 +6,7 @@ use mathlib.Core.List.{List, [], _∷_, map}
 use native.Mathlib.Omega.{arith}
 use lib.ListN.{length, replicate, getD-replicate}
 use lib.IntN.{pos}
-use Rattle.lists.specs.Lists.{lists, below, any, member, sum}
+use Rattle.lists.specs.Lists.{lists, below, anyOf, member, sumOf}
 use Rattle.lists.specs.Laws.Below.{none-below}
 use Rattle.refusals.specs.Outcome.{accepted}
 use Rattle.expression.specs.Syntax.{Num, own, negation, Truth, constant, opposite}
@@ -19,7 +19,7 @@ use Rattle.deck.specs.Deck.{Action, Rule, Part, Deck, M, N, ruleAt, targets, ca
 use Rattle.deck.specs.Layout.{layouts}
 use Rattle.deck.specs.Encoding.{encode, wellFormed, suits, encodings}
 use Rattle.deck.specs.Laws.Formed.{formed}
-use Rattle.deck.specs.Laws.Reading.{layoutOf, read-encode}
+use Rattle.deck.specs.Laws.Reading.{encodedLayout, read-encode}
 use Rattle.graph.specs.Graph.{cyclic, graphs}
 use Rattle.graph.specs.Laws.Cycles.{KnownTargets, Acyclic, no-cycle}
 use Rattle.graph.specs.Laws.Targets.{known-targets}
@@ -29,7 +29,7 @@ use Rattle.charge.specs.Laws.Bound.{none-above}
 use Rattle.pool.specs.Updates.{updates}
 use Rattle.pool.specs.Places.{pools}
 use Rattle.passing.specs.Check.{outside, passing, checks}
-use Rattle.passing.specs.Laws.Passing.{judge-clean, passing-judges}
+use Rattle.passing.specs.Laws.Passing.{later-clean, passing-judges}
 
 -- channel 0 negated so many times, and so many times "not": an operator is one byte
 unfoldable pub negated : ℕ → Num
@@ -119,22 +119,22 @@ module _ (f : Form) where
   unfolding longestDeck decks
   every-rule r h = getD-replicate 64 r (fullRule f) _ h
 
-  no-listener : any (λ c. member c (fullRule f .events)) set ≡ false
+  no-listener : anyOf (λ c. member c (fullRule f .events)) set ≡ false
   unfolding fullAction fullRule lists decks
   no-listener = refl
 
   none-active : (p : ℕ) → active d p set ≡ []
   unfolding active
   none-active p =
-      none-below (λ r. carries d p r && any (λ c. member c (ruleAt d r .events)) set) (M d) .1
+      none-below (λ r. carries d p r && anyOf (λ c. member c (ruleAt d r .events)) set) (M d) .1
       (λ r h.
-      ap (λ (x : Rule). carries d p r && any (λ c. member c (x .events)) set) (every-rule r h)
+      ap (λ (x : Rule). carries d p r && anyOf (λ c. member c (x .events)) set) (every-rule r h)
       ∙ ap (λ b. carries d p r && b) no-listener
       ∙ and-false (carries d p r))
 
   set-charge : (p : ℕ) → p < N d → updateCharge d p set ≡ 1
   unfolding lists
-  set-charge p l = charge-of-update known acyclic p set l ∙ ap (λ rs. 1 + sum (ruleCharge d p) rs) (none-active p)
+  set-charge p l = charge-of-update known acyclic p set l ∙ ap (λ rs. 1 + sumOf (ruleCharge d p) rs) (none-active p)
 
   -- an action and its update's charge
   adds : (p : ℕ) → Action → ℕ
@@ -142,7 +142,7 @@ module _ (f : Form) where
 
   -- a default action and an action, both here
   two-updates : (p : ℕ) (x : Rule) → ℕ
-  two-updates p x = adds p (x .default) + sum (λ q. adds q (x .action)) (cond (x .everywhere) (others d p) (p ∷ []))
+  two-updates p x = adds p (x .default) + sumOf (λ q. adds q (x .action)) (cond (x .everywhere) (others d p) (p ∷ []))
 
   one-added : (p : ℕ) → p < N d → adds p fullAction ≡ 1
   unfolding adds
@@ -163,7 +163,8 @@ module _ (f : Form) where
       let e = charge-of-rule known acyclic p r l ∙ ap (two-updates p) (every-rule r m) in
       omega (arith, e, full-updates p l)
 
-  pub longest-passes : passing f (encode d) ≡ accepted (layoutOf d)
+  pub longest-passes : passing f (encode d) ≡ accepted (encodedLayout d)
   longest-passes =
-      passing-judges f (encode d) (layoutOf d) (read-encode f d (longest-formed f) (longest-suits f))
-      ∙ judge-clean (layoutOf d) (longest-opens f) (longest-acyclic f) (none-above d .1 (λ p r l m c. omega (arith, full-charge p r l m)))
+      passing-judges f (encode d) (encodedLayout d) (read-encode f d (longest-formed f) (longest-suits f))
+      ∙ later-clean (encodedLayout d) (longest-opens f) (longest-acyclic f)
+      (none-above d .1 (λ p r l m c. omega (arith, full-charge p r l m)))

@@ -5,12 +5,13 @@ use mathlib.Core.List.{List, [], _∷_, _++_, append-assoc, append-nil}
 use native.Mathlib.Omega.{arith}
 use native.Mathlib.Numerals.{add-one}
 use lib.Dec.{eqb}
-use lib.ListN.{length, getD, take, drop, replicate, length-append, length-drop, length-replicate, replicate-append-replicate, drop-of-length-le}
+use lib.ListN.{length, getD, take, drop, replicate, length-append, length-drop, length-replicate, replicate-append-replicate}
+use lib.ListN.{drop-of-length-le}
 use lib.Seq.{take-suc, take-at, take-all, take-length, drop-at, split-at}
 use lib.IntN.{ℤ, pos}
 use borrow.Author.Tests.{eqb-true}
 use Rattle.lists.specs.Lists.{flatMap, lists}
-use Rattle.lists.specs.Laws.Alls.{all-at}
+use Rattle.lists.specs.Laws.Alls.{allOf-at}
 use Rattle.deck.specs.Deck.{Deck, Part, R, N, partAt}
 use Rattle.deck.specs.Laws.Formed.{Formed}
 use Rattle.deck.specs.Laws.Rows.{flatMap-add}
@@ -42,7 +43,7 @@ module _ (d : Deck) (f : Formed d) where
   pub opening-length : (p : ℕ) → p < N d → length (partAt d p .opening) ≡ R d
   unfolding partAt N
   opening-length p h =
-      eqb-true (length (partAt d p .opening)) (R d) (all-at (λ p. eqb (length (p .opening)) (R d)) (d .parts) p _ (f .openings) h)
+      eqb-true (length (partAt d p .opening)) (R d) (allOf-at (λ p. eqb (length (p .opening)) (R d)) (d .parts) p _ (f .openings) h)
 
   row-length : (p : ℕ) → p < N d → length (row (partAt d p)) ≡ 32
   unfolding zeros
@@ -171,7 +172,8 @@ module _ (s : List ℕ) (k : Counted.Deck) (parts : List ℕ) (w : PartsKnown s 
       × (getD parts (4 * p + 1) 0 + 4 * k .channels ≤ length s)
   opening-stands =
       rw (w .counts .channels)
-      (values-stand s (R (deckOf s)) (getD parts (4 * p + 1) 0) (partAt (deckOf s) p .opening) (w .counts .some) (w .table .opening p known-part))
+      (values-stand s (R (deckOf s)) (getD parts (4 * p + 1) 0) (partAt (deckOf s) p .opening) (w .counts .some)
+      (w .table .opening p known-part))
 
   -- a row of their own, of 32 numbers, with these values at its front
   module _ (old alone : List ℤ) (long : length old ≡ 32)

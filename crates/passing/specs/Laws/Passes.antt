@@ -14,7 +14,7 @@ use Rattle.deck.specs.Deck.{Deck, M, N, carries}
 use Rattle.deck.specs.Layout.{Layout, read}
 use Rattle.deck.specs.Encoding.{encodeChannels, encodeRules, encode, wellFormed, suits}
 use Rattle.deck.specs.Laws.Formed.{formed}
-use Rattle.deck.specs.Laws.Reading.{read-formed, read-suited, read-encoded, sections-exactly, layoutOf, read-encode}
+use Rattle.deck.specs.Laws.Reading.{read-formed, read-suited, read-encoded, sections-exactly, encodedLayout, read-encode}
 use Rattle.graph.specs.Graph.{Reaches, edge}
 use Rattle.graph.specs.Laws.Cycles.{no-cycle}
 use Rattle.graph.specs.Laws.Targets.{known-targets}
@@ -22,7 +22,7 @@ use Rattle.charge.specs.Charge.{ruleCharge}
 use Rattle.charge.specs.Laws.Bound.{none-above}
 use Rattle.charge.specs.Laws.Equations.{Charges, charge-unique}
 use Rattle.passing.specs.Check.{within, openingValues, outside, passing}
-use Rattle.passing.specs.Laws.Passing.{judge-clean, passing-judges, passing-clean}
+use Rattle.passing.specs.Laws.Passing.{later-clean, passing-judges, passing-clean}
 
 -- what the document demands of bytes that hold the deck of a layout
 pub record Passes (f : Form) (bytes : List ℕ) (l : Layout) : Type 0 where
@@ -60,7 +60,7 @@ module _ (f : Form) (bytes : List ℕ) (b : Bytes bytes) (l : Layout) where
 
   passes-read : Passes f bytes l → read f bytes ≡ accepted l
   passes-read h =
-      let same : _≡_ {A = Layout} (layoutOf (l .deck)) l = λ i.
+      let same : _≡_ {A = Layout} (encodedLayout (l .deck)) l = λ i.
       record { deck = l .deck; rulesAt = sym (h .sections .0) i; partsAt = sym (h .sections .1) i } in
       ap (read f) (h .layout .1) ∙ read-encode f (l .deck) (h .layout .0) (h .layout .2) ∙ ap accepted same
 
@@ -68,7 +68,7 @@ module _ (f : Form) (bytes : List ℕ) (b : Bytes bytes) (l : Layout) where
   passes-passing h =
       let known = known-targets (l .deck) (formed (l .deck) (h .layout .0)) in
       passing-judges f bytes l (passes-read h)
-      ∙ judge-clean l (none-outside (l .deck) .1 (h .opens)) (no-cycle known .1 (h .acyclic)) (none-above (l .deck) .1 (h .charged))
+      ∙ later-clean l (none-outside (l .deck) .1 (h .opens)) (no-cycle known .1 (h .acyclic)) (none-above (l .deck) .1 (h .charged))
 
   pub passes-exactly : (passing f bytes ≡ accepted l) ↔ Passes f bytes l
   passes-exactly = (passing-passes, passes-passing)

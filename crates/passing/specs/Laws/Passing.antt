@@ -18,54 +18,55 @@ use Rattle.passing.specs.Check.{outside, passing, checks}
 -- ---- the tests behind reading
 
 -- 6, 7 and 8 of a deck that was read
-unfoldable pub judge : Layout → Outcome Layout
-judge l =
+unfoldable pub laterTests : Layout → Outcome Layout
+laterTests l =
     requireNone (outside (l .deck)) opensOutside
     >> (requireNone (cyclic (l .deck)) cyclicGraph >> (requireNone (aboveBound (carriedCharges (l .deck))) overcharged >> accepted l))
 
 -- what they come to: nothing is found, or the first place that the first of them finds
-pub data Judged (l : Layout) (o : Outcome Layout) : Type 0 where
-  clean : outside (l .deck) ≡ [] → cyclic (l .deck) ≡ [] → aboveBound (carriedCharges (l .deck)) ≡ [] → o ≡ accepted l → Judged l o
-  found-6 : (p : ℕ) (ps : List ℕ) → outside (l .deck) ≡ p ∷ ps → o ≡ refused opensOutside p → Judged l o
-  found-7 : (p : ℕ) (ps : List ℕ) → outside (l .deck) ≡ [] → cyclic (l .deck) ≡ p ∷ ps → o ≡ refused cyclicGraph p → Judged l o
+pub data Finds (l : Layout) (o : Outcome Layout) : Type 0 where
+  clean : outside (l .deck) ≡ [] → cyclic (l .deck) ≡ [] → aboveBound (carriedCharges (l .deck)) ≡ [] → o ≡ accepted l → Finds l o
+  found-6 : (p : ℕ) (ps : List ℕ) → outside (l .deck) ≡ p ∷ ps → o ≡ refused opensOutside p → Finds l o
+  found-7 : (p : ℕ) (ps : List ℕ) → outside (l .deck) ≡ [] → cyclic (l .deck) ≡ p ∷ ps → o ≡ refused cyclicGraph p → Finds l o
   found-8 : (p : ℕ) (ps : List ℕ) → outside (l .deck) ≡ [] → cyclic (l .deck) ≡ [] → aboveBound (carriedCharges (l .deck)) ≡ p ∷ ps
-      → o ≡ refused overcharged p → Judged l o
+      → o ≡ refused overcharged p → Finds l o
 
-pub judged : (l : Layout) → Judged l (judge l)
-unfolding judge outcomes
-judged l = six (outside (l .deck)) refl
+pub later-find : (l : Layout) → Finds l (laterTests l)
+unfolding laterTests outcomes
+later-find l = six (outside (l .deck)) refl
   where
-    eight : outside (l .deck) ≡ [] → cyclic (l .deck) ≡ [] → (c : List ℕ) → aboveBound (carriedCharges (l .deck)) ≡ c → Judged l (judge l)
+    eight : outside (l .deck) ≡ [] → cyclic (l .deck) ≡ [] → (c : List ℕ) → aboveBound (carriedCharges (l .deck)) ≡ c
+        → Finds l (laterTests l)
     eight e f [] g = clean e f g (rw (e, f, g))
     eight e f (p ∷ ps) g = found-8 p ps e f g (rw (e, f, g))
 
-    seven : outside (l .deck) ≡ [] → (b : List ℕ) → cyclic (l .deck) ≡ b → Judged l (judge l)
+    seven : outside (l .deck) ≡ [] → (b : List ℕ) → cyclic (l .deck) ≡ b → Finds l (laterTests l)
     seven e [] f = eight e f (aboveBound (carriedCharges (l .deck))) refl
     seven e (p ∷ ps) f = found-7 p ps e f (rw (e, f))
 
-    six : (a : List ℕ) → outside (l .deck) ≡ a → Judged l (judge l)
+    six : (a : List ℕ) → outside (l .deck) ≡ a → Finds l (laterTests l)
     six [] e = seven e (cyclic (l .deck)) refl
     six (p ∷ ps) e = found-6 p ps e (rw e)
 
 -- nothing to be found, so accepted
-pub judge-clean : (l : Layout) → outside (l .deck) ≡ [] → cyclic (l .deck) ≡ [] → aboveBound (carriedCharges (l .deck)) ≡ []
-    → judge l ≡ accepted l
-unfolding judge outcomes
-judge-clean l a b c = rw (a, b, c)
+pub later-clean : (l : Layout) → outside (l .deck) ≡ [] → cyclic (l .deck) ≡ [] → aboveBound (carriedCharges (l .deck)) ≡ []
+    → laterTests l ≡ accepted l
+unfolding laterTests outcomes
+later-clean l a b c = rw (a, b, c)
 
-passing-is : (f : Form) (bytes : List ℕ) → passing f bytes ≡ (read f bytes >>= judge)
-unfolding checks judge
+passing-is : (f : Form) (bytes : List ℕ) → passing f bytes ≡ (read f bytes >>= laterTests)
+unfolding checks laterTests
 passing-is f bytes = refl
 
 module _ (f : Form) (bytes : List ℕ) where
-  pub passing-judges : (l : Layout) → read f bytes ≡ accepted l → passing f bytes ≡ judge l
+  pub passing-judges : (l : Layout) → read f bytes ≡ accepted l → passing f bytes ≡ laterTests l
   unfolding outcomes
-  passing-judges l e = passing-is f bytes ∙ ap (λ o. o >>= judge) e
+  passing-judges l e = passing-is f bytes ∙ ap (λ o. o >>= laterTests) e
 
   -- where reading refuses, the deck is refused with the same number and place
   pub passing-reads : (n p : ℕ) → read f bytes ≡ refused n p → passing f bytes ≡ refused n p
   unfolding outcomes
-  passing-reads n p e = passing-is f bytes ∙ ap (λ o. o >>= judge) e
+  passing-reads n p e = passing-is f bytes ∙ ap (λ o. o >>= laterTests) e
 
   -- what passes was read, and no test found anything
   pub passing-clean : (l : Layout) → passing f bytes ≡ accepted l
@@ -76,7 +77,7 @@ module _ (f : Form) (bytes : List ℕ) where
       Clean k =
           (read f bytes ≡ accepted k) × (outside (k .deck) ≡ []) × (cyclic (k .deck) ≡ []) × (aboveBound (carriedCharges (k .deck)) ≡ [])
 
-      by : (k : Layout) → read f bytes ≡ accepted k → judge k ≡ accepted l → Judged k (judge k) → Clean l
+      by : (k : Layout) → read f bytes ≡ accepted k → laterTests k ≡ accepted l → Finds k (laterTests k) → Clean l
       by k r q (clean a b c h) = subst Clean (accepted-inj (sym h ∙ q)) (r, a, b, c)
       by k r q (found-6 p ps a f) = refused≢accepted (sym f ∙ q)
       by k r q (found-7 p ps a b f) = refused≢accepted (sym f ∙ q)
@@ -84,10 +85,10 @@ module _ (f : Form) (bytes : List ℕ) where
 
       of : (o : Outcome Layout) → read f bytes ≡ o → Clean l
       of (refused n p) r = refused≢accepted (sym (passing-reads n p r) ∙ e)
-      of (accepted k) r = by k r (sym (passing-judges k r) ∙ e) (judged k)
+      of (accepted k) r = by k r (sym (passing-judges k r) ∙ e) (later-find k)
 
 -- ---- one byte more than the longest deck decides
 
 pub passing-prefix : (f : Form) (bytes : List ℕ) → passing f (take (suc (longest f)) bytes) ≡ passing f bytes
 passing-prefix f bytes =
-    passing-is f (take (suc (longest f)) bytes) ∙ ap (λ o. o >>= judge) (read-prefix f bytes) ∙ sym (passing-is f bytes)
+    passing-is f (take (suc (longest f)) bytes) ∙ ap (λ o. o >>= laterTests) (read-prefix f bytes) ∙ sym (passing-is f bytes)

@@ -7,7 +7,7 @@ use mathlib.Core.List.{List, [], _∷_}
 use native.Mathlib.Omega.{arith}
 use borrow.Author.Tests.{not-true, not-false}
 use Rattle.lists.specs.Laws.Booleans.{contradiction}
-use Rattle.lists.specs.Laws.Below.{filter-first}
+use Rattle.lists.specs.Laws.Below.{select-first}
 use Rattle.refusals.specs.Outcome.{refused, accepted}
 use Rattle.refusals.specs.Laws.Outcomes.{refused≢accepted, number-inj, place-inj}
 use Rattle.refusals.specs.Numbers.{opensOutside, cyclicGraph, overcharged}
@@ -23,7 +23,7 @@ use Rattle.graph.specs.Laws.Targets.{known-targets}
 use Rattle.charge.specs.Charge.{carriedCharges, aboveBound}
 use Rattle.charge.specs.Laws.Bound.{FirstAbove, first-above}
 use Rattle.passing.specs.Check.{within, openingValues, outside, passing}
-use Rattle.passing.specs.Laws.Passing.{judge, Judged, clean, found-6, found-7, found-8, judged, passing-judges}
+use Rattle.passing.specs.Laws.Passing.{laterTests, Finds, clean, found-6, found-7, found-8, later-find, passing-judges}
 use Rattle.passing.specs.Laws.Passes.{Passes, none-outside, passes-exactly}
 
 -- every part opens within its limit
@@ -59,7 +59,7 @@ module _ (d : Deck) where
   first-outside : (p : ℕ) (ps : List ℕ) → outside d ≡ p ∷ ps → OpensOutside d p
   unfolding outside
   first-outside p ps e =
-      let first = filter-first (λ p. not (within d p (openingValues d))) (N d) p ps e in
+      let first = select-first (λ p. not (within d p (openingValues d))) (N d) p ps e in
       record {
         known = first .1;
         outside = not-true (within d p (openingValues d)) (first .0);
@@ -120,7 +120,7 @@ module _ (d : Deck) where
 -- bytes that were read
 module _ (f : Form) (bytes : List ℕ) (b : Bytes bytes) (l : Layout) (e : read f bytes ≡ accepted l) where
   -- what the tests come to, in the document's words
-  found : Judged l (judge l) → Passes f bytes l ⊎ ((n : ℕ) × (p : ℕ) × (judge l ≡ refused n p) × RefusedFor (l .deck) n p)
+  found : Finds l (laterTests l) → Passes f bytes l ⊎ ((n : ℕ) × (p : ℕ) × (laterTests l ≡ refused n p) × RefusedFor (l .deck) n p)
   found (clean _ _ _ q) = inl (passes-exactly f bytes b l .0 (passing-judges f bytes l e ∙ q))
   found (found-6 p ps x q) = inr (opensOutside, p, q, for-6 refl (first-outside (l .deck) p ps x))
   found (found-7 p ps x y q) =
@@ -143,13 +143,13 @@ module _ (f : Form) (bytes : List ℕ) (b : Bytes bytes) (l : Layout) (e : read 
         (λ x.
         let q = sym (x .2) ∙ sym (passing-judges f bytes l e) ∙ h in
         subst₂ (RefusedFor (l .deck)) (number-inj q) (place-inj q) (x .3))
-        (found (judged l)),
+        (found (later-find l)),
     λ r.
         ⊎-elim (λ x. absurd (passes-not x r))
         (λ x.
         let q = same (l .deck) (x .3) r in
         passing-judges f bytes l e ∙ x .2 ∙ ap₂ refused (q .0) (q .1))
-        (found (judged l)),
+        (found (later-find l)),
   )
 
   pub place-of-6 : (p : ℕ) → passing f bytes ≡ refused opensOutside p → OpensOutside (l .deck) p

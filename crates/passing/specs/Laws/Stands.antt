@@ -17,12 +17,12 @@ use Rattle.expression.specs.Answers.{scope, mapRead, truthIn, truthResult, whol
 use Rattle.expression.specs.Faults.{Found, sound}
 use Rattle.expression.specs.declared.TruthValue.{TruthValue}
 use Rattle.expression.specs.declared.TruthValue.the-variants.{Value, None}
-use Rattle.deck.specs.Reader.{Got, _>>=_, give, fault, number, times, value, readers}
+use Rattle.deck.specs.Reader.{Got, _>>=_, give, fault, number, repeats, value, readers}
 use Rattle.deck.specs.Layout.{Expected, judged, expression}
 use Rattle.deck.specs.Laws.Judging.{judged-cases}
 use Rattle.deck.specs.Laws.Turns.{number-ends, number-small, number-large, number-reads}
 use Rattle.deck.specs.Laws.Offsets.{then-fault, whole-ends, whole-there}
-use Rattle.deck.specs.Laws.Points.{ReadsAt, then-at, given, times-tracks, value-tracks}
+use Rattle.deck.specs.Laws.Points.{ReadsAt, then-at, given, repeats-tracks, value-tracks}
 use Rattle.passing.specs.Stands.{Stands, valueFrom, valuesFrom}
 
 module _ {A : Type 0} (j : Expected A) (s : List ℕ) (at : ℕ) (a : A) (r : ReadsAt s (expression j) at a) where
@@ -107,28 +107,29 @@ module _ (s : List ℕ) (at : ℕ) (g : Got ℤ) where
   four-read [] h e = refused≢accepted e
 
 -- n values that were read: those that stand there
-values-got : (s : List ℕ) (n at : ℕ) (g : Got (List ℤ)) → times n value (drop at s) at ≡ accepted g → at ≤ length s
+values-got : (s : List ℕ) (n at : ℕ) (g : Got (List ℤ)) → repeats n value (drop at s) at ≡ accepted g → at ≤ length s
     → (g .value ≡ valuesFrom s at n) × (at + 4 * n ≤ length s)
 unfolding readers valuesFrom
 values-got s zero at g e b = (ap (λ g. g .value) (sym (accepted-inj e)), omega arith)
 values-got s (suc n) at g e b =
     let x = then-at value _ value-tracks s at g e in
-    let xs = then-at (times n value) _ (times-tracks value value-tracks n) s (x .0 .at) g (x .2) in
+    let xs = then-at (repeats n value) _ (repeats-tracks value value-tracks n) s (x .0 .at) g (x .2) in
     let f = four-read s at (x .0) (drop at s) refl (x .1) in
-    let rest = values-got s n (at + 4) (xs .0) (ap (λ k. times n value (drop k s) k) (sym (f .2)) ∙ xs .1) (f .3) in (
+    let rest = values-got s n (at + 4) (xs .0) (ap (λ k. repeats n value (drop k s) k) (sym (f .2)) ∙ xs .1) (f .3) in (
       sym (given _ (drop (xs .0 .at) s) (xs .0 .at) g (xs .2)) ∙ ap₂ (λ v vs. v ∷ vs) (f .0) (rest .0),
       omega (arith, rest .1),
     )
 
 -- one value at least, so that the offset lies inside
-values-inside : (s : List ℕ) (n at : ℕ) (g : Got (List ℤ)) → times (suc n) value (drop at s) at ≡ accepted g → at ≤ length s
+values-inside : (s : List ℕ) (n at : ℕ) (g : Got (List ℤ)) → repeats (suc n) value (drop at s) at ≡ accepted g → at ≤ length s
 unfolding readers
 values-inside s n at g e =
     let x = then-at value _ value-tracks s at g e in
     let f = four-read s at (x .0) (drop at s) refl (x .1) in
     omega (arith, f .3)
 
-pub values-stand : (s : List ℕ) (n at : ℕ) (l : List ℤ) → 1 ≤ n → ReadsAt s (times n value) at l → (l ≡ valuesFrom s at n) × (at + 4 * n ≤ length s)
+pub values-stand : (s : List ℕ) (n at : ℕ) (l : List ℤ) → 1 ≤ n → ReadsAt s (repeats n value) at l → (l ≡ valuesFrom s at n)
+    × (at + 4 * n ≤ length s)
 values-stand s zero at l some r = absurd (omega arith)
 values-stand s (suc n) at l some r = values-got s (suc n) at _ (r .1) (values-inside s n at _ (r .1))
 
@@ -154,6 +155,7 @@ not-none e = absurd (subst IsNone e tt)
     IsNone None = Unit {0}
 
 -- four bytes, as the code puts them together
-pub value-is : (s : List ℕ) (at : ℕ) → signed (word (getD s at 0) (getD s (at + 1) 0) (getD s (at + 2) 0) (getD s (at + 3) 0)) ≡ valueFrom s at
+pub value-is : (s : List ℕ) (at : ℕ) → signed (word (getD s at 0) (getD s (at + 1) 0) (getD s (at + 2) 0) (getD s (at + 3) 0))
+    ≡ valueFrom s at
 unfolding valueFrom
 value-is s at = refl

@@ -7,14 +7,14 @@ use native.Mathlib.Omega.{arith}
 use lib.Dec.{leb}
 use borrow.Author.Tests.{leb-true}
 use lib.ListN.{length, getD, drop, length-append, length-drop, length-map}
-use Rattle.lists.specs.Lists.{all, flatMap, lists}
+use Rattle.lists.specs.Lists.{allOf, flatMap, lists}
 use Rattle.lists.specs.Laws.Booleans.{and-left}
 use Rattle.refusals.specs.Outcome.{Outcome, refused, accepted}
 use Rattle.refusals.specs.Laws.Outcomes.{refused≢accepted}
 use Rattle.expression.specs.Laws.Bytes.{Bytes}
 use Rattle.deck.specs.declared.Form.{Form}
 use Rattle.deck.specs.Deck.{Deck, R, M, N, ruleAt}
-use Rattle.deck.specs.Reader.{times, value}
+use Rattle.deck.specs.Reader.{repeats, value}
 use Rattle.deck.specs.Layout.{truths, Layout, expression, ownOnly, taskScope, action, valueOf, read}
 use Rattle.deck.specs.Encoding.{inRange, goodRule, goodPart, wellFormed}
 use Rattle.deck.specs.Marks.{rulesAt, RulesFit, MarkedTask, Marked, markedSections, unmarked, ruleOf, ruleRow, partRow}
@@ -22,7 +22,8 @@ use Rattle.deck.specs.declared.Deck as Counted
 use Rattle.deck.specs.Laws.Marks.{mapGot, read-marked}
 use Rattle.deck.specs.Laws.Points.{ReadsAt, RulePoints, PartPoints}
 use Rattle.deck.specs.Laws.DeckPoints.{Each, deck-points}
-use Rattle.deck.specs.Laws.TablesRead.{Zeros, zeros-drop, column, noRule, noPart, rule-width, part-width, rule-read, part-read, tables-read, counts-read, ranged-marked}
+use Rattle.deck.specs.Laws.TablesRead.{Zeros, zeros-drop, column, noRule, noPart, rule-width, part-width, rule-read, part-read, tables-read}
+use Rattle.deck.specs.Laws.TablesRead.{counts-read, ranged-marked}
 use Rattle.deck.specs.Laws.RuleCount.{rule-count}
 use Rattle.deck.specs.Laws.Reading.{reads-exactly}
 use Rattle.deck.specs.Laws.Formed.{formed}
@@ -49,7 +50,8 @@ each-at P none (x ∷ xs) zero h l = h .0
 each-at P none (x ∷ xs) (suc i) h l = each-at P none xs i (h .1) (omega arith)
 
 -- rows of one width
-rows-length : {A : Type 0} (row : A → List ℕ) (w : ℕ) → ((x : A) → length (row x) ≡ w) → (l : List A) → length (flatMap row l) ≡ w * length l
+rows-length : {A : Type 0} (row : A → List ℕ) (w : ℕ) → ((x : A) → length (row x) ≡ w) → (l : List A)
+    → length (flatMap row l) ≡ w * length l
 unfolding lists
 rows-length row w h [] = omega arith
 rows-length row w h (x ∷ l) =
@@ -64,16 +66,16 @@ some-channel : (d : Deck) → wellFormed d ≡ true → 1 ≤ R d
 unfolding wellFormed inRange
 some-channel d h =
     let t1 : Bool = leb 1 (R d) && leb (R d) 32 in
-    let t2 : Bool = t1 && all (inRange 33 126) (d .labels) in
+    let t2 : Bool = t1 && allOf (inRange 33 126) (d .labels) in
     let t3 : Bool = t2 && leb (M d) 64 in
-    let t4 : Bool = t3 && all (goodRule (R d)) (d .rules) in
+    let t4 : Bool = t3 && allOf (goodRule (R d)) (d .rules) in
     let t5 : Bool = t4 && inRange 1 16 (N d) in
     leb-true 1 (R d)
     (and-left (leb 1 (R d)) (leb (R d) 32)
-    (and-left t1 (all (inRange 33 126) (d .labels))
+    (and-left t1 (allOf (inRange 33 126) (d .labels))
     (and-left t2 (leb (M d) 64)
-    (and-left t3 (all (goodRule (R d)) (d .rules))
-    (and-left t4 (inRange 1 16 (N d)) (and-left t5 (all (goodPart (R d) (M d)) (d .parts)) h))))))
+    (and-left t3 (allOf (goodRule (R d)) (d .rules))
+    (and-left t4 (inRange 1 16 (N d)) (and-left t5 (allOf (goodPart (R d) (M d)) (d .parts)) h))))))
 
 module _ (f : Form) (s : List ℕ) (m : Marked) (e : markedSections f s 0 ≡ accepted (record { value = m; rest = []; at = length s })) where
   pub marked-read : read f s ≡ accepted (unmarked m)
@@ -123,11 +125,14 @@ module _ (f : Form) (s : List ℕ) (m : Marked) (e : markedSections f s 0 ≡ ac
     abbrev parts : List ℕ
     parts = flatMap partRow (m .parts) ++ drop (4 * m .count) parts₀
 
-    rule-column : (j r : ℕ) → j < 8 → getD (ruleRow noRule) j 0 ≡ 0 → getD rules (8 * r + j) 0 ≡ getD (ruleRow (getD (m .front .rules) r noRule)) j 0
+    rule-column : (j r : ℕ) → j < 8 → getD (ruleRow noRule) j 0 ≡ 0
+        → getD rules (8 * r + j) 0 ≡ getD (ruleRow (getD (m .front .rules) r noRule)) j 0
     rule-column j r h z =
-        column ruleRow 8 j rule-width h noRule z (drop (8 * m .front .count) rules₀) (zeros-drop (8 * m .front .count) rules₀ zr) (m .front .rules) r
+        column ruleRow 8 j rule-width h noRule z (drop (8 * m .front .count) rules₀) (zeros-drop (8 * m .front .count) rules₀ zr)
+        (m .front .rules) r
 
-    part-column : (j p : ℕ) → j < 4 → getD (partRow noPart) j 0 ≡ 0 → getD parts (4 * p + j) 0 ≡ getD (partRow (getD (m .parts) p noPart)) j 0
+    part-column : (j p : ℕ) → j < 4 → getD (partRow noPart) j 0 ≡ 0
+        → getD parts (4 * p + j) 0 ≡ getD (partRow (getD (m .parts) p noPart)) j 0
     part-column j p h z =
         column partRow 4 j part-width h noPart z (drop (4 * m .count) parts₀) (zeros-drop (4 * m .count) parts₀ zp) (m .parts) p
 
@@ -165,7 +170,8 @@ module _ (f : Form) (s : List ℕ) (m : Marked) (e : markedSections f s 0 ≡ ac
           room = omega (arith, room, rules-long room);
           default = λ r k.
               subst (λ a. ReadsAt s (action (ownOnly (R d))) (getD rules (8 * r + 4) 0) (a .default)) (sym (rule-read m r))
-              (subst (λ at. ReadsAt s (action (ownOnly (R d))) at (getD (m .front .rules) r noRule .default)) (sym (rule-column 4 r (omega arith) refl))
+              (subst (λ at. ReadsAt s (action (ownOnly (R d))) at (getD (m .front .rules) r noRule .default))
+              (sym (rule-column 4 r (omega arith) refl))
               (rule-at r k .default));
           condition = λ r k.
               subst (λ a. ReadsAt s (expression (truths (taskScope (R d) (a .everywhere)))) (getD rules (8 * r + 5) 0) (a .condition))
@@ -176,7 +182,8 @@ module _ (f : Form) (s : List ℕ) (m : Marked) (e : markedSections f s 0 ≡ ac
               (rule-at r k .task .condition));
           action = λ r k.
               subst (λ a. ReadsAt s (action (taskScope (R d) (a .everywhere))) (getD rules (8 * r + 6) 0) (a .action)) (sym (rule-read m r))
-              (subst (λ at. ReadsAt s (action (taskScope (R d) (task r .everywhere))) at (task r .action)) (sym (rule-column 6 r (omega arith) refl))
+              (subst (λ at. ReadsAt s (action (taskScope (R d) (task r .everywhere))) at (task r .action))
+              (sym (rule-column 6 r (omega arith) refl))
               (rule-at r k .task .action));
         }
       where
@@ -189,8 +196,9 @@ module _ (f : Form) (s : List ℕ) (m : Marked) (e : markedSections f s 0 ≡ ac
         record {
           long = parts-long h few;
           opening = λ p k.
-              subst (λ a. ReadsAt s (times (R d) value) (getD parts (4 * p + 1) 0) (a .opening)) (sym (part-read m p))
-              (subst (λ at. ReadsAt s (times (R d) value) at (getD (m .parts) p noPart .part .opening)) (sym (part-column 1 p (omega arith) refl))
+              subst (λ a. ReadsAt s (repeats (R d) value) (getD parts (4 * p + 1) 0) (a .opening)) (sym (part-read m p))
+              (subst (λ at. ReadsAt s (repeats (R d) value) at (getD (m .parts) p noPart .part .opening))
+              (sym (part-column 1 p (omega arith) refl))
               (part-at p k .opening));
           limit = λ p k.
               subst (λ a. ReadsAt s (expression (truths (ownOnly (R d)))) (getD parts (4 * p + 2) 0) (a .limit)) (sym (part-read m p))
@@ -202,7 +210,14 @@ module _ (f : Form) (s : List ℕ) (m : Marked) (e : markedSections f s 0 ≡ ac
     -- the numbers that the pass keeps
     abbrev kept : Counted.Deck
     kept =
-        record { channels = m .front .channels; rules = m .front .count; parts = m .count; second = m .front .rulesAt; third = m .partsAt }
+        record {
+          channels = m .front .channels;
+          rules = m .front .count;
+          parts = m .count;
+          «rules_at» = m .front .rulesAt;
+          «parts_at» =
+              m .partsAt;
+        }
 
     -- all of it, for numbers that are bytes
     pub tabled : Bytes s → 256 ≤ length rules₀ → RulesFit s (length rules₀) → length parts₀ ≡ 64
@@ -218,8 +233,8 @@ module _ (f : Form) (s : List ℕ) (m : Marked) (e : markedSections f s 0 ≡ ac
             channels = sym channels-count;
             rules = sym rules-count;
             parts = sym parts-count;
-            second = refl;
-            third = refl;
+            rulesAt = refl;
+            partsAt = refl;
             some = some-channel d well;
             formed = sound;
             scoped = scoped d well;
@@ -242,7 +257,8 @@ tabled-kept {s} {rules₀} {rules} {parts} {l} o t =
         long = omega (arith, o .long, t .ruleTable .long);
         room = omega (arith, o .long, t .ruleTable .room);
         default = λ r h.
-            subst (λ at. ReadsAt s (action (ownOnly (R (l .deck)))) at (ruleAt (l .deck) r .default)) (kept 4 r (omega arith)) (t .ruleTable .default r h);
+            subst (λ at. ReadsAt s (action (ownOnly (R (l .deck)))) at (ruleAt (l .deck) r .default)) (kept 4 r (omega arith))
+            (t .ruleTable .default r h);
         condition = λ r h.
             subst
             (λ at.

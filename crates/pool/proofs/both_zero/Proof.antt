@@ -6,7 +6,7 @@ use mathlib.Core.Bool.{_&&_}
 use native.Mathlib.Omega.{arith}
 use lib.Dec.{eqb}
 use lib.ListN.{drop}
-use Rattle.lists.specs.Lists.{all}
+use Rattle.lists.specs.Lists.{allOf}
 use Rattle.pool.specs.Places.{isZero}
 use Rattle.pool.proofs.Scanning.{or-none, zero-turn, zero-end}
 use Rattle.pool.proofs.both_zero.Statement.{statement}
@@ -15,8 +15,8 @@ use Rattle.pool.proofs.both_zero.Tie as tie
 abbrev Inv-loop : tie.InvT-loop
 Inv-loop a b n first₀ second₀ i₀ first second i =
     (i ≤ n)
-    × ((eqb first 0 && all isZero (drop i a)) ≡ all isZero a)
-    × ((eqb second 0 && all isZero (drop i b)) ≡ all isZero b)
+    × ((eqb first 0 && allOf isZero (drop i a)) ≡ allOf isZero a)
+    × ((eqb second 0 && allOf isZero (drop i b)) ≡ allOf isZero b)
 
 abbrev μ-loop : tie.MeasureT-loop
 μ-loop a b n first₀ second₀ i₀ first second i = n - i

@@ -18,7 +18,8 @@ abbrev μ-loop : tie.MeasureT-loop
 μ-loop pool₀ at distance count i₀ pool i = count - i
 
 loop-holds : tie.Need-loop-holds Inv-loop μ-loop
-loop-holds c = (omega arith, refl, paste-zero (c .args .pool .now) (c .args .at) (drop (c .args .at + c .args .distance) (c .args .pool .now)))
+loop-holds c =
+    (omega arith, refl, paste-zero (c .args .pool .now) (c .args .at) (drop (c .args .at + c .args .distance) (c .args .pool .now)))
 
 add-x : tie.Need-add-x Inv-loop μ-loop
 add-x c = omega arith

@@ -9,8 +9,8 @@ use lib.ListN.{length, set}
 use lib.Seq.{getD-set-same, getD-set-other}
 use lib.IntN.{ℤ, pos}
 use borrow.Author.Tests.{ltb-true, eqb-true, eqb-false}
-use Rattle.lists.specs.Lists.{all}
-use Rattle.lists.specs.Laws.Alls.{all-head, all-tail}
+use Rattle.lists.specs.Lists.{allOf}
+use Rattle.lists.specs.Laws.Alls.{allOf-head, allOf-tail}
 use Rattle.pool.specs.Updates.{Pair, indexOf, valueAt, assign, updates}
 use Rattle.pool.specs.Laws.Values.{channelsIn}
 
@@ -30,14 +30,15 @@ set-value p b c v values l = go (eqb c b) refl
 
 -- another part keeps its values
 pub assign-part : (n p q c : ℕ) (l : List Pair) (values : List ℤ) → n ≤ 32 → (q ≡ p → ⊥) → c < n
-    → all (λ b. ltb b n) (channelsIn l) ≡ true → valueAt (assign p l values) q c ≡ valueAt values q c
+    → allOf (λ b. ltb b n) (channelsIn l) ≡ true → valueAt (assign p l values) q c ≡ valueAt values q c
 unfolding updates
 assign-part n p q c [] values few h lc k = refl
 assign-part n p q c (a ∷ l) values few h lc k =
-    assign-part n p q c l (set values (indexOf p (a .channel)) (a .value)) few h lc (all-tail (λ b. ltb b n) (a .channel) (channelsIn l) k)
+    assign-part n p q c l (set values (indexOf p (a .channel)) (a .value)) few h lc
+    (allOf-tail (λ b. ltb b n) (a .channel) (channelsIn l) k)
     ∙ getD-set-other values (indexOf p (a .channel)) (indexOf q c) (a .value) (pos 0) differs
   where
     differs : indexOf q c ≡ indexOf p (a .channel) → ⊥
     differs e =
-        let la = ltb-true (a .channel) n (all-head (λ b. ltb b n) (a .channel) (channelsIn l) k) in
+        let la = ltb-true (a .channel) n (allOf-head (λ b. ltb b n) (a .channel) (channelsIn l) k) in
         h (omega arith)

@@ -5,9 +5,9 @@ use mathlib.Core.List.{List, [], _∷_, map}
 use lib.Dec.{eqb}
 use lib.IntN.{ℤ}
 use borrow.Author.Tests.{eqb-true, eq-eqb}
-use Rattle.lists.specs.Lists.{lists, all, any, eqZ, eqList}
+use Rattle.lists.specs.Lists.{lists, allOf, anyOf, eqZ, eqList}
 use Rattle.lists.specs.Laws.Booleans.{and-both, and-left, and-right}
-use Rattle.lists.specs.Laws.Alls.{all-head, all-tail}
+use Rattle.lists.specs.Laws.Alls.{allOf-head, allOf-tail}
 use Rattle.lists.specs.Laws.Equalities.{eqZ-true, eqZ-refl, eqList-true, eqList-refl}
 use Rattle.lists.specs.Laws.Statements.{same-test}
 use Rattle.pool.specs.Updates.{Pair, Update, eqPair, eqUpdate, isAmong}
@@ -51,9 +51,9 @@ module _ (l : List ℤ) (h : wellWritten l ≡ true) where
       numbers w g e = sym (written-same w g) ∙ ap place (sym e) ∙ written-same l h
 
   -- a place with these numbers is a place with this update
-  pub numbers-among : (ls : List (List ℤ)) → all wellWritten ls ≡ true
-      → any (λ w. eqList eqZ w l) ls ≡ isAmong (updateOf l) (map updateOf ls)
+  pub numbers-among : (ls : List (List ℤ)) → allOf wellWritten ls ≡ true
+      → anyOf (λ w. eqList eqZ w l) ls ≡ isAmong (updateOf l) (map updateOf ls)
   unfolding isAmong lists
   numbers-among [] g = refl
   numbers-among (w ∷ ls) g =
-      ap₂ (λ a b. a || b) (equal-numbers w (all-head wellWritten w ls g)) (numbers-among ls (all-tail wellWritten w ls g))
+      ap₂ (λ a b. a || b) (equal-numbers w (allOf-head wellWritten w ls g)) (numbers-among ls (allOf-tail wellWritten w ls g))

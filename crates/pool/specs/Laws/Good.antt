@@ -9,9 +9,9 @@ use lib.ListN.{length, getD, take, drop, length-take, length-drop, take-append-d
 use lib.Seq.{drop-at, take-add}
 use lib.IntN.{ℤ, pos, natAbs}
 use borrow.Author.Tests.{leb-true, le-leb, eqb-true, eq-eqb}
-use Rattle.lists.specs.Lists.{lists, all, flatMap, eqZ}
+use Rattle.lists.specs.Lists.{lists, allOf, flatMap, eqZ}
 use Rattle.lists.specs.Laws.Booleans.{and-both, four, five}
-use Rattle.lists.specs.Laws.Alls.{all-head, all-tail, all-cons, all-replicate, all-map, all-every}
+use Rattle.lists.specs.Laws.Alls.{allOf-head, allOf-tail, allOf-cons, allOf-replicate, allOf-map, allOf-every}
 use Rattle.lists.specs.Laws.Equalities.{eqZ-true, eqZ-refl, eqList-true}
 use Rattle.deck.specs.Deck.{Deck}
 use Rattle.charge.specs.Laws.Equations.{update-at-least-one}
@@ -24,8 +24,8 @@ use Rattle.pool.specs.Laws.Places.{short, place-well, places-back, updat
 pub record Fine (d : Deck) (C : ℕ) (x : Machine) : Type 0 where
   pub long : length (x .values) ≡ 512
   pub unused : unusedZero d 0 (x .values) ≡ true
-  pub known : all (known d) (x .pending) ≡ true
-  pub short : all short (x .pending) ≡ true
+  pub known : allOf (known d) (x .pending) ≡ true
+  pub short : allOf short (x .pending) ≡ true
   pub different : allDifferent (x .pending) ≡ true
   pub bounded : charge d (x .pending) ≤ C
 
@@ -37,12 +37,12 @@ count-bounded d (u ∷ us) = omega (arith, update-at-least-one d (u .part) (chan
 
 -- ---- storing
 
-pub all-well : (us : List Update) → all wellWritten (map place us) ≡ true
-all-well us = all-map wellWritten place us ∙ all-every (λ u. wellWritten (place u)) place-well us
+pub all-well : (us : List Update) → allOf wellWritten (map place us) ≡ true
+all-well us = allOf-map wellWritten place us ∙ allOf-every (λ u. wellWritten (place u)) place-well us
 
-zeros-zero : (n : ℕ) → all isZero (zeros n) ≡ true
+zeros-zero : (n : ℕ) → allOf isZero (zeros n) ≡ true
 unfolding zeros isZero
-zeros-zero n = all-replicate isZero n (pos 0) (eqZ-refl (pos 0))
+zeros-zero n = allOf-replicate isZero n (pos 0) (eqZ-refl (pos 0))
 
 module _ (d : Deck) (n : ℕ) (x : Machine) (f : Fine d (capacity n) x) where
   room : 10 * length (x .pending) ≤ n
@@ -62,14 +62,15 @@ module _ (d : Deck) (n : ℕ) (x : Machine) (f : Fine d (capacity n) x) where
   unfolding poolOf
   back = updates-back (zeros (n - 10 * length (x .pending))) (x .pending) (f .short)
 
-  written : all wellWritten (places (length (x .pending)) (poolOf n (x .pending))) ≡ true
+  written : allOf wellWritten (places (length (x .pending)) (poolOf n (x .pending))) ≡ true
   unfolding poolOf
-  written = ap (all wellWritten) (places-back (zeros (n - 10 * length (x .pending))) (x .pending) (f .short)) ∙ all-well (x .pending)
+  written = ap (allOf wellWritten) (places-back (zeros (n - 10 * length (x .pending))) (x .pending) (f .short)) ∙ all-well (x .pending)
 
-  behind : all isZero (drop (10 * length (x .pending)) (poolOf n (x .pending))) ≡ true
+  behind : allOf isZero (drop (10 * length (x .pending)) (poolOf n (x .pending))) ≡ true
   unfolding poolOf
   behind =
-      ap (all isZero) (drop-at (flatMap place (x .pending)) (zeros (n - 10 * length (x .pending))) (10 * length (x .pending)) (places-length (x .pending) (f .short)))
+      ap (allOf isZero) (drop-at (flatMap place (x .pending)) (zeros (n - 10 * length (x .pending))) (10 * length (x .pending))
+      (places-length (x .pending) (f .short)))
       ∙ zeros-zero (n - 10 * length (x .pending))
 
   pub good-stored : good d (store n x) ≡ true
@@ -86,7 +87,7 @@ module _ (d : Deck) (n : ℕ) (x : Machine) (f : Fine d (capacity n) x) where
       (le-leb (length us) _ (omega (arith, c, count-bounded d us, f .bounded))))
       written)
       behind)
-      (ap (all (known d)) back ∙ f .known))
+      (ap (allOf (known d)) back ∙ f .known))
       (ap allDifferent back ∙ f .different))
       (ap (λ l. leb (charge d l) (capacity (length (poolOf n us)))) back ∙ le-leb (charge d us) _ (omega (arith, c, f .bounded)))
 
@@ -98,25 +99,25 @@ unfolding wellWritten
 written-same l h = eqList-true eqZ eqZ-true (place (updateOf l)) l h
 
 -- the pool is its first n places and what is behind them
-places-flat : (n : ℕ) (pool : List ℤ) → 10 * n ≤ length pool → all wellWritten (places n pool) ≡ true
+places-flat : (n : ℕ) (pool : List ℤ) → 10 * n ≤ length pool → allOf wellWritten (places n pool) ≡ true
     → flatMap place (updatesOf n pool) ≡ take (10 * n) pool
 unfolding updatesOf places lists
 places-flat zero pool l h = refl
 places-flat (suc n) pool l h =
     let first = take 10 pool in
     let rest = drop 10 pool in
-    let e = places-flat n rest (omega (arith, length-drop 10 pool)) (all-tail wellWritten first (places n rest) h) in
-    ap₂ (λ a b. a ++ b) (written-same first (all-head wellWritten first (places n rest) h)) e
+    let e = places-flat n rest (omega (arith, length-drop 10 pool)) (allOf-tail wellWritten first (places n rest) h) in
+    ap₂ (λ a b. a ++ b) (written-same first (allOf-head wellWritten first (places n rest) h)) e
     ∙ sym (ap (λ k. take k pool) ten ∙ take-add 10 (10 * n) pool)
   where
     ten : 10 * suc n ≡ 10 + 10 * n
     ten = omega arith
 
-zeros-of : (l : List ℤ) → all isZero l ≡ true → l ≡ zeros (length l)
+zeros-of : (l : List ℤ) → allOf isZero l ≡ true → l ≡ zeros (length l)
 unfolding zeros isZero lists
 zeros-of [] h = refl
 zeros-of (v ∷ l) h =
-    ap₂ (λ a b. a ∷ b) (eqZ-true v (pos 0) (all-head isZero v l h)) (zeros-of l (all-tail isZero v l h))
+    ap₂ (λ a b. a ∷ b) (eqZ-true v (pos 0) (allOf-head isZero v l h)) (zeros-of l (allOf-tail isZero v l h))
 
 pub updates-length : (n : ℕ) (pool : List ℤ) → length (updatesOf n pool) ≡ n
 unfolding updatesOf places
@@ -137,19 +138,21 @@ place-short l h =
     let pairs = pairsOf (drop 2 l) in
     le-leb (length (take count pairs)) 4 (omega (arith, length-take count pairs, pairs-few (drop 2 l), length-drop 2 l))
 
-pub updates-short : (n : ℕ) (pool : List ℤ) → all short (updatesOf n pool) ≡ true
+pub updates-short : (n : ℕ) (pool : List ℤ) → allOf short (updatesOf n pool) ≡ true
 unfolding updatesOf places lists
 updates-short zero pool = refl
-updates-short (suc n) pool = all-cons short (updateOf (take 10 pool)) (updatesOf n (drop 10 pool)) (place-short (take 10 pool) (omega (arith, length-take 10 pool))) (updates-short n (drop 10 pool))
+updates-short (suc n) pool =
+    allOf-cons short (updateOf (take 10 pool)) (updatesOf n (drop 10 pool))
+    (place-short (take 10 pool) (omega (arith, length-take 10 pool))) (updates-short n (drop 10 pool))
 
 -- the tests of a good state one by one
 pub record Tests (d : Deck) (m : Memory) : Type 0 where
   pub long : eqb (length (m .state .values)) 512 ≡ true
   pub unused : unusedZero d 0 (m .state .values) ≡ true
   pub few : leb (m .state .pending) (capacity (length (m .pool))) ≡ true
-  pub written : all wellWritten (places (m .state .pending) (m .pool)) ≡ true
-  pub behind : all isZero (drop (10 * m .state .pending) (m .pool)) ≡ true
-  pub known : all (known d) (updatesOf (m .state .pending) (m .pool)) ≡ true
+  pub written : allOf wellWritten (places (m .state .pending) (m .pool)) ≡ true
+  pub behind : allOf isZero (drop (10 * m .state .pending) (m .pool)) ≡ true
+  pub known : allOf (known d) (updatesOf (m .state .pending) (m .pool)) ≡ true
   pub different : allDifferent (updatesOf (m .state .pending) (m .pool)) ≡ true
   pub bounded : leb (charge d (updatesOf (m .state .pending) (m .pool))) (capacity (length (m .pool))) ≡ true
 
@@ -160,10 +163,10 @@ good-tests d m h =
     let long : Bool = eqb (length (m .state .values)) 512 in
     let unused : Bool = unusedZero d 0 (m .state .values) in
     let few : Bool = leb (m .state .pending) (capacity (length (m .pool))) in
-    let written : Bool = all wellWritten (places (m .state .pending) (m .pool)) in
-    let behind : Bool = all isZero (drop (10 * m .state .pending) (m .pool)) in
+    let written : Bool = allOf wellWritten (places (m .state .pending) (m .pool)) in
+    let behind : Bool = allOf isZero (drop (10 * m .state .pending) (m .pool)) in
     let inPool : Bool = long && unused && few && written && behind in
-    let ofUpdates = four inPool (all (known d) us) (allDifferent us) (leb (charge d us) (capacity (length (m .pool)))) h in
+    let ofUpdates = four inPool (allOf (known d) us) (allDifferent us) (leb (charge d us) (capacity (length (m .pool)))) h in
     let ofPool = five long unused few written behind (ofUpdates .0) in
     record {
       long = ofPool .0;
@@ -201,6 +204,7 @@ module _ (d : Deck) (m : Memory) (h : good d m ≡ true) where
       let same = updates-length n pool in
       let front = places-flat n pool (omega arith) (t .written) in
       let rest = zeros-of (drop (10 * n) pool) (t .behind) in
-      let left : length pool - 10 * length (updatesOf n pool) ≡ length (drop (10 * n) pool) = omega (arith, same, length-drop (10 * n) pool) in
+      let left : length pool - 10 * length (updatesOf n pool) ≡ length (drop (10 * n) pool) =
+      omega (arith, same, length-drop (10 * n) pool) in
       ap₂ (λ k l. record { state = record { values = m .state .values; pending = k }; pool = l }) same
       (ap₂ (λ a b. a ++ b) front (ap zeros left ∙ sym rest) ∙ take-append-drop (10 * n) pool)

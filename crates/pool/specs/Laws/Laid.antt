@@ -9,8 +9,8 @@ use lib.ListN.{length-append, length-take, length-replicate}
 use lib.Seq.{take-at, drop-at}
 use lib.IntN.{ℤ, pos}
 use borrow.Author.Tests.{leb-true}
-use Rattle.lists.specs.Lists.{lists, all, flatMap}
-use Rattle.lists.specs.Laws.Alls.{all-left, all-take}
+use Rattle.lists.specs.Lists.{lists, allOf, flatMap}
+use Rattle.lists.specs.Laws.Alls.{allOf-left, allOf-take}
 use Rattle.deck.specs.Deck.{Deck}
 use Rattle.pool.specs.Updates.{Update}
 use Rattle.pool.specs.Places.{zeros, capacity, place, poolOf, places, updatesOf}
@@ -35,10 +35,10 @@ pub zeros-append : (a b : ℕ) → zeros a ++ zeros b ≡ zeros (a + b)
 unfolding zeros
 zeros-append a b = replicate-append-replicate a b (pos 0)
 
-module _ (n : ℕ) (us : List Update) (h : all short us ≡ true) where
+module _ (n : ℕ) (us : List Update) (h : allOf short us ≡ true) where
   module _ (k : ℕ) (l : k ≤ length us) where
     front-length : length (flatMap place (take k us)) ≡ 10 * k
-    front-length = omega (arith, places-length (take k us) (all-take short k us h), length-take k us)
+    front-length = omega (arith, places-length (take k us) (allOf-take short k us h), length-take k us)
 
     cut : poolOf n us ≡ flatMap place (take k us) ++ (flatMap place (drop k us) ++ zeros (n - 10 * length us))
     unfolding poolOf
@@ -59,7 +59,7 @@ module _ (n : ℕ) (us : List Update) (h : all short us ≡ true) where
 
 -- ---- the laws
 
-module _ (n : ℕ) (us : List Update) (h : all short us ≡ true) (r : 10 * length us ≤ n) (pool : List ℤ) (e : pool ≡ poolOf n us) where
+module _ (n : ℕ) (us : List Update) (h : allOf short us ≡ true) (r : 10 * length us ≤ n) (pool : List ℤ) (e : pool ≡ poolOf n us) where
   same-length : length pool ≡ n
   same-length = ap length e ∙ pool-length n us h r
 
@@ -88,13 +88,13 @@ module _ {pool : List ℤ} (us extra : List Update) (h : Laid pool (us ++ extra)
 
   pub laid-cleared : Laid (take (10 * length us) pool ++ zeros (length pool - 10 * length us)) us
   laid-cleared =
-      is-laid (length pool) us (all-left short us extra (h .short)) first-room
+      is-laid (length pool) us (allOf-left short us extra (h .short)) first-room
       (take (10 * length us) pool ++ zeros (length pool - 10 * length us))
       cleared
 
   pub cleared-length : length (take (10 * length us) pool ++ zeros (length pool - 10 * length us)) ≡ length pool
   cleared-length =
-      same-length (length pool) us (all-left short us extra (h .short)) first-room
+      same-length (length pool) us (allOf-left short us extra (h .short)) first-room
       (take (10 * length us) pool ++ zeros (length pool - 10 * length us))
       cleared
 

@@ -9,8 +9,8 @@ use lib.ListN.{length, take, drop, replicate, length-append, length-replicate}
 use lib.Seq.{take-at, drop-at}
 use lib.IntN.{ℤ, pos}
 use borrow.Author.Tests.{leb-true}
-use Rattle.lists.specs.Lists.{lists, all, flatMap, eqZ, eqList}
-use Rattle.lists.specs.Laws.Alls.{all-head, all-tail}
+use Rattle.lists.specs.Lists.{lists, allOf, flatMap, eqZ, eqList}
+use Rattle.lists.specs.Laws.Alls.{allOf-head, allOf-tail}
 use Rattle.lists.specs.Laws.Equalities.{eqZ-refl, eqList-refl}
 use Rattle.pool.specs.Updates.{Pair, Update}
 use Rattle.pool.specs.Places.{zeros, place, poolOf, pairsOf, updateOf, wellWritten, places, updatesOf, pools}
@@ -56,32 +56,32 @@ map-back [] = refl
 map-back (u ∷ us) = ap₂ (λ a b. a ∷ b) (update-back u) (map-back us)
 
 module _ (z : List ℤ) where
-  pub places-back : (us : List Update) → all short us ≡ true → places (length us) (flatMap place us ++ z) ≡ map place us
+  pub places-back : (us : List Update) → allOf short us ≡ true → places (length us) (flatMap place us ++ z) ≡ map place us
   unfolding lists places
   places-back [] h = refl
   places-back (u ∷ us) h =
-      let l = place-length u (all-head short u us h) in
+      let l = place-length u (allOf-head short u us h) in
       let e = append-assoc (place u) (flatMap place us) z in
       ap₂ (λ a b. a ∷ b)
       (ap (take 10) e ∙ take-at (place u) (flatMap place us ++ z) 10 l)
       (ap (λ s. places (length us) (drop 10 s)) e
       ∙ ap (places (length us)) (drop-at (place u) (flatMap place us ++ z) 10 l)
-      ∙ places-back us (all-tail short u us h))
+      ∙ places-back us (allOf-tail short u us h))
 
-  pub updates-back : (us : List Update) → all short us ≡ true → updatesOf (length us) (flatMap place us ++ z) ≡ us
+  pub updates-back : (us : List Update) → allOf short us ≡ true → updatesOf (length us) (flatMap place us ++ z) ≡ us
   unfolding updatesOf
   updates-back us h = ap (map updateOf) (places-back us h) ∙ map-back us
 
-pub places-length : (us : List Update) → all short us ≡ true → length (flatMap place us) ≡ 10 * length us
+pub places-length : (us : List Update) → allOf short us ≡ true → length (flatMap place us) ≡ 10 * length us
 unfolding lists
 places-length [] h = refl
 places-length (u ∷ us) h =
     let a = length-append (place u) (flatMap place us) in
-    let b = place-length u (all-head short u us h) in
-    let c = places-length us (all-tail short u us h) in
+    let b = place-length u (allOf-head short u us h) in
+    let c = places-length us (allOf-tail short u us h) in
     omega arith
 
-pub pool-length : (n : ℕ) (us : List Update) → all short us ≡ true → 10 * length us ≤ n → length (poolOf n us) ≡ n
+pub pool-length : (n : ℕ) (us : List Update) → allOf short us ≡ true → 10 * length us ≤ n → length (poolOf n us) ≡ n
 unfolding poolOf zeros
 pool-length n us h m =
     let a = length-append (flatMap place us) (replicate (n - 10 * length us) (pos 0)) in

@@ -10,9 +10,9 @@ use lib.ListN.{length, set, length-set}
 use lib.Seq.{getD-set-other}
 use lib.IntN.{ℤ, pos}
 use borrow.Author.Tests.{ltb-true, lt-ltb}
-use Rattle.lists.specs.Lists.{lists, all, member}
+use Rattle.lists.specs.Lists.{lists, allOf, member}
 use Rattle.lists.specs.Laws.Booleans.{and-both, and-left, and-right, or-left, or-false-right, contradiction}
-use Rattle.lists.specs.Laws.Alls.{all-head, all-tail}
+use Rattle.lists.specs.Laws.Alls.{allOf-head, allOf-tail}
 use Rattle.lists.specs.Laws.Members.{member-head}
 use Rattle.deck.specs.Deck.{Deck, R, N}
 use Rattle.pool.specs.Updates.{Pair, indexOf, valueAt, assign, updates}
@@ -26,7 +26,8 @@ channelsIn l = map (λ a. a .channel) l
 pub assign-length : (p : ℕ) (l : List Pair) (values : List ℤ) → length (assign p l values) ≡ length values
 unfolding assign
 assign-length p [] values = refl
-assign-length p (a ∷ l) values = assign-length p l (set values (indexOf p (a .channel)) (a .value)) ∙ length-set values (indexOf p (a .channel)) (a .value)
+assign-length p (a ∷ l) values = assign-length p l (set values (indexOf p (a .channel)) (a .value))
+    ∙ length-set values (indexOf p (a .channel)) (a .value)
 
 -- a channel that is not among the pairs keeps its value
 pub assign-other : (p c : ℕ) (l : List Pair) (values : List ℤ) → member c (channelsIn l) ≡ false
@@ -72,13 +73,13 @@ unused-set d i (suc j) (v ∷ values) z u h =
     shifted = omega arith
 
 pub unused-assign : (d : Deck) (p : ℕ) (l : List Pair) (values : List ℤ) → p < N d → R d ≤ 32
-    → all (λ c. ltb c (R d)) (channelsIn l) ≡ true → unusedZero d 0 values ≡ true → unusedZero d 0 (assign p l values) ≡ true
+    → allOf (λ c. ltb c (R d)) (channelsIn l) ≡ true → unusedZero d 0 values ≡ true → unusedZero d 0 (assign p l values) ≡ true
 unfolding assign
 unused-assign d p [] values lp few k h = h
 unused-assign d p (a ∷ l) values lp few k h =
     let c = a .channel in
-    let lc = ltb-true c (R d) (all-head (λ c. ltb c (R d)) c (channelsIn l) k) in
-    unused-assign d p l (set values (indexOf p c) (a .value)) lp few (all-tail (λ c. ltb c (R d)) c (channelsIn l) k)
+    let lc = ltb-true c (R d) (allOf-head (λ c. ltb c (R d)) c (channelsIn l) k) in
+    unused-assign d p l (set values (indexOf p c) (a .value)) lp few (allOf-tail (λ c. ltb c (R d)) c (channelsIn l) k)
     (unused-set d 0 (indexOf p c) values (a .value) (ap (used d) zero-first ∙ used-index d p c lp lc few) h)
   where
     zero-first : 0 + indexOf p (a .channel) ≡ indexOf p (a .channel)

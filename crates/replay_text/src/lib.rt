@@ -1,0 +1,3 @@
+// The text of calls that `replay` goes through, and the lines that it prints.
+pub mod answers;
+pub mod lines;

@@ -1,9 +1,0 @@
--- Laws of the tests of a state, by subject.
-pub mod Fits
-pub mod Places
-pub mod Held
-pub mod Charges
-pub mod Judged
-pub mod Shape
-pub mod Indexing
-pub mod Unused
