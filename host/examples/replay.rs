@@ -11,26 +11,24 @@ use std::{env, fs, io};
 
 /// Makes the call of a line. None where the line is not one of the four.
 fn call(deck: &[u8], memory: &mut Memory, line: &str) -> Option<Result<String, Refusal>> {
-    let (word, numbers) = line.split_once(' ')?;
-    if word == "input" {
-        let (part, pairs) = numbers.split_once(' ')?;
-        let pairs: Vec<i32> = pairs.split(' ').map(|number| number.parse().ok()).collect::<Option<_>>()?;
-        let entered = memory.input(deck, part.parse().ok()?, &pairs).result();
-        return Some(entered.map(|[charge, ..]| format!("added {charge}")));
-    }
-    let number = numbers.parse().ok()?;
-    Some(match word {
-        "start" => {
+    let mut words = line.split(' ');
+    let (word, number) = (words.next()?, words.next()?.parse().ok()?);
+    let pairs: Vec<i32> = words.map(|word| word.parse().ok()).collect::<Option<_>>()?;
+    Some(match (word, pairs.len()) {
+        ("start", 0) => {
             // The length counts numbers, ten for each place of the pool.
             *memory = Memory::new(number as usize);
             memory.start(deck).result().map(|_| "started".into())
         }
-        "commit" => memory.commit(deck, number).result().map(|[applied, charge, ..]| match applied {
+        ("input", _) => {
+            memory.input(deck, number, &pairs).result().map(|[charge, ..]| format!("added {charge}"))
+        }
+        ("commit", 0) => memory.commit(deck, number).result().map(|[applied, charge, ..]| match applied {
             1 => format!("applied {charge}"),
             // The part's limit would have failed.
             _ => format!("discarded {charge}"),
         }),
-        "settle" => memory.settle(deck, number).result().map(|[commits, settled, ..]| match settled {
+        ("settle", 0) => memory.settle(deck, number).result().map(|[commits, settled, ..]| match settled {
             1 => format!("settled {commits}"),
             _ => format!("spent {commits}"),
         }),
