@@ -1,4 +1,5 @@
-/* The reaction engine: seven calls over memory that the host owns.
+/* The reaction engine: seven calls over memory that the host owns. The archive dist/libreaction.a has them, for x86-64 Linux;
+ * docs/EMBEDDING.md says how it is linked, and how it is proved and built anew.
  *
  * Every call returns the number of its refusal, or 0 when it is accepted. Whatever the numbers behind the pointers are, a call
  * ends with one or the other. A refused call changes nothing but `answer`, with two exceptions: reaction_section makes its stretch

@@ -30,3 +30,11 @@ mod rig;
 pub use deck::{Deck, Section};
 pub use refusal::Refusal;
 pub use rig::{Commit, Rig, Settle, Update};
+
+/// The archive that is linked: `target/staticlib/libabi.a` where the kit has built it, else `dist/libreaction.a`, or
+/// the one in the folder that `REACTION_ARCHIVE_DIR` named.
+///
+/// ```
+/// println!("by {}", reaction::ARCHIVE);
+/// ```
+pub const ARCHIVE: &str = env!("REACTION_ARCHIVE");
