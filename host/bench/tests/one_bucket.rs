@@ -9,7 +9,7 @@ use std::hint::black_box;
 use std::time::Duration;
 
 /// The factors of the last value in the hash of an update with one pair and with four: `hashOf` of
-/// `crates/index/specs/Hash.antt`.
+/// `crates/pool_index/specs/Hash.antt`.
 const FACTOR_OF_ONE: u32 = 1_640_531_527;
 const FACTOR_OF_FOUR: u32 = 86_028_121;
 /// A hundred times as many updates take about a hundred times as long, and ten thousand times as long if each is
