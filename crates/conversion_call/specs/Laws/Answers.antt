@@ -34,8 +34,8 @@ passed-old s rules parts memo k n w =
         channels = c .channels;
         rules = c .rules;
         parts = c .parts;
-        second = c .second ∙ p .sections .0;
-        third = c .third ∙ p .sections .1;
+        rulesAt = c .rulesAt ∙ p .sections .0;
+        partsAt = c .partsAt ∙ p .sections .1;
       };
     }
 
