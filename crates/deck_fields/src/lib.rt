@@ -95,7 +95,10 @@ pub fn rising_at(s: &[u8], at: usize, count: usize, hi: usize) -> Set
     }
 }
 
-// So many labels.
+// A label is below this.
+const LABELS_END: usize = Deck::HIGHEST_LABEL + 1;
+
+// As many labels as there are channels.
 pub fn labels_at(s: &[u8], at: usize, count: usize) -> Advance
     requires { ⌜ at ≤ length (now s) ⌝ }
     ensures { λ r. ⌜ Reads (now (s .entry)) (repeats count label (drop at (now (s .entry))) at) (λ _. Unit {0}) r ⌝ }
@@ -103,7 +106,7 @@ pub fn labels_at(s: &[u8], at: usize, count: usize) -> Advance
     let mut place = at;
     let mut i: usize = 0;
     while i < count {
-        let b = number_at(s, place, Deck::LOWEST_LABEL, Deck::HIGHEST_LABEL + 1);
+        let b = number_at(s, place, Deck::LOWEST_LABEL, LABELS_END);
         let step = b.step;
         match step {
             Advance::Next(next) => {
