@@ -4,7 +4,7 @@ use Prim.Native.Nat.{ℕ, zero, suc, _*_, _-_, _%_}
 use mathlib.Core.Bool.{Bool, _&&_, cond}
 use mathlib.Core.List.{List, [], _∷_, map}
 use lib.Dec.{leb, ltb, eqb}
-use lib.ListN.{length, getD, take, drop}
+use lib.ListN.{length, take, drop}
 use lib.IntN.{ℤ, pos, natAbs}
 use lib.Signed.{leZ, ltZ}
 use Rattle.lists.specs.Lists.{allOf, distinct, isEmpty}
@@ -16,6 +16,7 @@ use Rattle.deck.specs.declared.Form.the-variants.{New}
 use Rattle.deck.specs.Limits.{limits}
 use Rattle.deck.specs.Deck.{Deck, R, M, N}
 use Rattle.deck.specs.Layout.{Layout}
+use Rattle.deck.specs.Sections.{offsetOf}
 use Rattle.charge.specs.Charge.{largestCharge}
 use Rattle.pool.specs.Updates.{assign, charge}
 use Rattle.pool.specs.Places.{zeros, capacity, pairsOf}
@@ -130,7 +131,7 @@ settling d (suc budget) x =
 unfoldable pub settleAs : Form → List ℕ → Memory → ℕ → Reply
 settleAs f bytes m budget = reply m do
   d ← testedAs f bytes m
-  require (leb budget 65535) budgetTooLarge 0
+  require (leb budget (limits .charge)) budgetTooLarge 0
   let s = settling d budget (load m)
   accepted (record { answer = cond (isEmpty (s .machine .pending)) (settled (s .made)) (spent (s .made)); machine = s .machine })
 
@@ -161,7 +162,7 @@ pub record Section : Type 0 where
 
 -- the offset of section k's count; from 3 on, the deck's end
 unfoldable pub sectionAt : Layout → List ℕ → ℕ → ℕ
-sectionAt l bytes k = getD (0 ∷ l .rulesAt ∷ l .partsAt ∷ []) k (length bytes)
+sectionAt l bytes k = offsetOf (l .rulesAt) (l .partsAt) (length bytes) k
 
 -- "from that section's count to its end"
 pub record Ends : Type 0 where
@@ -192,7 +193,7 @@ sectionFrom bytes k = stretchFrom (sectionEnds bytes k)
 
 -- to open all definitions of this file, on an `unfolding` line; `stretches` opens section's
 unfoldable pub stretches : Unit {0}
-unfolding sectionAt sectionEnds sectionReply section stretchFrom sectionFrom
+unfolding offsetOf sectionAt sectionEnds sectionReply section stretchFrom sectionFrom
 stretches = tt
 
 unfoldable pub calls : Unit {0}

@@ -5,6 +5,7 @@ use mathlib.Core.Bool.{not, cond}
 use mathlib.Core.List.{List, [], _∷_, map}
 use lib.Dec.{eqb, ltb}
 use Rattle.lists.specs.Lists.{select, flatMap, sumOf, largest, below}
+use Rattle.deck.specs.Limits.{limits}
 use Rattle.deck.specs.Deck.{Deck, R, M, N, ruleAt, carries, targets, active}
 
 -- "all other parts", rising
@@ -64,7 +65,7 @@ largestCharge d = largest (λ x. x .charge) (carriedCharges d)
 
 -- 8: the places whose charge is above 65,535
 unfoldable pub aboveBound : List Charged → List ℕ
-aboveBound l = map (λ x. x .place) (select (λ x. ltb 65535 (x .charge)) l)
+aboveBound l = map (λ x. x .place) (select (λ x. ltb (limits .charge) (x .charge)) l)
 
 -- to open all definitions of this file, on an `unfolding` line
 unfoldable pub charges : Unit {0}

@@ -58,6 +58,10 @@ encode d = encodeChannels d ++ encodeRules d ++ encodeParts d
 unfoldable pub inRange : ℕ → ℕ → ℕ → Bool
 inRange lo hi n = leb lo n && leb n hi
 
+-- a byte that a label may be
+abbrev pub isLabel : ℕ → Bool
+isLabel = inRange (limits .lowest) (limits .highest)
+
 -- strictly rising, from lo to below hi
 unfoldable pub isRising : ℕ → ℕ → List ℕ → Bool
 isRising lo hi [] = true
@@ -95,7 +99,7 @@ goodPart R M p =
 unfoldable pub wellFormed : Deck → Bool
 wellFormed d =
     inRange 1 (limits .channels) (R d)
-    && allOf (inRange 33 126) (d .labels)
+    && allOf isLabel (d .labels)
     && leb (M d) (limits .rules)
     && allOf (goodRule (R d)) (d .rules)
     && inRange 1 (limits .parts) (N d)

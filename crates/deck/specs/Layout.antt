@@ -16,7 +16,7 @@ use Rattle.deck.specs.Limits.{limits}
 use Rattle.deck.specs.declared.Form.{Form}
 use Rattle.deck.specs.declared.Form.the-variants.{Old, New}
 use Rattle.deck.specs.Deck.{Action, Rule, Part, Deck}
-use Rattle.deck.specs.Reader.{Got, Reader, _>>=_, _>>_, give, fault, here, expect, byte, end, number, repeats, rising, value}
+use Rattle.deck.specs.Reader.{Got, Reader, _>>=_, _>>_, give, fault, here, expect, byte, end, number, repeats, rising, value, label}
 
 -- what an expression is to be: how its bytes are read, and their first fault from an offset on. Bytes that are not read have one
 pub record Expected (A : Type 0) : Type 0 where
@@ -117,7 +117,7 @@ pub record Layout : Type 0 where
 unfoldable pub sections : Form → Reader Layout
 sections f = do
   R ← number 1 (suc (limits .channels))
-  labels ← repeats R (number 33 127)
+  labels ← repeats R label
   rulesAt ← here
   M ← number 0 (suc (limits .rules))
   rules ← repeats M (rule f R)

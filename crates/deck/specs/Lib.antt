@@ -4,6 +4,7 @@ pub mod Limits
 pub mod Deck
 pub mod Reader
 pub mod Layout
+pub mod Sections
 pub mod Encoding
 pub mod Stretch
 pub mod Marks

@@ -16,7 +16,7 @@ use Rattle.expression.specs.Answers.{isGot}
 use Rattle.deck.specs.declared.Form.{Form}
 use Rattle.deck.specs.Limits.{limits}
 use Rattle.deck.specs.Deck.{Assignment, Action, Rule, Part, targets}
-use Rattle.deck.specs.Reader.{Got, Reader, _>>=_, _>>_, give, here, expect, end, number, repeats, rising, value}
+use Rattle.deck.specs.Reader.{Got, Reader, _>>=_, _>>_, give, here, expect, end, number, repeats, rising, value, label}
 use Rattle.deck.specs.Layout.{numbers, truths, expression, ownOnly, taskScope, action, Layout, defaultAction}
 use Rattle.deck.specs.Encoding.{kindByte}
 use Rattle.deck.specs.declared.Advance.{Advance}
@@ -125,7 +125,7 @@ pub record MarkedFront : Type 0 where
 unfoldable pub markedFront : Form → Reader MarkedFront
 markedFront f = do
   R ← number 1 (suc (limits .channels))
-  labels ← repeats R (number 33 127)
+  labels ← repeats R label
   rulesAt ← here
   M ← number 0 (suc (limits .rules))
   rules ← repeats M (markedRule f R)
@@ -238,18 +238,7 @@ abbrev pub wrongOf : Advance → Loaded
 wrongOf (Next n) = Wrong 0 n
 wrongOf (Fault number place) = Wrong number place
 
--- the offset of a section's count, by those of the second and the third; from 3 on, the deck's end
-unfoldable pub offsetOf : ℕ → ℕ → ℕ → ℕ → ℕ
-offsetOf rulesAt partsAt end k = getD (0 ∷ rulesAt ∷ partsAt ∷ []) k end
-
--- "the stretch of the caller's deck from that section's count to its end"
-unfoldable pub stretchOf : ℕ → ℕ → List ℕ → ℕ → List ℕ
-stretchOf rulesAt partsAt bytes k =
-    let from = offsetOf rulesAt partsAt (length bytes) k in
-    take (offsetOf rulesAt partsAt (length bytes) (suc k) - from) (drop from bytes)
-
 -- to open all definitions of this file, on an `unfolding` line
 unfoldable pub marks : Unit {0}
 unfolding expressionFor scopeOf assignment markedTask markedRule ruleOf markedPart markedFront markedSections unmarked ruleRow partRow
-    offsetOf stretchOf
 marks = tt

@@ -8,6 +8,7 @@ use lib.IntN.{ℤ}
 use Rattle.refusals.specs.Outcome.{Outcome, refused, accepted}
 use Rattle.refusals.specs.Numbers.{deckEnds, outOfRange, bytesFollow}
 use Rattle.expression.specs.Reading.{word, signed}
+use Rattle.deck.specs.Limits.{limits}
 
 pub record Got (A : Type 0) : Type 0 where
   pub value : A
@@ -67,6 +68,10 @@ repeats (suc n) r = do
   x ← r
   xs ← repeats n r
   give (x ∷ xs)
+
+-- "each channel is one label byte, 33 to 126"
+abbrev pub label : Reader ℕ
+label = number (limits .lowest) (suc (limits .highest))
 
 -- n strictly rising numbers from lo to below hi
 unfoldable pub rising : ℕ → ℕ → ℕ → Reader (List ℕ)

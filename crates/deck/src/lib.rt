@@ -50,6 +50,9 @@ pub struct Limits {
     pub place: usize,
     pub deck: usize,
     pub old: usize,
+    pub charge: usize,
+    pub lowest: usize,
+    pub highest: usize,
 }
 
 impl Deck {
@@ -74,10 +77,42 @@ impl Deck {
     // The numbers of a place: part, count, and a pair for each assignment.
     pub const PLACE: usize = 2 + 2 * Deck::ASSIGNMENTS;
 
-    // The numbers of a row in the two tables that the pass fills: of a rule, and of a part.
+    // The bytes that a label may be.
+    pub const LOWEST_LABEL: usize = 33;
+
+    pub const HIGHEST_LABEL: usize = 126;
+
+    // The largest charge of a carried rule; so many places a pool may have, and so many commits a settle may make.
+    pub const CHARGE: usize = 65535;
+
+    // The numbers of a rule's row in the table that the pass fills, and their columns: its events and the targets of its two actions
+    // as sets, its kind, and where its default action, its condition and its action stand in the deck. The events are column 0. In
+    // the last column row c has the rules that listen to channel c.
     pub const RULE_ROW: usize = 8;
 
+    pub const RULE_DEFAULT_TARGETS: usize = 1;
+
+    pub const RULE_TARGETS: usize = 2;
+
+    pub const RULE_KIND: usize = 3;
+
+    pub const RULE_DEFAULT_AT: usize = 4;
+
+    pub const RULE_CONDITION_AT: usize = 5;
+
+    pub const RULE_ACTION_AT: usize = 6;
+
+    pub const RULE_LISTENERS: usize = 7;
+
+    // The same of a part: the rules that it carries, column 0, and where its opening values and its limit stand.
     pub const PART_ROW: usize = 4;
+
+    pub const PART_OPENING_AT: usize = 1;
+
+    pub const PART_LIMIT_AT: usize = 2;
+
+    // The kind of a rule that goes to all other parts.
+    pub const EVERYWHERE: u64 = 1;
 
     // Decks of at most so many rules get short tables.
     pub const FEW_RULES: usize = 16;
@@ -123,6 +158,9 @@ impl Deck {
             place: Deck::PLACE,
             deck: Deck::BYTES,
             old: Deck::OLD_BYTES,
+            charge: Deck::CHARGE,
+            lowest: Deck::LOWEST_LABEL,
+            highest: Deck::HIGHEST_LABEL,
         }
     }
 }

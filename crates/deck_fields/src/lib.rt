@@ -5,7 +5,7 @@ ghost use mathlib.Core.List.{_++_};
 ghost use Prim.Native.Nat.{_≤_};
 ghost use lib.ListN.{length, drop};
 ghost use Rattle.lists.specs.Bits.{maskOf};
-ghost use Rattle.deck.specs.Reader.{number, repeats, rising};
+ghost use Rattle.deck.specs.Reader.{number, repeats, rising, label};
 ghost use Rattle.deck.specs.Marks.{Reads, ReadsTo, scopeOf, expressionFor, isWhole, wrongOf};
 use deck::Advance;
 use deck::Byte;
@@ -95,15 +95,18 @@ pub fn rising_at(s: &[u8], at: usize, count: usize, hi: usize) -> Set
     }
 }
 
-// So many labels.
+// A label is below this.
+const LABELS_END: usize = Deck::HIGHEST_LABEL + 1;
+
+// As many labels as there are channels.
 pub fn labels_at(s: &[u8], at: usize, count: usize) -> Advance
     requires { ⌜ at ≤ length (now s) ⌝ }
-    ensures { λ r. ⌜ Reads (now (s .entry)) (repeats count (number 33 127) (drop at (now (s .entry))) at) (λ _. Unit {0}) r ⌝ }
+    ensures { λ r. ⌜ Reads (now (s .entry)) (repeats count label (drop at (now (s .entry))) at) (λ _. Unit {0}) r ⌝ }
 {
     let mut place = at;
     let mut i: usize = 0;
     while i < count {
-        let b = number_at(s, place, 33, 127);
+        let b = number_at(s, place, Deck::LOWEST_LABEL, LABELS_END);
         let step = b.step;
         match step {
             Advance::Next(next) => {

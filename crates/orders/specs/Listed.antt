@@ -8,6 +8,7 @@ use lib.ListN.{length}
 use Rattle.lists.specs.Lists.{sumOf, isEmpty}
 use Rattle.refusals.specs.Outcome.{Outcome, refused, accepted, _>>=_, _>>_, require}
 use Rattle.refusals.specs.Numbers.{unknownPart, badInput, inputOutside, overCapacity, placeNotPending, budgetTooLarge}
+use Rattle.deck.specs.Limits.{limits}
 use Rattle.deck.specs.Deck.{Deck, N}
 use Rattle.pool.specs.Updates.{assign, charge}
 use Rattle.pool.specs.Places.{capacity, pairsOf}
@@ -62,7 +63,7 @@ taken d C x (commit k) = do
   let now = charge d (t .after .pending)
   accepted (record { answer = cond (t .applied) (applied now) (discarded now); turns = t ∷ []; machine = t .after })
 taken d C x (settle b) = do
-  require (leb b 65535) budgetTooLarge 0
+  require (leb b (limits .charge)) budgetTooLarge 0
   let ts = turns d b x
   let after = ending x ts
   accepted (record { answer = cond (isEmpty (after .pending)) (settled (length ts)) (spent (length ts)); turns = ts; machine = after })

@@ -32,7 +32,7 @@ store n x = record { state = record { values = x .values; pending = length (x .p
 
 -- 9: "a multiple of 10 from 10 to 655,350"
 unfoldable pub goodLength : ℕ → Bool
-goodLength n = leb (limits .place) n && leb n (65535 * limits .place) && eqb (n % limits .place) 0
+goodLength n = leb (limits .place) n && leb n (limits .charge * limits .place) && eqb (n % limits .place) 0
 
 -- "unused ones 0": the numbers of a table, from index i on, that belong to no channel of a part
 unfoldable pub unusedZero : Deck → ℕ → List ℤ → Bool

@@ -12,6 +12,7 @@ use Rattle.expression.specs.Laws.Bytes.{Bytes}
 use Rattle.deck.specs.declared.Form.the-variants.{New}
 use Rattle.deck.specs.Deck.{Deck}
 use Rattle.deck.specs.Layout.{Layout}
+use Rattle.deck.specs.Sections.{offsetOf}
 use Rattle.deck.specs.Encoding.{encodeChannels, encodeRules, encodeParts, encode}
 use Rattle.passing.specs.Check.{passing}
 use Rattle.passing.specs.Laws.Passes.{passes-exactly}
@@ -66,7 +67,7 @@ module _ (bytes : List ℕ) (b : Bytes bytes) (l : Layout) (e : passing New byte
   begins k h = ap stretchFrom (ends-known bytes k l e h)
 
   pub sections-encoded : SectionsOf bytes d
-  unfolding encode sectionAt
+  unfolding encode sectionAt offsetOf
   sections-encoded =
       let p = passes-exactly New bytes b l .0 e in
       let A = encodeChannels d in

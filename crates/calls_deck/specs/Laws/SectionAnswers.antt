@@ -9,7 +9,7 @@ use Rattle.refusals.specs.Numbers.{unknownSection}
 use Rattle.deck.specs.declared.Form.the-variants.{New}
 use Rattle.deck.specs.Deck.{Deck}
 use Rattle.deck.specs.Encoding.{encodeChannels, encodeRules, encodeParts, encode}
-use Rattle.deck.specs.Marks.{offsetOf, stretchOf}
+use Rattle.deck.specs.Sections.{offsetOf, stretchOf}
 use Rattle.deck.specs.declared.Deck as Counted
 use Rattle.deck.specs.Laws.Reading.{read-encoded, sections-exactly}
 use Rattle.passing.specs.Check.{passing}

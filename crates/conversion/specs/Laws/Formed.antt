@@ -16,7 +16,7 @@ use Rattle.expression.specs.Encoding.{encodingExpressions}
 use Rattle.deck.specs.Deck.{Action, Rule, Part, Deck, R, M, N, ruleAt, decks}
 use Rattle.deck.specs.Layout.{ownOnly, taskScope, layouts}
 use Rattle.deck.specs.declared.Form.the-variants.{New}
-use Rattle.deck.specs.Encoding.{inRange, isRising, goodAction, goodCondition, goodRule, goodPart, wellFormed, suitsRule, suits, encodings}
+use Rattle.deck.specs.Encoding.{inRange, isRising, goodAction, goodCondition, goodRule, goodPart, wellFormed, suitsRule, suits, encodings, isLabel}
 use Rattle.deck.specs.Laws.Formed.{rising-head, rising-cons, rule-tests, from-rule-tests, part-tests, from-part-tests}
 use Rattle.deck.specs.Laws.Formed.{deck-tests, from-deck-tests, empty-good}
 use Rattle.deck.specs.Laws.Forms.{rule-none, none-rule}
@@ -94,8 +94,8 @@ unfolding layouts
 here-scope R = refl
 
 labels-same : (d : Deck)
-    → (inRange 1 32 (R (converted d)) && allOf (inRange 33 126) (converted d .labels))
-    ≡ (inRange 1 32 (R d) && allOf (inRange 33 126) (d .labels))
+    → (inRange 1 32 (R (converted d)) && allOf isLabel (converted d .labels))
+    ≡ (inRange 1 32 (R d) && allOf isLabel (d .labels))
 unfolding decks converted
 labels-same d = refl
 

@@ -6,7 +6,7 @@ use lib.ListN.{drop}
 use Rattle.refusals.specs.Outcome.{accepted}
 use Rattle.refusals.specs.Laws.Outcomes.{refused≢accepted, accepted-inj}
 use Rattle.deck.specs.declared.Form.{Form}
-use Rattle.deck.specs.Reader.{Got, Reader, _>>=_, _>>_, here, end, number, repeats, rising, value}
+use Rattle.deck.specs.Reader.{Got, Reader, _>>=_, _>>_, here, end, number, repeats, rising, value, label}
 use Rattle.deck.specs.Layout.{truths, expression, ownOnly, defaultAction}
 use Rattle.deck.specs.Marks.{markedTask, markedRule, MarkedFront, markedFront, markedPart, Marked, markedSections}
 use Rattle.deck.specs.Laws.Points.{
@@ -77,7 +77,7 @@ unfolding markedFront _>>=_
 front-tracks f =
     then-tracks (number 1 33) _ (number-tracks 1 33)
     (λ R.
-    then-tracks (repeats R (number 33 127)) _ (repeats-tracks (number 33 127) (number-tracks 33 127) R)
+    then-tracks (repeats R label) _ (repeats-tracks label (number-tracks _ _) R)
     (λ labels.
     then-tracks here _ here-tracks
     (λ at.
@@ -90,7 +90,7 @@ unfolding markedFront _>>=_
 front-points f s at g e =
     let i1 = then-at (number 1 33) _ (number-tracks 1 33) s at g e in
     let R = i1 .0 .value in
-    let i2 = then-at (repeats R (number 33 127)) _ (repeats-tracks (number 33 127) (number-tracks 33 127) R) s (i1 .0 .at) g (i1 .2) in
+    let i2 = then-at (repeats R label) _ (repeats-tracks label (number-tracks _ _) R) s (i1 .0 .at) g (i1 .2) in
     let h = here-at _ (drop (i2 .0 .at) s) (i2 .0 .at) g (i2 .2) in
     let i3 = then-at (number 0 65) _ (number-tracks 0 65) s (i2 .0 .at) g h in
     let M = i3 .0 .value in

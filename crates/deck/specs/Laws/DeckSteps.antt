@@ -6,7 +6,7 @@ use lib.ListN.{drop}
 use Rattle.refusals.specs.Outcome.{Outcome, refused, accepted}
 use Rattle.refusals.specs.Numbers.{bytesFollow}
 use Rattle.deck.specs.declared.Form.{Form}
-use Rattle.deck.specs.Reader.{Got, _>>=_, _>>_, andThen, give, end, number, repeats}
+use Rattle.deck.specs.Reader.{Got, _>>=_, _>>_, andThen, give, end, number, repeats, label}
 use Rattle.deck.specs.Marks.{MarkedRule, markedRule, MarkedFront, markedFront, MarkedPart, markedPart, markedSections, Reads}
 use Rattle.deck.specs.Laws.Offsets.{then-next, then-fault, reads-last}
 use Rattle.deck.specs.Laws.PartSteps.{gotAt, here-next}
@@ -24,11 +24,11 @@ module _ (form : Form) (s : List ℕ) where
   no-channels e = then-fault _ e
 
   module _ (R a : ℕ) (e : number 1 33 s 0 ≡ gotAt s R a) where
-    pub no-labels : {n p : ℕ} → repeats R (number 33 127) (drop a s) a ≡ refused n p → markedFront form s 0 ≡ refused n p
+    pub no-labels : {n p : ℕ} → repeats R label (drop a s) a ≡ refused n p → markedFront form s 0 ≡ refused n p
     unfolding markedFront _>>=_
     no-labels f = then-next _ e ∙ then-fault _ f
 
-    module _ (labels : List ℕ) (rulesAt : ℕ) (f : repeats R (number 33 127) (drop a s) a ≡ gotAt s labels rulesAt) where
+    module _ (labels : List ℕ) (rulesAt : ℕ) (f : repeats R label (drop a s) a ≡ gotAt s labels rulesAt) where
       pub no-rules : {n p : ℕ} → number 0 65 (drop rulesAt s) rulesAt ≡ refused n p → markedFront form s 0 ≡ refused n p
       unfolding markedFront _>>=_
       no-rules g = then-next _ e ∙ then-next _ f ∙ here-next _ (drop rulesAt s) rulesAt ∙ then-fault _ g

@@ -18,7 +18,7 @@ use Rattle.expression.specs.Laws.EncodedBytes.{bytes-cons, bytes-none, bytes-ap
 use Rattle.deck.specs.Limits.{limits}
 use Rattle.deck.specs.Deck.{Assignment, Action, Rule, Part, Deck, R, M, N, targets}
 use Rattle.deck.specs.Layout.{ownOnly, taskScope, layouts}
-use Rattle.deck.specs.Encoding.{encodeExpression, encodeAssignment, encodeAction, kindByte, encodeRule, encodePart}
+use Rattle.deck.specs.Encoding.{encodeExpression, encodeAssignment, encodeAction, kindByte, encodeRule, encodePart, isLabel}
 use Rattle.deck.specs.Encoding.{encodeChannels, encodeRules, encodeParts, encode, inRange, isRising, fittingLength}
 use Rattle.deck.specs.Encoding.{goodAssignment, goodAction, goodCondition, goodRule, goodPart, wellFormed}
 use Rattle.deck.specs.Laws.Formed.{rising-head, rule-tests, part-tests, deck-tests}
@@ -108,10 +108,10 @@ part-bytes n m l k p h =
     (bytes-cons (length (p .carried)) (p .carried) (omega arith) (rising-bytes 0 m (p .carried) (omega arith) (tests .3))))
     (condition-bytes (ownOnly n) (here .0) (here .1) (p .limit) (tests .4))
 
-label-byte : (b : ℕ) → inRange 33 126 b ≡ true → ltb b 256 ≡ true
+label-byte : (b : ℕ) → isLabel b ≡ true → ltb b 256 ≡ true
 unfolding inRange
 label-byte b h =
-    let less = leb-true b 126 (and-right (leb 33 b) (leb b 126) h) in
+    let less = leb-true b (limits .highest) (and-right (leb (limits .lowest) b) (leb b (limits .highest)) h) in
     lt-ltb b 256 (omega arith)
 
 -- ---- the deck
@@ -120,7 +120,7 @@ pub encoded-bytes : (d : Deck) → wellFormed d ≡ true → Bytes (encode d)
 unfolding encode encodeChannels encodeRules encodeParts inRange
 encoded-bytes d h =
     let channels : Bool = inRange 1 32 (R d) in
-    let labels : Bool = allOf (inRange 33 126) (d .labels) in
+    let labels : Bool = allOf isLabel (d .labels) in
     let tests = deck-tests d h in
     let r = leb-true (R d) 32 (and-right (leb 1 (R d)) (leb (R d) 32) (and-left channels labels (tests .0))) in
     let m = leb-true (M d) 64 (tests .1) in
@@ -128,6 +128,6 @@ encoded-bytes d h =
     bytes-append (encodeChannels d ++ encodeRules d) (encodeParts d)
     (bytes-append (encodeChannels d) (encodeRules d)
     (bytes-cons (R d) (d .labels) (omega arith)
-    (allOf-weaken (λ b. ltb b 256) (inRange 33 126) label-byte (d .labels) (and-right channels labels (tests .0))))
+    (allOf-weaken (λ b. ltb b 256) isLabel label-byte (d .labels) (and-right channels labels (tests .0))))
     (bytes-cons (M d) _ (omega arith) (bytes-flatMap encodeRule (goodRule (R d)) (d .rules) (rule-bytes (R d) r) (tests .2))))
     (bytes-cons (N d) _ (omega arith) (bytes-flatMap encodePart (goodPart (R d) (M d)) (d .parts) (part-bytes (R d) (M d) r m) (tests .4)))

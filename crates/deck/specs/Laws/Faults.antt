@@ -610,7 +610,7 @@ module _ (form : Form) where
   unfolding sections
   sections-closed =
       number-closed 1 (suc (limits .channels)) _ λ R.
-      then-closed _ _ (λ _. repeats-looks (number-looks 33 127) R) λ labels.
+      then-closed _ _ (λ _. repeats-looks (number-looks _ _) R) λ labels.
       here-closed _ λ rulesAt.
       then-closed _ _ (λ _. number-looks 0 (suc (limits .rules))) λ M.
       then-closed _ _ (λ own. repeats-looks (rule-looks R own) M) λ rules.

@@ -13,7 +13,7 @@ use Rattle.expression.specs.Reading.{Scope}
 use Rattle.expression.specs.Encoding.{encodeNum, fits, goodNum}
 use Rattle.deck.specs.Deck.{Assignment, Action, Rule, Part, Deck, R, M, N, ruleAt, targets, decks}
 use Rattle.deck.specs.Layout.{ownOnly, taskScope, layouts}
-use Rattle.deck.specs.Encoding.{inRange, isRising, fittingLength, goodAssignment, goodAction, goodCondition, goodRule, goodPart}
+use Rattle.deck.specs.Encoding.{inRange, isRising, fittingLength, goodAssignment, goodAction, goodCondition, goodRule, goodPart, isLabel}
 use Rattle.deck.specs.Encoding.{wellFormed, encodings}
 
 -- an action that can be carried out: at most four assignments, to different known channels
@@ -77,7 +77,7 @@ module _ (R M : ℕ) (p : Part) where
 module _ (d : Deck) where
   abbrev pub DeckTests : Type 0
   DeckTests =
-      Five (inRange 1 32 (R d) && allOf (inRange 33 126) (d .labels)) (leb (M d) 64) (allOf (goodRule (R d)) (d .rules))
+      Five (inRange 1 32 (R d) && allOf isLabel (d .labels)) (leb (M d) 64) (allOf (goodRule (R d)) (d .rules))
       (inRange 1 16 (N d)) (allOf (goodPart (R d) (M d)) (d .parts))
 
   pub deck-tests : wellFormed d ≡ true → DeckTests
@@ -139,7 +139,7 @@ pub formed : (d : Deck) → wellFormed d ≡ true → Formed d
 unfolding inRange ruleAt layouts
 formed d h =
     let channels : Bool = inRange 1 32 (R d) in
-    let labels : Bool = allOf (inRange 33 126) (d .labels) in
+    let labels : Bool = allOf isLabel (d .labels) in
     let tests = deck-tests d h in
     record {
       channels = leb-true (R d) 32 (and-right (leb 1 (R d)) (leb (R d) 32) (and-left channels labels (tests .0)));

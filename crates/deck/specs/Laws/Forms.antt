@@ -16,7 +16,7 @@ use Rattle.expression.specs.Laws.Bytes.{Bytes}
 use Rattle.deck.specs.declared.Form.{Form}
 use Rattle.deck.specs.declared.Form.the-variants.{Old, New}
 use Rattle.deck.specs.Deck.{Action, Rule, Deck, ruleAt}
-use Rattle.deck.specs.Reader.{Got, Reader, andThen, _>>=_, give, here, number, repeats, rising, readers}
+use Rattle.deck.specs.Reader.{Got, Reader, andThen, _>>=_, give, here, number, repeats, rising, readers, label}
 use Rattle.deck.specs.Layout.{ownOnly, assignments, action, allows, defaultAction, rule, Layout, sections, valueOf, read, layouts}
 use Rattle.deck.specs.Encoding.{suitsRule, suits}
 use Rattle.deck.specs.Laws.Reading.{read-suited}
@@ -92,7 +92,7 @@ module _ (f f′ : Form) where
   unfolding sections _>>=_
   sections-agree =
       then-agree (number 1 33) (number 1 33) _ _ (alike (number 1 33))
-      (λ R. then-agree (repeats R (number 33 127)) (repeats R (number 33 127)) _ _ (alike (repeats R (number 33 127)))
+      (λ R. then-agree (repeats R label) (repeats R label) _ _ (alike (repeats R label))
       (λ labels. then-agree here here _ _ (alike here)
       (λ rulesAt. then-agree (number 0 65) (number 0 65) _ _ (alike (number 0 65))
       (λ M. then-agree (repeats M (rule f R)) (repeats M (rule f′ R)) _ _ (repeats-agree (rule f R) (rule f′ R) (rule-agree R) M)

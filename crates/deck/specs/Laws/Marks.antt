@@ -5,7 +5,7 @@ use mathlib.Core.List.{List, map}
 use lib.Dec.{eqb}
 use Rattle.refusals.specs.Outcome.{Outcome, refused, accepted}
 use Rattle.deck.specs.declared.Form.{Form}
-use Rattle.deck.specs.Reader.{Got, Reader, andThen, number, repeats, rising, value, end, readers}
+use Rattle.deck.specs.Reader.{Got, Reader, andThen, number, repeats, rising, value, end, readers, label}
 use Rattle.deck.specs.Layout.{truths, expression, ownOnly, taskScope, action, rule, part, sections, valueOf, read, defaultAction}
 use Rattle.deck.specs.Marks.{markedTask, markedRule, ruleOf, markedPart, markedFront, markedSections, unmarked}
 
@@ -82,7 +82,7 @@ unfolding sections markedFront markedSections unmarked readers
 sections-marked f s at =
     step-inside unmarked (number 1 33 s at) _ _ _
     (λ R s at.
-    step-inside unmarked (repeats R (number 33 127) s at) _ _ _
+    step-inside unmarked (repeats R label s at) _ _ _
     (λ labels s at.
     step-inside unmarked (number 0 65 s at) _ _ _
     (λ M s at.

@@ -128,7 +128,7 @@ unfolding layouts readers
 sections-within f =
     widen (sizes f .0) (sizes f .1)
     (then-within (number-within 1 (suc (limits .channels))) λ R h.
-    then-within (at-most (limits .channels) (omega arith) (repeats-within {m = 1} (forget (number-within 33 127)) R)) λ labels _.
+    then-within (at-most (limits .channels) (omega arith) (repeats-within {m = 1} (forget (number-within _ _)) R)) λ labels _.
     here-within λ rulesAt.
     then-within (number-within 0 (suc (limits .rules))) λ M k.
     then-within (at-most (limits .rules * ruleSize f) (few M (ruleSize f) k) (repeats-within (rule-within f R) M)) λ rules _.

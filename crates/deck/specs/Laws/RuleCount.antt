@@ -12,7 +12,7 @@ use Rattle.lists.specs.Laws.Booleans.{true-or-false}
 use Rattle.refusals.specs.Outcome.{accepted}
 use Rattle.refusals.specs.Laws.Outcomes.{refused≢accepted, accepted-inj}
 use Rattle.deck.specs.declared.Form.{Form}
-use Rattle.deck.specs.Reader.{Got, _>>=_, _>>_, give, end, number, repeats}
+use Rattle.deck.specs.Reader.{Got, _>>=_, _>>_, give, end, number, repeats, label}
 use Rattle.deck.specs.Marks.{rulesAt, markedRule, MarkedFront, markedFront, markedPart, Marked, markedSections}
 use Rattle.deck.specs.Laws.Points.{then-at, here-at, given, number-tracks, repeats-tracks}
 use Rattle.deck.specs.Laws.DeckPoints.{rule-tracks, part-tracks, front-tracks, end-tracks}
@@ -56,12 +56,12 @@ repeats-read lo hi (suc n) s at g e =
 
 -- the number behind the labels, once these were read
 pub count-read : (s : List ℕ) (r : Got ℕ) → number 1 33 s 0 ≡ accepted r
-    → (l : Got (List ℕ)) → repeats (r .value) (number 33 127) (drop (r .at) s) (r .at) ≡ accepted l
+    → (l : Got (List ℕ)) → repeats (r .value) label (drop (r .at) s) (r .at) ≡ accepted l
     → (m : Got ℕ) → number 0 65 (drop (l .at) s) (l .at) ≡ accepted m
     → (1 + getD s 0 0 < length s) × (m .value ≡ rulesAt s)
 count-read s r e l f m g =
     let channels = byte-read 1 33 s 0 r e in
-    let labels = repeats-read 33 127 (r .value) s (r .at) l f in
+    let labels = repeats-read _ _ (r .value) s (r .at) l f in
     let rules = byte-read 0 65 s (l .at) m g in
     let place : l .at ≡ 1 + getD s 0 0 = omega (arith, channels .value, channels .next, labels) in
     (omega (arith, place, rules .inside), rules .value ∙ ap (λ k. getD s k 0) place)
@@ -72,7 +72,7 @@ unfolding markedFront _>>=_
 front-count f s g e =
     let i1 = then-at (number 1 33) _ (number-tracks 1 33) s 0 g e in
     let R = i1 .0 .value in
-    let i2 = then-at (repeats R (number 33 127)) _ (repeats-tracks (number 33 127) (number-tracks 33 127) R) s (i1 .0 .at) g (i1 .2) in
+    let i2 = then-at (repeats R label) _ (repeats-tracks label (number-tracks _ _) R) s (i1 .0 .at) g (i1 .2) in
     let h = here-at _ (drop (i2 .0 .at) s) (i2 .0 .at) g (i2 .2) in
     let i3 = then-at (number 0 65) _ (number-tracks 0 65) s (i2 .0 .at) g h in
     let M = i3 .0 .value in

@@ -13,7 +13,7 @@ use Rattle.expression.specs.Reading.{Scope}
 use Rattle.expression.specs.Encoding.{encodeNum, encodeTruth, fits, goodNum, goodTruth, encodingExpressions}
 use Rattle.deck.specs.Deck.{Assignment, Action, Rule, Part, Deck, R, M, N, ruleAt, partAt, targets, decks}
 use Rattle.deck.specs.Layout.{ownOnly, taskScope, layouts}
-use Rattle.deck.specs.Encoding.{inRange, isRising, fittingLength, goodAssignment, goodAction, goodCondition, goodRule, goodPart}
+use Rattle.deck.specs.Encoding.{inRange, isRising, fittingLength, goodAssignment, goodAction, goodCondition, goodRule, goodPart, isLabel}
 use Rattle.deck.specs.Encoding.{wellFormed}
 
 -- every assigned expression is in the scope
@@ -100,7 +100,7 @@ part-limit R M p h =
 pub scoped : (d : Deck) → wellFormed d ≡ true → Scoped d
 unfolding wellFormed decks layouts lists encodingExpressions
 scoped d h =
-    let t3 : Bool = inRange 1 32 (R d) && allOf (inRange 33 126) (d .labels) && leb (M d) 64 in
+    let t3 : Bool = inRange 1 32 (R d) && allOf isLabel (d .labels) && leb (M d) 64 in
     let t4 : Bool = t3 && allOf (goodRule (R d)) (d .rules) in
     let t5 : Bool = t4 && inRange 1 16 (N d) in
     let h5 = and-left t5 (allOf (goodPart (R d) (M d)) (d .parts)) h in

@@ -12,9 +12,9 @@ use Rattle.lists.specs.Laws.Alls.{allOf-weaken}
 use Rattle.deck.specs.declared.Form.{Form}
 use Rattle.deck.specs.Limits.{limits}
 use Rattle.deck.specs.Deck.{Deck, decks}
-use Rattle.deck.specs.Reader.{number, repeats, readers}
+use Rattle.deck.specs.Reader.{number, repeats, readers, label}
 use Rattle.deck.specs.Layout.{Layout, sections, layouts}
-use Rattle.deck.specs.Encoding.{encodeRule, encodePart, encodeChannels, encodeRules, encodeParts, encode}
+use Rattle.deck.specs.Encoding.{encodeRule, encodePart, encodeChannels, encodeRules, encodeParts, encode, isLabel}
 use Rattle.deck.specs.Encoding.{inRange, goodRule, goodPart, wellFormed, suitsRule, suits}
 use Rattle.deck.specs.Laws.Exact.{Exact, Any, Nothing, Coded, exact-by, here-exact, end-exact, then-exact}
 use Rattle.deck.specs.Laws.Readers.{number-exact, repeats-exact, bytes-coded}
@@ -29,14 +29,14 @@ unfolding encode encodeChannels encodeRules encodeParts decks
 encode-deck d = append-assoc (encodeChannels d) (encodeRules d) (encodeParts d)
 
 labels-exact : (n : ℕ)
-    → Exact Any (repeats n (number 33 127)) (Coded (λ s. s) (λ s. (length s ≡ n) × (allOf (inRange 33 126) s ≡ true)))
-labels-exact n = bytes-coded (repeats-exact label n)
+    → Exact Any (repeats n label) (Coded (λ s. s) (λ s. (length s ≡ n) × (allOf isLabel s ≡ true)))
+labels-exact n = bytes-coded (repeats-exact one n)
   where
-    label : Exact Any (number 33 127) (Coded (λ b. b ∷ []) (λ b. inRange 33 126 b ≡ true))
-    label =
-        exact-by (number-exact 33 127)
-        (λ at b w _ p. (sym (range 33 126 b) ∙ p .0, p .1))
-        (λ at b w q. (range 33 126 b ∙ q .0, q .1))
+    one : Exact Any label (Coded (λ b. b ∷ []) (λ b. isLabel b ≡ true))
+    one =
+        exact-by (number-exact _ _)
+        (λ at b w _ p. (sym (range (limits .lowest) (limits .highest) b) ∙ p .0, p .1))
+        (λ at b w q. (range (limits .lowest) (limits .highest) b ∙ q .0, q .1))
 
 -- two tests of each
 both-all : {A : Type 0} (f g : A → Bool) (l : List A) → allOf f l ≡ true → allOf g l ≡ true → allOf (λ x. f x && g x) l ≡ true
@@ -78,7 +78,7 @@ sections-exact f =
     (record {
       formed =
           rw (labels .3 .0, rules .3 .0, parts .3 .0)
-          (from-five (inRange 1 (limits .channels) (p .0) && allOf (inRange 33 126) (labels .0)) (leb (m .0) (limits .rules))
+          (from-five (inRange 1 (limits .channels) (p .0) && allOf isLabel (labels .0)) (leb (m .0) (limits .rules))
           (allOf (goodRule (p .0)) (rules .0)) (inRange 1 (limits .parts) (n .0)) (allOf (goodPart (p .0) (m .0)) (parts .0)) (
             and-both front (labels .3 .1),
             sym (zero-range (limits .rules) (m .0)) ∙ m .3,
@@ -100,7 +100,7 @@ sections-exact f =
     let N : ℕ = length (d .parts) in
     let front : Bool = inRange 1 (limits .channels) R in
     let good =
-    five (front && allOf (inRange 33 126) (d .labels)) (leb M (limits .rules)) (allOf (goodRule R) (d .rules))
+    five (front && allOf isLabel (d .labels)) (leb M (limits .rules)) (allOf (goodRule R) (d .rules))
     (inRange 1 (limits .parts) N) (allOf (goodPart R M) (d .parts)) (q .formed) in
     let parts : List ℕ = flatMap encodePart (d .parts) in
     let rules : List ℕ = flatMap encodeRule (d .rules) in

@@ -2,7 +2,7 @@
 use Prim.Native.Nat.{ℕ, zero, suc, _≤_}
 use mathlib.Core.Path.{_≡_, refl}
 use native.Mathlib.Omega.{arith}
-use Rattle.deck.specs.Marks.{offsetOf}
+use Rattle.deck.specs.Sections.{offsetOf}
 
 module _ (rulesAt partsAt end : ℕ) where
   pub offset-end : (k : ℕ) → 3 ≤ k → offsetOf rulesAt partsAt end k ≡ end

@@ -21,7 +21,7 @@ use Rattle.expression.specs.Reading.{Scope}
 use Rattle.deck.specs.declared.Form.{Form}
 use Rattle.deck.specs.Deck.{Rule, Part, Deck, R, M, ruleAt, partAt, targets}
 use Rattle.deck.specs.Encoding.{kindByte}
-use Rattle.deck.specs.Reader.{Got, Reader, andThen, give, expect, end, number, repeats, rising, value, readers}
+use Rattle.deck.specs.Reader.{Got, Reader, andThen, give, expect, end, number, repeats, rising, value, readers, label}
 use Rattle.deck.specs.Layout.{numbers, truths, expression, ownOnly, taskScope, assignments, action, rule, part, allows, defaultAction}
 use Rattle.deck.specs.Layout.{Layout, sections, valueOf, read}
 use Rattle.deck.specs.Marks.{
@@ -177,7 +177,7 @@ front-counts : (f : Form) (s : List ℕ) (at : ℕ) → Accepts (λ g. FrontCoun
 unfolding markedFront readers
 front-counts f s at =
     then-accepts _ (anything (number 1 33 s at)) λ R _.
-    then-accepts _ (repeats-long (number 33 127) (R .value) (R .rest) (R .at)) λ labels l.
+    then-accepts _ (repeats-long label (R .value) (R .rest) (R .at)) λ labels l.
     then-accepts _ (anything (number 0 65 (labels .rest) (labels .at))) λ M _.
     then-accepts _ (repeats-long (markedRule f (R .value)) (M .value) (M .rest) (M .at)) λ rules k.
     accepting (k, l)
@@ -301,7 +301,7 @@ sections-ranged : (f : Form) (s : List ℕ) (at : ℕ) → Accepts (λ g. Ranged
 unfolding sections readers R M
 sections-ranged f s at =
     then-accepts _ (number-under 1 33 s at) λ r p.
-    then-accepts _ (repeats-long (number 33 127) (r .value) (r .rest) (r .at)) λ labels l.
+    then-accepts _ (repeats-long label (r .value) (r .rest) (r .at)) λ labels l.
     then-accepts _ (number-under 0 65 (labels .rest) (labels .at)) λ m q.
     then-accepts _ (repeats-each (knownRule (r .value)) (rule f (r .value)) (rule-under f (r .value)) (m .value) (m .rest)
     (m .at)) λ rules k.

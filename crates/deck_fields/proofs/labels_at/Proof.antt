@@ -4,7 +4,7 @@ use native.Mathlib.Omega.{arith}
 use native.Mathlib.Nat.{sub-zero}
 use lib.ListN.{length, drop}
 use borrow.Author.Needs.{needs}
-use Rattle.deck.specs.Reader.{number, repeats}
+use Rattle.deck.specs.Reader.{number, repeats, label}
 use Rattle.deck.specs.Laws.Turns.{Turns, turns-none, repeats-next, repeats-fault, repeats-end}
 use Rattle.deck_fields.proofs.labels_at.Statement.{statement}
 use Rattle.deck_fields.proofs.labels_at.Tie as tie
@@ -12,7 +12,7 @@ use Rattle.deck_fields.proofs.labels_at.Tie as tie
 abbrev Inv-loop : tie.InvT-loop
 Inv-loop s at count place₀ i₀ place i =
     (i ≤ count) × (place ≤ length s)
-    × Turns (repeats count (number 33 127) (drop at s) at) (repeats (count - i) (number 33 127) (drop place s) place) (λ _. Unit {0})
+    × Turns (repeats count label (drop at s) at) (repeats (count - i) label (drop place s) place) (λ _. Unit {0})
 
 abbrev μ-loop : tie.MeasureT-loop
 μ-loop s at count place₀ i₀ place i = count - i

@@ -2,7 +2,7 @@
 use mathlib.Core.Path.{sym}
 use native.Mathlib.Omega.{arith}
 use borrow.Author.Needs.{needs}
-use Rattle.deck.specs.Marks.{offsetOf}
+use Rattle.deck.specs.Sections.{offsetOf}
 use Rattle.deck.specs.Laws.Stretches.{offset-end}
 use Rattle.deck_reading.proofs.offset.Statement.{statement}
 use Rattle.deck_reading.proofs.offset.Tie as tie

@@ -4,7 +4,7 @@ use mathlib.Core.Path.{refl, _∙_, ap, ap₂}
 use native.Mathlib.Omega.{arith}
 use native.Mathlib.Numerals.{add-one}
 use lib.ListN.{length, take, drop}
-use Rattle.deck.specs.Marks.{offsetOf, stretchOf}
+use Rattle.deck.specs.Sections.{offsetOf, stretchOf}
 use Rattle.deck.specs.Laws.Stretches.{offset-order}
 use borrow.Author.Needs.{needs}
 use Rattle.deck_reading.proofs.stretch.Statement.{statement}

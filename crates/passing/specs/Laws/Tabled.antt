@@ -16,7 +16,7 @@ use Rattle.deck.specs.declared.Form.{Form}
 use Rattle.deck.specs.Deck.{Deck, R, M, N, ruleAt}
 use Rattle.deck.specs.Reader.{repeats, value}
 use Rattle.deck.specs.Layout.{truths, Layout, expression, ownOnly, taskScope, action, valueOf, read}
-use Rattle.deck.specs.Encoding.{inRange, goodRule, goodPart, wellFormed}
+use Rattle.deck.specs.Encoding.{inRange, goodRule, goodPart, wellFormed, isLabel}
 use Rattle.deck.specs.Marks.{rulesAt, RulesFit, MarkedTask, Marked, markedSections, unmarked, ruleOf, ruleRow, partRow}
 use Rattle.deck.specs.declared.Deck as Counted
 use Rattle.deck.specs.Laws.Marks.{mapGot, read-marked}
@@ -66,13 +66,13 @@ some-channel : (d : Deck) → wellFormed d ≡ true → 1 ≤ R d
 unfolding wellFormed inRange
 some-channel d h =
     let t1 : Bool = leb 1 (R d) && leb (R d) 32 in
-    let t2 : Bool = t1 && allOf (inRange 33 126) (d .labels) in
+    let t2 : Bool = t1 && allOf isLabel (d .labels) in
     let t3 : Bool = t2 && leb (M d) 64 in
     let t4 : Bool = t3 && allOf (goodRule (R d)) (d .rules) in
     let t5 : Bool = t4 && inRange 1 16 (N d) in
     leb-true 1 (R d)
     (and-left (leb 1 (R d)) (leb (R d) 32)
-    (and-left t1 (allOf (inRange 33 126) (d .labels))
+    (and-left t1 (allOf isLabel (d .labels))
     (and-left t2 (leb (M d) 64)
     (and-left t3 (allOf (goodRule (R d)) (d .rules))
     (and-left t4 (inRange 1 16 (N d)) (and-left t5 (allOf (goodPart (R d) (M d)) (d .parts)) h))))))
