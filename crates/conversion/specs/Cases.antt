@@ -70,7 +70,7 @@ abbrev shown : Outcome ℕ → List ℕ
 shown (refused n p) = n ∷ p ∷ []
 shown (accepted n) = n ∷ []
 
--- what is answered where a buffer of so many bytes is lent, all 7, and what it then holds
+-- what is answered where a buffer of n bytes is lent, all 7, and what it then holds
 abbrev lending : ℕ → List ℕ → List (List ℕ)
 lending n bytes = let r = convert bytes (replicate n 7) in shown (r .answer) ∷ r .buffer ∷ []
 
@@ -95,7 +95,7 @@ pub refused-cases : map (λ bytes. shown (convert bytes [] .answer))
 unfolding readingAndWriting checking
 refused-cases = refl
 
--- 33 rules, so many of them with a default action, and a part that carries none
+-- 33 rules, n of them with a default action, and a part that carries none
 abbrev manyRules : ℕ → List ℕ
 manyRules n =
     (2 ∷ 97 ∷ 98 ∷ 33 ∷ [])

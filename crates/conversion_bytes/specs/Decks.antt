@@ -31,7 +31,7 @@ pub record Sums (rules : List Rule) (count : ℕ) (numbers : List ℕ) : Type 0 
   pub size : length numbers ≡ 65
   pub at : (r : ℕ) → r ≤ count → getD numbers r 0 ≡ sumOf (λ x. length (split x)) (take r rules)
 
--- the parts of a well-formed deck stand at the front, each with so many bytes of opening values
+-- the parts of a well-formed deck stand at the front, each with the same number of bytes of opening values
 pub record PartsIn (s : List ℕ) (count opening : ℕ) (d : Deck) : Type 0 where
   pub formed : wellFormed d ≡ true
   pub size : opening ≡ 4 * R d

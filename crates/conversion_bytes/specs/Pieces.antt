@@ -67,7 +67,7 @@ openingBytes p = flatMap encodeValue (p .opening)
 abbrev pub limitBytes : Part → List ℕ
 limitBytes p = encodeExpression (encodeTruth (p .limit))
 
--- a part with so many bytes of opening values
+-- a part, by the bytes of its opening values
 pub record PartStands (s : List ℕ) (at opening : ℕ) (p : Part) : Type 0 where
   pub size : opening ≡ length (openingBytes p)
   pub stands : Stands s at (encodePart p)

@@ -118,7 +118,7 @@ fn put_rule(events: &[u8], default: &[u8], task: &[u8], out: &mut [u8], at: usiz
     put_new_rule(events, &none, task, out, next)
 }
 
-// Writes what becomes of so many rules.
+// Writes what becomes of `count` rules.
 fn put_rules(rules: &[u8], count: usize, out: &mut [u8], at: usize) -> usize
     requires { ⌜ ((rs : List Rule) × Listed encodeRule (now rules) 0 count rs
         × (at + length (flatMap encodeRule (flatMap split rs)) ≤ length (now out))) ⌝ }
@@ -146,7 +146,7 @@ fn put_rules(rules: &[u8], count: usize, out: &mut [u8], at: usize) -> usize
     to
 }
 
-// How many rules become of one with so many default assignments.
+// How many rules become of one, by the number of its default assignments.
 fn rules_of(defaults: u8) -> u8
     ensures { λ r. ⌜ r ≡ becomes defaults ⌝ }
 {
@@ -248,7 +248,7 @@ fn put_part(
     put(limit, out, end)
 }
 
-// Writes what becomes of so many parts, each with so many bytes of opening values.
+// Writes what becomes of `count` parts, each with `opening` bytes of opening values.
 fn put_parts(
     parts: &[u8],
     count: usize,

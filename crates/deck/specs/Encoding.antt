@@ -15,7 +15,7 @@ use Rattle.deck.specs.Layout.{ownOnly, taskScope, allows}
 
 -- ---- the bytes
 
--- "a length byte, then exactly that many bytes"
+-- a length byte, "then exactly that many bytes"
 unfoldable pub encodeExpression : List ℕ → List ℕ
 encodeExpression bytes = length bytes ∷ bytes
 

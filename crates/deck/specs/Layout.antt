@@ -85,7 +85,7 @@ defaultAction f R = do
   expect (allows f n) defaultRetired at
   assignments (ownOnly R) n []
 
--- "event count 1 to 8, then strictly rising channel numbers; a default action; a kind byte; a condition; an action"
+-- "event count 1 to 8, then strictly rising channel numbers; a default action; a kind byte", then "a condition; an action"
 unfoldable pub rule : Form → ℕ → Reader Rule
 rule f R = do
   n ← number 1 (suc (limits .events))
@@ -98,7 +98,7 @@ rule f R = do
   act ← action scope
   give (record { events = events; default = default; everywhere = everywhere; condition = condition; action = act })
 
--- "R opening values, a count 0 to M of carried rules, their strictly rising numbers, and a limit"
+-- R opening values, "a count 0 to M of carried rules, their strictly rising numbers, and a limit"
 unfoldable pub part : ℕ → ℕ → Reader Part
 part R M = do
   opening ← repeats R value

@@ -221,7 +221,7 @@ Loads f s rules rules₀ parts parts₀ (Whole d) =
     × (parts ≡ flatMap partRow (m .parts) ++ drop (4 * m .count) parts₀)
 Loads f s rules rules₀ parts parts₀ (Wrong number place) = markedSections f s 0 ≡ refused number place
 
--- the byte where the number of rules stands, behind the labels; and room for so many in a table, if a deck may have them
+-- the byte where the number of rules stands, behind the labels; and room in a table for as many, if a deck may have them
 abbrev pub rulesAt : List ℕ → ℕ
 rulesAt s = getD s (1 + getD s 0 0) 0
 

@@ -2,7 +2,7 @@
 use Prim.Native.Nat.{ℕ, _+_}
 use mathlib.Core.Path.{_≡_}
 
--- the stretch is in the deck's own block of memory and begins so many bytes behind the deck's first; each of the two is given by
+-- the stretch is in the deck's own block of memory and begins n bytes behind the deck's first; each of the two is given by
 -- its block and the offset in it
 pub record LiesAt (deck stretch : ℕ × ℕ) (from : ℕ) : Type 0 where
   pub block : stretch .0 ≡ deck .0

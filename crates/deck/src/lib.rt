@@ -82,7 +82,7 @@ impl Deck {
 
     pub const HIGHEST_LABEL: usize = 126;
 
-    // The largest charge of a carried rule; so many places a pool may have, and so many commits a settle may make.
+    // The largest charge of a carried rule, the most places of a pool and the largest budget of a settle.
     pub const CHARGE: usize = 65535;
 
     // The numbers of a rule's row in the table that the pass fills, and their columns: its events and the targets of its two actions
@@ -114,7 +114,7 @@ impl Deck {
     // The kind of a rule that goes to all other parts.
     pub const EVERYWHERE: u64 = 1;
 
-    // Decks of at most so many rules get short tables.
+    // Decks of at most 16 rules get short tables.
     pub const FEW_RULES: usize = 16;
 
     // The bytes of the longest action, rule, part and deck.

@@ -58,7 +58,7 @@ pub fn number_at(s: &[u8], at: usize, lo: usize, hi: usize) -> Byte
     }
 }
 
-// So many strictly rising numbers below hi, as a set.
+// `count` strictly rising numbers below hi, as a set.
 pub fn rising_at(s: &[u8], at: usize, count: usize, hi: usize) -> Set
     requires { ⌜ (at ≤ length (now s)) × (hi ≤ 64) ⌝ }
     ensures { λ r. ⌜ Reads (now (s .entry)) (rising count 0 hi (drop at (now (s .entry))) at) (λ cs. r .mask ≡ maskOf cs) (r .step) ⌝ }
@@ -149,7 +149,7 @@ fn is_whole(bytes: &[u8], truth: bool, own: usize, far: usize) -> bool
     }
 }
 
-// The place after an expression, a truth or else a number, with so many own and far channels known; 0 where there is a fault.
+// The place after an expression, a truth or else a number, with `own` own and `far` far channels known; 0 where there is a fault.
 fn expression_end(s: &[u8], at: usize, truth: bool, own: usize, far: usize) -> usize
     ensures { λ r. ⌜ ReadsTo (now (s .entry)) (expressionFor truth (scopeOf own far) (drop at (now (s .entry))) at) r ⌝ }
 {

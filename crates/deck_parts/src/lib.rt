@@ -9,7 +9,7 @@ ghost use Rattle.deck.specs.Marks.{Reads, markedPart, partRow};
 use deck::Advance;
 use deck::Deck;
 
-// So many opening values, of four bytes each: whatever the bytes are, only their number matters.
+// The opening values of `count` channels, of four bytes each: whatever the bytes are, only their number matters.
 fn values_at(s: &[u8], at: usize, count: usize) -> Advance
     requires { ⌜ (at ≤ length (now s)) × (count ≤ 32) ⌝ }
     ensures { λ r. ⌜ Reads (now (s .entry)) (repeats count value (drop at (now (s .entry))) at) (λ _. Unit {0}) r ⌝ }
@@ -67,7 +67,7 @@ fn part_at(s: &[u8], at: usize, own: usize, rules: usize) -> PartRead
     }
 }
 
-// So many parts, a row of four numbers for each.
+// The `count` parts, a row of four numbers for each.
 pub fn parts_at(
     s: &[u8],
     at: usize,

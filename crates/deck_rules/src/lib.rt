@@ -230,7 +230,7 @@ fn rule_at(s: &[u8], at: usize, own: usize, form: Form) -> RuleRead
     }
 }
 
-// So many rules, a row of eight numbers for each.
+// The `count` rules, a row of eight numbers for each.
 pub fn rules_at(
     s: &[u8],
     at: usize,

@@ -14,7 +14,7 @@ use Rattle.expression.specs.declared.Join.the-variants.{And, Or}
 use Rattle.expression.specs.declared.Compare.{Compare}
 use Rattle.expression.specs.declared.Compare.the-variants.{Less, Equal}
 
--- "4 bytes, signed, low byte first": a signed number's 32 bits, and their bytes
+-- four bytes, "signed, low byte first": a signed number's 32 bits, and their bytes
 unfoldable pub bits : ℤ → ℕ
 bits (pos n) = n
 bits (negsuc n) = 4294967295 - n

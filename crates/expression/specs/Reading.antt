@@ -28,7 +28,7 @@ abbrev pub then : {A B : Type 0} → Read A → (A → ℕ → Read B) → Read 
 then (got a n) k = k a n
 then nothing k = nothing
 
--- "4 bytes, signed, low byte first"
+-- four bytes, "low byte first"
 abbrev pub word : ℕ → ℕ → ℕ → ℕ → ℕ
 word a b c d = a + b * 256 + c * 65536 + d * 16777216
 
@@ -44,7 +44,7 @@ literalAt s at =
 abbrev pub channelAt : ℕ → List ℕ → ℕ → Read ℕ
 channelAt n s at = onlyIf (ltb at (length s)) (onlyIf (ltb (getD s at 0) n) (got (getD s at 0) (at + 1)))
 
--- "Numbers: 0 literal, 1 own channel, 2 far channel, 3 sum, 4 difference, 5 product, 6 negation"
+-- "Numbers: 0 literal", 1 own channel, 2 far channel, "3 sum, 4 difference, 5 product, 6 negation"
 abbrev pub numOp : ℕ → NumOp
 numOp b =
     getD (OfNum.Literal ∷ OfNum.Own ∷ OfNum.Far ∷ OfNum.Two Sum ∷ OfNum.Two Difference ∷ OfNum.Two Product ∷ OfNum.Negation

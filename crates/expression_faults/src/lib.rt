@@ -24,7 +24,7 @@ fn literal_fault(s: &[u8], at: usize) -> Search
     Search::After(at + 4)
 }
 
-// A channel's byte, with so many of its kind known.
+// A channel's byte, with `known` channels of its kind.
 fn channel_fault(s: &[u8], at: usize, known: usize) -> Search
     ensures { λ r. ⌜ ChannelSearched (now (s .entry)) known at r ⌝ }
 {
@@ -69,7 +69,7 @@ fn other_than_truth(b: u8, at: usize) -> Search
     }
 }
 
-// The place after the number that begins at a place of s, or its first fault. So many own and far channels are known; no far ones
+// The place after the number that begins at a place of s, or its first fault. `own` own and `far` far channels are known; no far ones
 // where none may stand.
 fn num_fault(s: &[u8], at: usize, own: usize, far: usize) -> Search
     ensures { λ r. ⌜ Searched (scope own far) (now (s .entry)) (aNumber ∷ []) at r ⌝ }

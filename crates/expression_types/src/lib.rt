@@ -46,7 +46,7 @@ fn leaf_end(s: &[u8], at: usize, own: usize, far: usize) -> usize
     channel_end(s, next, far)
 }
 
-// The end of the number at a place of s, with so many own and far channels known. Bytes below 3 are literals and channels; 6 is the
+// The end of the number at a place of s, with `own` own and `far` far channels known. Bytes below 3 are literals and channels; 6 is the
 // negation, which has one operand.
 fn num_end(s: &&[u8], at: usize, own: usize, far: usize) -> usize
     requires { ⌜ length (now (now s)) < 18446744073709551616 ⌝ }
@@ -71,7 +71,7 @@ fn num_end(s: &&[u8], at: usize, own: usize, far: usize) -> usize
     if n == 0 { 0 } else { num_end(s, n, own, far) }
 }
 
-// The end of the truth at a place of s, with so many own and far channels known.
+// The end of the truth at a place of s, with `own` own and `far` far channels known.
 fn truth_end(s: &&[u8], at: usize, own: usize, far: usize) -> usize
     requires { ⌜ length (now (now s)) < 18446744073709551616 ⌝ }
     ensures { λ r. ⌜ Answers (truthEnd (scope own far)) (now (now (s .entry))) at (ofEnd r) ⌝ }

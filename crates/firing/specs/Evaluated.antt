@@ -17,7 +17,7 @@ use Rattle.pool.specs.Updates.{Pair, Update, valueAt}
 use Rattle.pool.specs.Places.{place, pairsOf}
 use Rattle.passing.specs.Stands.{Stands}
 
--- the number at an offset, with so many own and far channels, and its value
+-- the number at an offset, for given numbers of own and far channels, and its value
 abbrev pub HasNumber : List ℕ → ℕ → ℕ → ℕ → Type 0
 HasNumber s at owns fars = (e : Num) × Stands (wholeNum (scope owns fars)) s at e
 

@@ -64,7 +64,7 @@ pub record Task : Type 0 where
   pub condition : Truth
   pub action : Action
 
--- "each occurrence of a resource x … replaced with the value Σ(x). After that, each instance of x̄ … is replaced with x"
+-- source document 000, partial evaluation: own channels are replaced by their values, and far channels become own ones
 unfoldable pub partialNum : State → Num → Num
 partialNum s (literal z) = literal z
 partialNum s (own c) = literal (s c)

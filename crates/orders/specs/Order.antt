@@ -30,7 +30,7 @@ Along P d C x (c ∷ cs) = P x c × Along P d C (machineAfter x (taken d C x c))
 pub data Accepted {A : Type 0} : Outcome A → Type 0 where
   yes-accepted : (a : A) → Accepted (accepted a)
 
--- "a commit is refused exactly when its place is not below the pending number", and then by 14
+-- a commit is refused exactly when its place is not below the pending number, and then by 14
 unfoldable pub RefusedAsPlaced : Deck → ℕ → Machine → Call → Type 0
 RefusedAsPlaced d C x (input p l) = Unit {0}
 RefusedAsPlaced d C x (commit k) =

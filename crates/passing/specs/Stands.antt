@@ -16,7 +16,7 @@ pub record Stands {A : Type 0} (whole : List ℕ → Read A) (s : List ℕ) (at 
   pub end : ℕ
   pub holds : whole (take (getD s at 0) (drop (at + 1) s)) ≡ got a end
 
--- the truth at an offset, with so many own and far channels, and its value
+-- the truth at an offset, for given numbers of own and far channels, and its value
 abbrev pub HasTruth : List ℕ → ℕ → ℕ → ℕ → Type 0
 HasTruth s at owns fars = (t : Truth) × Stands (wholeTruth (scope owns fars)) s at t
 

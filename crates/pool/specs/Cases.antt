@@ -28,7 +28,7 @@ deck =
       parts = record { opening = pos 0 ∷ pos 0 ∷ []; carried = 0 ∷ []; limit = constant true } ∷ [];
     }
 
--- so many pending, and the pool
+-- how many are pending, and the pool
 abbrev memory : ℕ → List ℤ → Memory
 memory n pool = record { state = record { values = zeros 512; pending = n }; pool = pool }
 

@@ -15,7 +15,7 @@ use Rattle.pool.specs.Laws.Places.{short}
 abbrev pub written : List ℤ → ℕ → List ℤ → List ℤ
 written pool at update = take at pool ++ (update ++ drop (at + 10) pool)
 
--- so many numbers from a distance further on, moved down to an index
+-- n numbers from a distance further on, moved down to an index
 abbrev pub moved : List ℤ → ℕ → ℕ → ℕ → List ℤ
 moved pool at distance count = paste pool at (drop (at + distance) pool) count
 

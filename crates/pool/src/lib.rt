@@ -72,7 +72,7 @@ pub fn same_at(pool: &[i32], at: usize, update: &[i32]) -> bool
     true
 }
 
-// So many numbers moved down to an index.
+// `count` numbers moved down to an index.
 pub fn move_down(pool: &mut [i32], at: usize, distance: usize, count: usize)
     requires { ⌜ at + distance + count ≤ length (now pool) ⌝ }
     ensures { λ _. ⌜ now (pool .exit) ≡ moved (now (pool .entry)) at distance count ⌝ }

@@ -67,7 +67,7 @@ pub record Edges (slots : List Slot) (first last : ℕ) : Type 0 where
   pub front : before first slots ≡ first
   pub back : length (standing (drop last slots)) ≡ length slots - last
 
--- what moving together takes: so many used places, with all holes from the first place to before the last
+-- what moving together takes: the number of used places, with all holes from the first place to before the last
 pub record Scattered (pool : List ℤ) (first last used : ℕ) : Type 0 where
   pub slots : List Slot
   pub spread : Spread pool slots

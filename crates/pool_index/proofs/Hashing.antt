@@ -43,7 +43,7 @@ module _ (l : List ℤ) where
   unfolding hashOf
   more-pairs e = rw (is-other (getD l 1 (pos 0)) e) refl
 
--- a hash below 2^32, times so many buckets, fits 64 bits
+-- a hash below 2^32, times the number of buckets, fits 64 bits
 pub product-fits : (h heads : ℕ) → h < 4294967296 → heads ≤ 65536 → h * heads < 281474976710656
 product-fits h heads small few =
     let e : h ≤ 4294967295 = omega arith in

@@ -15,7 +15,7 @@ raised (negsuc n) = 2147483647 - n
 unfoldable pub factored : List ℤ → ℕ → ℕ → ℕ → ℕ
 factored l i j k = raised (getD l i (pos 0)) * j + raised (getD l (i + 1) (pos 0)) * k
 
--- the sum of all numbers with their factors: primes, together below 2^32. With one pair, the numbers behind the first four are 0
+-- the sum of all numbers with their factors, which are together below 2^32. With one pair, the numbers behind the first four are 0
 -- in a well-written place and do not count
 unfoldable pub hashOf : List ℤ → ℕ
 hashOf l =

@@ -52,13 +52,13 @@ pub record Indexed (ks : List (List ℤ)) (index : List ℕ) : Type 0 where
       → Leads (headsOf index) index (getD ks p []) 0 (bucketOf (headsOf index) (getD ks p [])) (suc p)
   pub ordered : Ordered (headsOf index) (length ks) index
 
--- an index with links for so many places
+-- an index with links for n places
 pub record Roomy (most : ℕ) (index : List ℕ) : Type 0 where
   pub some : 3 ≤ length index
   pub few : length index ≤ 196610
   pub links : headsOf index + 2 * most ≤ length index
 
--- what a search for an update takes, among so many used places
+-- what a search for an update takes, among the used places
 pub record Seeking (used : ℕ) (pool row : List ℤ) (index : List ℕ) : Type 0 where
   pub long : length row ≡ 10
   pub live : lives row ≡ true

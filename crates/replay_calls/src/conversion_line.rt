@@ -66,7 +66,7 @@ fn take(deck: &mut [u8; HELD], buffer: &[u8; HELD], n: usize)
     }
 }
 
-// Lends the deck in hand and a buffer of so many bytes. Behind the answer comes each byte that should be as it was lent and is not.
+// Lends the deck in hand and a buffer of `length` bytes. Behind the answer comes each byte that should be as it was lent and is not.
 pub fn convert(
     deck: &mut [u8; HELD],
     size: usize,

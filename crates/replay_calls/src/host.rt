@@ -262,11 +262,11 @@ fn said(answer: Answer, host: Host) -> Turn
 }
 
 // Does what a line asks for where that is no call: writes into memory, or nothing.
-fn change(pool: &mut [i32; LONGEST_POOL], host: Host, request: Command, v: i32) -> Turn
+fn change(pool: &mut [i32; LONGEST_POOL], host: Host, command: Command, v: i32) -> Turn
     requires { ⌜ host .length ≤ 700000 ⌝ }
     ensures { λ r. ⌜ r .host .length ≤ 700000 ⌝ }
 {
-    match request {
+    match command {
         Command::Value(index) => set_value(host, index, v),
         Command::Pending(pending) => set_pending(host, pending),
         Command::Pool(index) => {
@@ -283,7 +283,7 @@ fn perform(
     deck: &[u8],
     pool: &mut [i32; LONGEST_POOL],
     host: Host,
-    request: Command,
+    command: Command,
     numbers: &[i32; KEPT],
     count: usize,
 ) -> Turn
@@ -292,7 +292,7 @@ fn perform(
 {
     let n = host.length;
     let state = host.state;
-    match request {
+    match command {
         Command::Start(length) => start(deck, pool, host, length),
         Command::Input(part) => input(deck, pool, n, state, part, numbers, count),
         Command::Commit(place) => commit(deck, pool, n, state, place),
@@ -301,7 +301,7 @@ fn perform(
             let answer = section(deck, number);
             said(answer, host)
         }
-        _ => change(pool, host, request, second(numbers)),
+        _ => change(pool, host, command, second(numbers)),
     }
 }
 
@@ -311,12 +311,12 @@ pub fn perform_on(
     size: usize,
     pool: &mut [i32; LONGEST_POOL],
     host: Host,
-    request: Command,
+    command: Command,
     numbers: &[i32; KEPT],
     count: usize,
 ) -> Turn
     requires { ⌜ (size ≤ length (now deck)) × (host .length ≤ 700000) × (count ≤ 128) ⌝ }
     ensures { λ r. ⌜ r .host .length ≤ 700000 ⌝ }
 {
-    perform(&deck[..size], pool, host, request, numbers, count)
+    perform(&deck[..size], pool, host, command, numbers, count)
 }

@@ -28,7 +28,7 @@ fn end_call(
     deck: &[u8; HELD],
     pool: &mut [i32; LONGEST_POOL],
     progress: Progress,
-    request: Command,
+    command: Command,
     numbers: &[i32; KEPT],
     out: &mut [u8; ROOM],
 ) -> Progress
@@ -39,7 +39,7 @@ fn end_call(
     let line = progress.line;
     let before = progress.host;
     let count = line.kept();
-    let turn = host::perform_on(deck, size, pool, before, request, numbers, count);
+    let turn = host::perform_on(deck, size, pool, before, command, numbers, count);
     let answer = turn.answer;
     let after = turn.host;
     let waiting = output::print(answer, out, progress.waiting);
@@ -83,10 +83,10 @@ fn end_line(
     ensures { λ r. ⌜ (r .host .length ≤ 700000) × (r .waiting ≤ 65536) × (r .size ≤ 50000) ⌝ }
 {
     let line = progress.line;
-    let request = line.request(numbers);
-    match request {
+    let command = line.command(numbers);
+    match command {
         Command::Convert(length) => end_convert(deck, progress, length, out),
-        _ => end_call(deck, pool, progress, request, numbers, out),
+        _ => end_call(deck, pool, progress, command, numbers, out),
     }
 }
 
@@ -117,12 +117,13 @@ fn play_bytes(
     now
 }
 
-// Reads some bytes of the text and goes through them. At its end, and where it cannot be read, there are none.
+// What some bytes of the text left, and whether there may be more of them.
 pub struct Played {
     pub progress: Progress,
     pub more: bool,
 }
 
+// Reads some bytes of the text and goes through them. At its end, and where it cannot be read, there are none.
 fn play_some(
     deck: &mut [u8; HELD],
     pool: &mut [i32; LONGEST_POOL],
@@ -179,7 +180,7 @@ fn play_text(
     now
 }
 
-// Goes through a text of calls on a deck of so many bytes, and then prints what is left in memory.
+// Goes through a text of calls on a deck of `size` bytes, and then prints what is left in memory.
 fn play(deck: &mut [u8; HELD], size: usize, fd: i32)
     requires { ⌜ size ≤ 50000 ⌝ }
 {

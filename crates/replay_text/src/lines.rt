@@ -187,7 +187,7 @@ impl Line {
     }
 
     // What the line asks for, now that it has ended.
-    pub fn request(self, numbers: &mut [i32; KEPT]) -> Command {
+    pub fn command(self, numbers: &mut [i32; KEPT]) -> Command {
         if self.word == 1 && self.fields == 0 {
             return Command::Nothing;
         }

@@ -1,4 +1,4 @@
--- A settle is so many commits of place 0, one after the other, and it stops no earlier and no later than it should. Assumes
+-- A settle is as many commits of place 0 as it answers, one after the other, and it stops no earlier and no later than it should. Assumes
 -- nothing.
 use Prim.Native.Nat.{ℕ, zero, suc, _≤_, _<_}
 use mathlib.Core.Path.{_≡_, refl}

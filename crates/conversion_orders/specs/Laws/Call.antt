@@ -67,7 +67,7 @@ made-keeps bytes new room b m =
       runs = λ pool cs. ap (λ s. runAs New s pool cs) (m .is) ∙ same-run bytes b l (m .passes) (m .few) pool cs;
     }
 
--- of the call: where it answers a length, so many bytes at the front of the buffer
+-- of the call: where it answers a length, as many bytes at the front of the buffer
 pub convert-keeps : (bytes buffer : List ℕ) → Bytes bytes → (n : ℕ) → convert bytes buffer .answer ≡ accepted n
     → Keeps bytes (take n (convert bytes buffer .buffer))
 unfolding convert reply

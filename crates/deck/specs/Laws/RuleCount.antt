@@ -41,7 +41,7 @@ given-at : {A : Type 0} (a : A) (s : List ℕ) (at : ℕ) (g : Got A) → give a
 unfolding give
 given-at a s at g e = ap (λ x. x .at) (accepted-inj e)
 
--- so many bytes were read
+-- how many bytes were read
 repeats-read : (lo hi n : ℕ) (s : List ℕ) (at : ℕ) (g : Got (List ℕ)) → repeats n (number lo hi) (drop at s) at ≡ accepted g
     → g .at ≡ at + n
 unfolding repeats _>>=_

@@ -44,7 +44,7 @@ module _ (sc : Scope) where
     of-wrong-type : {w : Awaited} {ws : List Awaited} {b : ℕ} {s : List ℕ} → judgement sc w b ≡ mistyped
         → FaultKind (w ∷ ws) (b ∷ s) wrongType
 
-  -- so many bytes were taken, and these are awaited then, whatever follows; the fault is the next byte's
+  -- the first n bytes were taken, and these are awaited then, whatever follows; the fault is the next byte's
   record Course (ws : List Awaited) (s : List ℕ) (at n p : ℕ) : Type 0 where
     taken : ℕ
     awaited : List Awaited

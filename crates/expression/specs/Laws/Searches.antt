@@ -123,7 +123,7 @@ literal-ends s at h sc =
     (by-two sc s aLiteralByte _ (at + 1 + 1) (a-byte sc s (at + 1 + 1) (omega arith)) _
     (a-byte sc s (at + 1 + 1 + 1) (omega arith)))))
 
--- so many of a literal's bytes are awaited, and fewer are left
+-- n of a literal's bytes are awaited, and fewer are left
 few : (sc : Scope) (s : List ℕ) (vs : List Awaited) (k at : ℕ) → at + k ≡ length s → k < length vs
     → ((n : ℕ) → getD vs n aLiteralByte ≡ aLiteralByte) → Searched sc s vs at (Of.Fault wrongEnd (length s))
 few sc s [] k at e l only = absurd (omega arith)

@@ -54,7 +54,7 @@ Agrees nothing f = Faulty f
 
 -- ---- places
 
--- a fault's place, counted from so many bytes earlier
+-- a fault's place, counted from n bytes earlier
 abbrev pub moved : ℕ → Found → Found
 moved k sound = sound
 moved k (faulty n p) = faulty n (k + p)

@@ -111,7 +111,7 @@ module _ (d : Deck) where
               there′ : Bool → List Update
               there′ b = cond b (sent values p p (rule .action)) []
 
-      -- "a firing adds at most the charges of the active rules"
+      -- a firing adds at most the charges of the active rules
       pub fired-most : (cs : List ℕ) → charge d (fired d values p cs) ≤ sumOf (ruleCharge d p) (active d p cs)
       unfolding fired
       fired-most cs =

@@ -53,7 +53,7 @@ module _ (own far : List ℤ) where
   written-pairs q [] = refl
   written-pairs q (x ∷ a) = ap (λ l. pos (x .target) ∷ numIn own far (x .value) ∷ l) (written-pairs q a)
 
-  -- a row with so many pairs written, and zeros behind them
+  -- a row with its first pairs written, and zeros behind them
   unfoldable pub rowOf : ℕ → ℕ → ℕ → Action → List ℤ
   rowOf q count i done = pos q ∷ pos count ∷ (written done ++ zeros (2 * (4 - i)))
 

@@ -1,4 +1,4 @@
--- An accepted settle is so many commit calls of place 0, each accepted and each handed what the last one left. Assumes nothing.
+-- An accepted settle of n commits is n commit calls of place 0, each accepted and each handed what the last one left. Assumes nothing.
 use Prim.Native.Nat.{ℕ, zero, suc, _≤_, _<_}
 use mathlib.Core.Path.{_≡_, refl, sym, _∙_, ap, ap₂, subst}
 use mathlib.Core.Bool.{Bool, true, false, cond}

@@ -31,7 +31,7 @@ use Rattle.pool.specs.Places.{pools}
 use Rattle.passing.specs.Check.{outside, passing, checks}
 use Rattle.passing.specs.Laws.Passing.{later-clean, passing-judges}
 
--- channel 0 negated so many times, and so many times "not": an operator is one byte
+-- channel 0 negated n times, and n times not: an operator is one byte
 unfoldable pub negated : ℕ → Num
 negated zero = own 0
 negated (suc n) = negation (negated n)

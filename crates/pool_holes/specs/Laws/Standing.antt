@@ -77,7 +77,7 @@ module _ (slots : List Slot) (p : ℕ) (u : Update) (l : p < length slots) (e : 
 
 -- ---- where the holes stand
 
--- `a` stand in front, so many places behind them were taken out, and `b` stand behind those
+-- `a` stand in front, n places behind them were taken out, and `b` stand behind those
 abbrev pub parted : List Update → ℕ → List Update → List Slot
 parted a n b = whole a ++ (replicate n hole ++ whole b)
 

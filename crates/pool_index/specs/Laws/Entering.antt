@@ -12,7 +12,7 @@ use Rattle.pool_index.specs.Index.{headsOf, Indexed, Roomy, Entering, En
 use Rattle.pool_index.specs.Laws.Indexed.{indexed-none, indexed-more, more-inside}
 use Rattle.pool_index.specs.Laws.Front.{places-length, places-end}
 
--- a 2^32th of a number below 2^32 times so many buckets is a bucket
+-- a 2^32th of a number below 2^32, times the number of buckets, is a bucket
 bucket-small : (h heads : ℕ) → h < 4294967296 → 0 < heads → h * heads / 4294967296 < heads
 bucket-small h heads small some = omega (arith, mul-lt-mul-of-pos-right small some)
 
