@@ -15,7 +15,8 @@ use Rattle.conversion.specs.Converted.{converted}
 use Rattle.conversion.specs.declared.ConvertAnswer.{ConvertAnswer}
 use Rattle.conversion.specs.declared.ConvertAnswer.the-variants.{Converted, Refused}
 
--- the new deck's bytes, for a buffer of as many as `room`: "takes only decks the old check passed, refuses others with that check's number and
+-- the new deck's bytes, for a buffer of as many as `room`: "takes only decks the old check passed, refuses others with that check's number
+-- and
 -- place", then "with 21 when more than 64 rules result and then with 22 when the buffer is too short"
 unfoldable pub conversion : List ℕ → ℕ → Outcome (List ℕ)
 conversion bytes room = do

@@ -16,7 +16,8 @@ use Rattle.expression.specs.Encoding.{encodingExpressions}
 use Rattle.deck.specs.Deck.{Action, Rule, Part, Deck, R, M, N, ruleAt, decks}
 use Rattle.deck.specs.Layout.{ownOnly, taskScope, layouts}
 use Rattle.deck.specs.declared.Form.the-variants.{New}
-use Rattle.deck.specs.Encoding.{inRange, isRising, goodAction, goodCondition, goodRule, goodPart, wellFormed, suitsRule, suits, encodings, isLabel}
+use Rattle.deck.specs.Encoding.{inRange, isRising, goodAction, goodCondition, goodRule, goodPart, wellFormed, suitsRule, suits, encodings}
+use Rattle.deck.specs.Encoding.{isLabel}
 use Rattle.deck.specs.Laws.Formed.{rising-head, rising-cons, rule-tests, from-rule-tests, part-tests, from-part-tests}
 use Rattle.deck.specs.Laws.Formed.{deck-tests, from-deck-tests, empty-good}
 use Rattle.deck.specs.Laws.Forms.{rule-none, none-rule}

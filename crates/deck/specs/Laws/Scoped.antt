@@ -13,7 +13,8 @@ use Rattle.expression.specs.Reading.{Scope}
 use Rattle.expression.specs.Encoding.{encodeNum, encodeTruth, fits, goodNum, goodTruth, encodingExpressions}
 use Rattle.deck.specs.Deck.{Assignment, Action, Rule, Part, Deck, R, M, N, ruleAt, partAt, targets, decks}
 use Rattle.deck.specs.Layout.{ownOnly, taskScope, layouts}
-use Rattle.deck.specs.Encoding.{inRange, isRising, fittingLength, goodAssignment, goodAction, goodCondition, goodRule, goodPart, isLabel}
+use Rattle.deck.specs.Encoding.{inRange, isRising, fittingLength, goodAssignment, goodAction, goodCondition, goodRule, goodPart}
+use Rattle.deck.specs.Encoding.{isLabel}
 use Rattle.deck.specs.Encoding.{wellFormed}
 
 -- every assigned expression is in the scope
