@@ -10,6 +10,26 @@ use Rattle.deck.specs.Laws.DeckSteps.{no-front, no-parts, same-parts, bad-part,
 use Rattle.deck_reading.proofs.read.Statement.{statement}
 use Rattle.deck_reading.proofs.read.Tie as tie
 
+-- the places that the needs below come back to: behind the first two sections, the count of parts, the parts
+abbrev front-of : tie.After-first → tie.After-front-at
+front-of c = c .before .before .before .before
+
+abbrev first-of : tie.After-number-at → tie.After-first
+first-of c = c .before .before
+
+abbrev counted-of : tie.After-second → tie.After-number-at
+counted-of c = c .before .before
+
+abbrev second-of : tie.After-parts-at → tie.After-second
+second-of c = c .before .before .before
+
+abbrev parts-of : tie.After-last → tie.After-parts-at
+parts-of c = c .before .before .before .before
+
+-- behind the parts, the first two sections
+abbrev sections-of : tie.After-parts-at → tie.After-front-at
+sections-of c = front-of (first-of (counted-of (second-of c)))
+
 front-at-requires : tie.Need-front-at-requires
 front-at-requires c κs = search needs
 
@@ -49,7 +69,7 @@ wrong-requires-2 : tie.Need-wrong-requires-2
 wrong-requires-2 c κs = search needs
 
 same-length-2 : tie.Need-same-length-2
-same-length-2 c = c .before .before .before .before .before .before .before .before .before .front-at .kept .1 .0
+same-length-2 c = front-of (first-of (c .before .before .before)) .front-at .kept .1 .0
 
 returns-2 : tie.Need-returns-2
 returns-2 c =
@@ -88,8 +108,7 @@ wrong-requires-3 : tie.Need-wrong-requires-3
 wrong-requires-3 c κs = search needs
 
 same-length-3 : tie.Need-same-length-3
-same-length-3 c =
-    c .before .before .before .before .before .before .before .before .before .before .before .before .before .before .before .before .front-at .kept .1 .0
+same-length-3 c = sections-of (c .before .before .before .before .before) .front-at .kept .1 .0
 
 same-length-4 : tie.Need-same-length-4
 same-length-4 c = c .before .before .before .before .before .parts-at .kept .1 .1 .1 .1 .1 .0
@@ -116,11 +135,10 @@ returns-3 c =
     (same ∙ rw told at (p .parts-at .ensures)))
 
 same-length-5 : tie.Need-same-length-5
-same-length-5 c =
-    c .before .before .before .before .before .before .before .before .before .before .before .before .before .before .before .before .before .front-at .kept .1 .0
+same-length-5 c = sections-of (parts-of (c .before .before)) .front-at .kept .1 .0
 
 same-length-6 : tie.Need-same-length-6
-same-length-6 c = c .before .before .before .before .before .before .parts-at .kept .1 .1 .1 .1 .1 .0
+same-length-6 c = parts-of (c .before .before) .parts-at .kept .1 .1 .1 .1 .1 .0
 
 returns-4 : tie.Need-returns-4
 returns-4 c =
@@ -145,11 +163,10 @@ returns-4 c =
     (drop-cons s end 0 (c .if1 .taken))
 
 same-length-7 : tie.Need-same-length-7
-same-length-7 c =
-    c .before .before .before .before .before .before .before .before .before .before .before .before .before .before .before .before .before .front-at .kept .1 .0
+same-length-7 c = sections-of (parts-of (c .before .before)) .front-at .kept .1 .0
 
 same-length-8 : tie.Need-same-length-8
-same-length-8 c = c .before .before .before .before .before .before .parts-at .kept .1 .1 .1 .1 .1 .0
+same-length-8 c = parts-of (c .before .before) .parts-at .kept .1 .1 .1 .1 .1 .0
 
 returns-5 : tie.Need-returns-5
 returns-5 c =
