@@ -11,68 +11,62 @@ ghost use Rattle.passing.specs.Judged.{ZeroRules, ZeroMemo};
 use calls::Request;
 use calls::Response;
 use calls_tests::Tested;
+use calls_turns::Answered;
+use calls_turns::Found;
 use deck::Deck;
 
 // What is asked for, on what was tested.
 fn call_tested(
     deck: &[u8],
-    counts: Deck,
+    found: Found,
     rules: &[u64],
     parts: &[u64],
     memo: &mut [u32],
     index: &mut [u16],
     pool: &mut [i32],
     values: &mut [i32; Deck::VALUES],
-    pending: &mut u32,
-    charge: u32,
     request: Request,
     pairs: &[i32],
-) -> Response
+) -> Answered
     requires { ⌜ TestsPassed (now deck) (now rules) (now parts) (now memo) (now index)
-        (memoryAt (now values) (now pending) (now pool)) counts charge ⌝ }
-    ensures { λ r. ⌜ replyAt (outcomeTo request r) (now (values .exit)) (now (pending .exit)) (now (pool .exit))
-        ≡ requested (now (deck .entry)) (memoryAt (now (values .entry)) (now (pending .entry)) (now (pool .entry))) request
+        (memoryAt (now values) (found .pending) (now pool)) (found .counts) (found .charge) ⌝ }
+    ensures { λ r. ⌜ replyAt (outcomeTo request (r .response)) (now (values .exit)) (r .pending) (now (pool .exit))
+        ≡ requested (now (deck .entry)) (memoryAt (now (values .entry)) (found .pending) (now (pool .entry))) request
         (now (pairs .entry)) ⌝ }
 {
     match request {
         Request::Input(part) => calls_input::input_tested(
             deck,
-            counts,
+            found,
             rules,
             parts,
             memo,
             index,
             pool,
             values,
-            pending,
-            charge,
             part,
             pairs,
         ),
         Request::Commit(place) => calls_commit::commit_tested(
             deck,
-            counts,
+            found,
             rules,
             parts,
             memo,
             index,
             pool,
             values,
-            pending,
-            charge,
             place,
         ),
         Request::Settle(budget) => calls_settle::settle_tested(
             deck,
-            counts,
+            found,
             rules,
             parts,
             memo,
             index,
             pool,
             values,
-            pending,
-            charge,
             budget,
         ),
     }
@@ -96,7 +90,7 @@ fn call_on(
         (now (pairs .entry)) ⌝ }
 {
     let mut parts = [0u64; passing::PART_TABLE];
-    let found = calls_tests::test_lent(
+    let tested = calls_tests::test_lent(
         deck,
         rules,
         &mut parts,
@@ -106,23 +100,28 @@ fn call_on(
         values,
         *pending,
     );
-    match found {
+    match tested {
         Tested::Refused { number, place } => Response::Refused { number, place },
         Tested::Ready { counts, charge } => {
-            call_tested(
-                deck,
+            let found = Found {
                 counts,
+                pending: *pending,
+                charge,
+            };
+            let done = call_tested(
+                deck,
+                found,
                 rules,
                 &parts,
                 memo,
                 index,
                 pool,
                 values,
-                pending,
-                charge,
                 request,
                 pairs,
-            )
+            );
+            *pending = done.pending;
+            done.response
         }
     }
 }
