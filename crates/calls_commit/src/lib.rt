@@ -6,6 +6,8 @@ ghost use Rattle.calls.specs.Requests.{outcomeTo};
 ghost use Rattle.calls.specs.declared.Request.the-variants as Asked;
 ghost use Rattle.calls_tests.specs.Tested.{TestsPassed};
 use calls::Response;
+use calls_turns::Answered;
+use calls_turns::Found;
 use deck::Deck;
 
 // So many commits are made.
@@ -14,49 +16,48 @@ const ONE: u32 = 1;
 // The commit of a place, if it is pending (14).
 pub fn commit_tested(
     deck: &[u8],
-    counts: Deck,
+    found: Found,
     rules: &[u64],
     parts: &[u64],
     memo: &mut [u32],
     index: &mut [u16],
     pool: &mut [i32],
     values: &mut [i32; Deck::VALUES],
-    pending: &mut u32,
-    charge: u32,
     place: u32,
-) -> Response
+) -> Answered
     requires { ⌜ TestsPassed (now deck) (now rules) (now parts) (now memo) (now index)
-        (memoryAt (now values) (now pending) (now pool)) counts charge ⌝ }
-    ensures { λ r. ⌜ replyAt (outcomeTo (Asked.Commit place) r) (now (values .exit)) (now (pending .exit)) (now (pool .exit))
-        ≡ Calls.commit (now (deck .entry)) (memoryAt (now (values .entry)) (now (pending .entry)) (now (pool .entry))) place ⌝ }
+        (memoryAt (now values) (found .pending) (now pool)) (found .counts) (found .charge) ⌝ }
+    ensures { λ r. ⌜ replyAt (outcomeTo (Asked.Commit place) (r .response)) (now (values .exit)) (r .pending) (now (pool .exit))
+        ≡ Calls.commit (now (deck .entry)) (memoryAt (now (values .entry)) (found .pending) (now (pool .entry))) place ⌝ }
 {
     let k = place as usize;
-    let n = *pending as usize;
+    let n = found.pending as usize;
     if !firing_commits::may_take(n, k) {
-        return Response::Refused {
-            number: refusals::PLACE_NOT_PENDING,
-            place: 0,
+        return Answered {
+            response: Response::Refused {
+                number: refusals::PLACE_NOT_PENDING,
+                place: 0,
+            },
+            pending: found.pending,
         };
     }
-    let capacity = (pool.len() / Deck::PLACE) as u32;
     let turn = calls_turns::take_turns(
         deck,
-        counts,
+        found,
         rules,
         parts,
         memo,
         index,
         pool,
-        capacity,
         values,
-        n,
-        charge,
         k,
         ONE,
     );
-    *pending = turn.pending as u32;
-    Response::Done {
-        flag: turn.applied,
-        number: turn.charge,
+    Answered {
+        response: Response::Done {
+            flag: turn.applied,
+            number: turn.charge,
+        },
+        pending: turn.pending as u32,
     }
 }

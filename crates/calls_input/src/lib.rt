@@ -1,10 +1,13 @@
 // Input on what was tested. `calls` has the definition; specs/Entered.antt says what is left of it behind the tests.
 ghost use mathlib.Core.Path.{_≡_};
-ghost use Prim.Native.Nat.{_*_, _-_, _≤_};
+ghost use mathlib.Core.Bool.{true};
+ghost use Prim.Native.Nat.{_*_, _-_, _≤_, _<_};
 ghost use mathlib.Core.List.{_++_};
 ghost use lib.ListN.{length, take};
 ghost use Rattle.pool.specs.Places.{zeros};
+ghost use Rattle.passing.specs.Tabled.{deckOf};
 ghost use Rattle.calls.specs.Calls as Calls;
+ghost use Rattle.calls.specs.Calls.{goodInput};
 ghost use Rattle.calls.specs.Answers.{memoryAt, replyAt};
 ghost use Rattle.calls.specs.Requests.{outcomeTo};
 ghost use Rattle.calls.specs.declared.Request.the-variants as Asked;
@@ -12,7 +15,11 @@ ghost use Rattle.calls.specs.declared.Response.the-variants as Told;
 ghost use Rattle.calls_tests.specs.Tested.{TestsPassed};
 ghost use Rattle.calls_input.specs.Entered.{GoodInput};
 use calls::Response;
+use calls_turns::Answered;
+use calls_turns::Found;
 use deck::Deck;
+use firing_queue::Queue;
+use firing_rules::Change;
 
 // 12: 1 to 32 pairs of known, different channels.
 fn good_input(pairs: &[i32], channels: usize) -> bool
@@ -46,12 +53,29 @@ fn good_input(pairs: &[i32], channels: usize) -> bool
     true
 }
 
-fn refused(number: u32) -> Response
-    ensures { λ r. ⌜ r ≡ Told.Refused number 0 ⌝ }
+// A refusal leaves as many updates pending as were.
+fn refused(found: Found, number: u32) -> Answered
+    ensures { λ r. ⌜ (r .response ≡ Told.Refused number 0) × (r .pending ≡ found .pending) ⌝ }
 {
-    Response::Refused {
-        number: number,
-        place: 0,
+    Answered {
+        response: Response::Refused {
+            number: number,
+            place: 0,
+        },
+        pending: found.pending,
+    }
+}
+
+// An input that is taken: the updates pending then, and the charge that it added.
+fn entered(pending: u32, added: u32) -> Answered
+    ensures { λ r. ⌜ (r .response ≡ Told.Done true added) × (r .pending ≡ pending) ⌝ }
+{
+    Answered {
+        response: Response::Done {
+            flag: true,
+            number: added,
+        },
+        pending: pending,
     }
 }
 
@@ -64,45 +88,44 @@ fn take_back(pool: &mut [i32], pending: usize)
     pool::clear(&mut pool[from..]);
 }
 
-// The values of channels of a part are set on a copy, the limit is tested there and the firing follows, and they are stored unless
-// that is too much (11, 12, 17, 13).
-pub fn input_tested(
+// A good input to a known part. The values of its channels are set on a copy, the limit is tested there and the firing follows, and
+// they are stored unless that is too much (17, 13).
+fn enter(
     deck: &[u8],
-    counts: Deck,
+    found: Found,
     rules: &[u64],
     parts: &[u64],
     memo: &mut [u32],
     index: &mut [u16],
     pool: &mut [i32],
     values: &mut [i32; Deck::VALUES],
-    pending: &mut u32,
-    charge: u32,
-    part: u32,
+    part: usize,
     pairs: &[i32],
-) -> Response
+) -> Answered
     requires { ⌜ TestsPassed (now deck) (now rules) (now parts) (now memo) (now index)
-        (memoryAt (now values) (now pending) (now pool)) counts charge ⌝ }
-    ensures { λ r. ⌜ replyAt (outcomeTo (Asked.Input part) r) (now (values .exit)) (now (pending .exit)) (now (pool .exit))
-        ≡ Calls.input (now (deck .entry)) (memoryAt (now (values .entry)) (now (pending .entry)) (now (pool .entry))) part
+        (memoryAt (now values) (found .pending) (now pool)) (found .counts) (found .charge)
+        × (part < found .counts .parts) × (goodInput (deckOf (now deck)) (now pairs) ≡ true) ⌝ }
+    ensures { λ r. ⌜ replyAt (outcomeTo (Asked.Input part) (r .response)) (now (values .exit)) (r .pending) (now (pool .exit))
+        ≡ Calls.input (now (deck .entry)) (memoryAt (now (values .entry)) (found .pending) (now (pool .entry))) part
         (now (pairs .entry)) ⌝ }
 {
-    let p = part as usize;
-    if p >= counts.parts {
-        return refused(refusals::UNKNOWN_PART);
-    }
-    if !good_input(pairs, counts.channels) {
-        return refused(refusals::BAD_INPUT);
-    }
+    let counts = found.counts;
     let mut after = *values;
-    firing_actions::assign_pairs(&mut after, p, pairs);
-    if !passing_tests::within(deck, counts, parts, &after, p) {
-        return refused(refusals::INPUT_OUTSIDE);
+    firing_actions::assign_pairs(&mut after, part, pairs);
+    if !passing_tests::within(deck, counts, parts, &after, part) {
+        return refused(found, refusals::INPUT_OUTSIDE);
     }
-    let n = *pending as usize;
     let mut back = [0i32; 2 * Deck::CHANNELS];
-    let changed = firing_actions::changed_by(values, p, pairs, &mut back);
-    let capacity = (pool.len() / Deck::PLACE) as u32;
-    let queue = firing_rules::react(
+    let channels = firing_actions::changed_by(values, part, pairs, &mut back);
+    let change = Change { part, channels };
+    let n = found.pending as usize;
+    let queue = Queue {
+        used: n,
+        charge: found.charge,
+        capacity: (pool.len() / Deck::PLACE) as u32,
+        full: false,
+    };
+    let grown = firing_rules::react(
         deck,
         counts,
         rules,
@@ -110,21 +133,55 @@ pub fn input_tested(
         memo,
         index,
         pool,
-        capacity,
-        n,
-        charge,
+        queue,
         &after,
-        p,
-        changed,
+        change,
     );
-    if queue.full {
+    if grown.full {
         take_back(pool, n);
-        return refused(refusals::OVER_CAPACITY);
+        return refused(found, refusals::OVER_CAPACITY);
     }
-    firing_actions::assign_pairs(values, p, pairs);
-    *pending = queue.used as u32;
-    Response::Done {
-        flag: true,
-        number: queue.charge - charge,
+    firing_actions::assign_pairs(values, part, pairs);
+    entered(grown.used as u32, grown.charge - found.charge)
+}
+
+// The input to a part, if the part is known and the input list is good (11, 12).
+pub fn input_tested(
+    deck: &[u8],
+    found: Found,
+    rules: &[u64],
+    parts: &[u64],
+    memo: &mut [u32],
+    index: &mut [u16],
+    pool: &mut [i32],
+    values: &mut [i32; Deck::VALUES],
+    part: u32,
+    pairs: &[i32],
+) -> Answered
+    requires { ⌜ TestsPassed (now deck) (now rules) (now parts) (now memo) (now index)
+        (memoryAt (now values) (found .pending) (now pool)) (found .counts) (found .charge) ⌝ }
+    ensures { λ r. ⌜ replyAt (outcomeTo (Asked.Input part) (r .response)) (now (values .exit)) (r .pending) (now (pool .exit))
+        ≡ Calls.input (now (deck .entry)) (memoryAt (now (values .entry)) (found .pending) (now (pool .entry))) part
+        (now (pairs .entry)) ⌝ }
+{
+    let counts = found.counts;
+    let p = part as usize;
+    if p >= counts.parts {
+        return refused(found, refusals::UNKNOWN_PART);
     }
+    if !good_input(pairs, counts.channels) {
+        return refused(found, refusals::BAD_INPUT);
+    }
+    enter(
+        deck,
+        found,
+        rules,
+        parts,
+        memo,
+        index,
+        pool,
+        values,
+        p,
+        pairs,
+    )
 }

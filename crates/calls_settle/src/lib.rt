@@ -6,6 +6,8 @@ ghost use Rattle.calls.specs.Requests.{outcomeTo};
 ghost use Rattle.calls.specs.declared.Request.the-variants as Asked;
 ghost use Rattle.calls_tests.specs.Tested.{TestsPassed};
 use calls::Response;
+use calls_turns::Answered;
+use calls_turns::Found;
 use deck::Deck;
 
 const LARGEST_BUDGET: u32 = 65535;
@@ -13,47 +15,46 @@ const LARGEST_BUDGET: u32 = 65535;
 // The settle within a budget of at most 65,535 (16): place 0 is committed until none is pending or the budget is used.
 pub fn settle_tested(
     deck: &[u8],
-    counts: Deck,
+    found: Found,
     rules: &[u64],
     parts: &[u64],
     memo: &mut [u32],
     index: &mut [u16],
     pool: &mut [i32],
     values: &mut [i32; Deck::VALUES],
-    pending: &mut u32,
-    charge: u32,
     budget: u32,
-) -> Response
+) -> Answered
     requires { ⌜ TestsPassed (now deck) (now rules) (now parts) (now memo) (now index)
-        (memoryAt (now values) (now pending) (now pool)) counts charge ⌝ }
-    ensures { λ r. ⌜ replyAt (outcomeTo (Asked.Settle budget) r) (now (values .exit)) (now (pending .exit)) (now (pool .exit))
-        ≡ Calls.settle (now (deck .entry)) (memoryAt (now (values .entry)) (now (pending .entry)) (now (pool .entry))) budget ⌝ }
+        (memoryAt (now values) (found .pending) (now pool)) (found .counts) (found .charge) ⌝ }
+    ensures { λ r. ⌜ replyAt (outcomeTo (Asked.Settle budget) (r .response)) (now (values .exit)) (r .pending) (now (pool .exit))
+        ≡ Calls.settle (now (deck .entry)) (memoryAt (now (values .entry)) (found .pending) (now (pool .entry))) budget ⌝ }
 {
     if budget > LARGEST_BUDGET {
-        return Response::Refused {
-            number: refusals::BUDGET_TOO_LARGE,
-            place: 0,
+        return Answered {
+            response: Response::Refused {
+                number: refusals::BUDGET_TOO_LARGE,
+                place: 0,
+            },
+            pending: found.pending,
         };
     }
-    let capacity = (pool.len() / Deck::PLACE) as u32;
     let turns = calls_turns::take_turns(
         deck,
-        counts,
+        found,
         rules,
         parts,
         memo,
         index,
         pool,
-        capacity,
         values,
-        *pending as usize,
-        charge,
         firing_commits::next_place(),
         budget,
     );
-    *pending = turns.pending as u32;
-    Response::Done {
-        flag: turns.pending == 0,
-        number: turns.made,
+    Answered {
+        response: Response::Done {
+            flag: turns.pending == 0,
+            number: turns.made,
+        },
+        pending: turns.pending as u32,
     }
 }

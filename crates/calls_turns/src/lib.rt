@@ -1,7 +1,24 @@
 // Commits of one place, again and again, and the pending updates moved together behind them: what commit and settle share. One loop
 // calls the commit, so that the compiler puts it there. The definitions are in specs/.
+ghost use lib.ListN.{length};
+ghost use Rattle.pool.specs.Places.{capacity};
 ghost use Rattle.calls_turns.specs.Turns.{Beginning, Turned};
+use calls::Response;
 use deck::Deck;
+use firing_queue::Queue;
+
+// What the tests of a call found: the counts of the deck, the updates pending and their charge.
+pub struct Found {
+    pub counts: Deck,
+    pub pending: u32,
+    pub charge: u32,
+}
+
+// What a call answers behind the tests, and the updates pending then.
+pub struct Answered {
+    pub response: Response,
+    pub pending: u32,
+}
 
 // The commits made, the updates pending and their charge, and whether the last commit was applied.
 pub struct Turns {
@@ -15,31 +32,34 @@ pub struct Turns {
 // again. The places that were taken out follow one another from `first` on.
 pub fn take_turns(
     deck: &[u8],
-    counts: Deck,
+    found: Found,
     rules: &[u64],
     parts: &[u64],
     memo: &mut [u32],
     index: &mut [u16],
     pool: &mut [i32],
-    capacity: u32,
     values: &mut [i32; Deck::VALUES],
-    pending: usize,
-    charge: u32,
     first: usize,
     budget: u32,
 ) -> Turns
-    requires { ⌜ Beginning (now deck) counts (now rules) (now parts) (now memo) (now index) (now pool) capacity (now values) pending charge
-        first ⌝ }
-    ensures { λ r. ⌜ Turned (now (deck .entry)) capacity (now (values .entry)) pending charge (now (index .entry))
-        (now (pool .entry)) first budget (r .made) (r .pending) (r .charge) (r .applied) (now (values .exit)) (now (pool .exit)) ⌝ }
+    requires { ⌜ Beginning (now deck) (found .counts) (now rules) (now parts) (now memo) (now index) (now pool) (capacity (length (now pool)))
+        (now values) (found .pending) (found .charge) first ⌝ }
+    ensures { λ r. ⌜ Turned (now (deck .entry)) (capacity (length (now (pool .entry)))) (now (values .entry)) (found .pending)
+        (found .charge) (now (index .entry)) (now (pool .entry)) first budget (r .made) (r .pending) (r .charge) (r .applied)
+        (now (values .exit)) (now (pool .exit)) ⌝ }
 {
-    let mut used = pending;
-    let mut total = charge;
+    let counts = found.counts;
+    let mut queue = Queue {
+        used: found.pending as usize,
+        charge: found.charge,
+        capacity: (pool.len() / Deck::PLACE) as u32,
+        full: false,
+    };
     let mut applied = false;
     let mut made: u32 = 0;
     let mut next = first;
     while made < budget {
-        let ahead = used - next;
+        let ahead = queue.used - next;
         if ahead == 0 {
             break;
         }
@@ -51,23 +71,20 @@ pub fn take_turns(
             memo,
             index,
             pool,
-            capacity - made,
+            queue,
             values,
-            used,
-            total,
             next,
         );
-        used = step.used;
-        total = step.charge;
+        queue = step.queue;
         applied = step.applied;
         made += 1;
         next += 1;
     }
-    let left = pool_holes::gather(pool, first, next, used);
+    let left = pool_holes::gather(pool, first, next, queue.used);
     Turns {
         made: made,
         pending: left,
-        charge: total,
+        charge: queue.charge,
         applied: applied,
     }
 }

@@ -54,48 +54,12 @@ pub record Looks (e : Deck) (p : ℕ) (vs pool : List ℤ) (m : List ℕ) (after
   pub changes : mask ≡ maskOf (changed e part vs after)
   pub memo : Memo e m
 
--- update j was taken out of the pending ones of x and applied: the others are left in these slots, with room for C. The pairs of
--- `back` set its channels back, and `mask` is the set of those that it changes
-pub record Without (d : Deck) (C j : ℕ) (x : Machine) (left : List Slot) (back after : List ℤ) (part mask used total : ℕ)
-    (held : Held) : Type 0 where
-  pub fine : Fine d (C + 1) x
-  pub inside : j < length (x .pending)
-  pub part-is : part ≡ pick j (x .pending) .part
-  pub after-is : after ≡ assign (pick j (x .pending) .part) (pick j (x .pending) .pairs) (x .values)
-  pub undone : assign part (pairsOf back) after ≡ x .values
-  pub changes : mask ≡ maskOf (changed d part (x .values) after)
-  pub stands : standing left ≡ without j (x .pending)
-  pub count : used ≡ length left
-  pub kept : Kept left held
-  pub charged : total ≡ charge d (without j (x .pending))
-
-pub record Finishing (s : List ℕ) (k : Counted.Deck) (rules parts memo : List ℕ) (held : Held) (C : ℕ) (back after : List ℤ)
-    (part mask used total : ℕ) : Type 0 where
-  pub tabled : Tabled s k rules parts
-  pub none : NoDefaults (deckOf s)
-  pub ready : Ready rules parts (k .channels) (k .rules) (k .parts) memo
-  pub acyclic : Acyclic (deckOf s)
-  pub assignable : Assignable back
-  pub number : ℕ
-  pub machine : Machine
-  pub left : List Slot
-  pub room : Room C (holes left) held
-  pub taken : Without (deckOf s) C number machine left back after part mask used total held
-
 -- what the numbers stand for after the commit of update j: what the definition says, in the slots that were left and in new ones
 -- behind them
 abbrev pub CommittedTo : Deck → ℕ → ℕ → Machine → List Slot → List ℤ → ℕ → ℕ → Held → Bool → Type 0
 CommittedTo d C j x left values used total held applied =
     (extra : List Update)
     × (Stored d C (left ++ whole extra) (committed d j x .machine) values used total held × (applied ≡ committed d j x .applied))
-
--- the rest of a commit
-pub record Finishes (d e : Deck) (C : ℕ) (back after : List ℤ) (part mask used₀ total₀ : ℕ) (held₀ : Held) (m : List ℕ) (held : Held)
-    (values : List ℤ) (used total : ℕ) (applied : Bool) : Type 0 where
-  pub result : (j : ℕ) (x : Machine) (left : List Slot) → Without d C j x left back after part mask used₀ total₀ held₀
-      → CommittedTo d C j x left values used total held applied
-  pub memo : Memo e m
-  pub size : SameSize held₀ held
 
 -- what a commit of place p takes
 pub record CommittingAt (s : List ℕ) (k : Counted.Deck) (rules parts memo : List ℕ) (held : Held) (C : ℕ) (values : List ℤ)

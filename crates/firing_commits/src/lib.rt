@@ -1,12 +1,14 @@
 // The commits. The definitions are in `firing`.
 ghost use mathlib.Core.Path.{_≡_};
-ghost use Prim.Native.Nat.{_+_, _<_};
+ghost use Prim.Native.Nat.{_-_};
 ghost use lib.ListN.{length};
 ghost use Rattle.passing.specs.Tabled.{deckOf};
 ghost use Rattle.passing.specs.Judged.{shape};
 ghost use Rattle.firing_queue.specs.Queue.{heldOf};
-ghost use Rattle.firing_commits.specs.Commits.{Looking, Looks, Finishing, Finishes, CommittingAt, Commits, MayTake, NextPlace};
+ghost use Rattle.firing_commits.specs.Commits.{Looking, Looks, CommittingAt, Commits, MayTake, NextPlace};
 use deck::Deck;
+use firing_queue::Queue;
+use firing_rules::Change;
 
 // The number of an update's pairs is below this.
 const COUNTS: usize = Deck::ASSIGNMENTS + 1;
@@ -62,68 +64,14 @@ fn look(
     }
 }
 
-// The places used and the charge after a commit, and whether the update was applied.
+// What is pending after a commit, and whether the update was applied.
 pub struct AfterCommit {
-    pub used: usize,
-    pub charge: u32,
+    pub queue: Queue,
     pub applied: bool,
 }
 
-// The rest of a commit, when the update is out of the pool and applied: the limit of its part decides. `back` has the pairs that
-// set its channels back.
-fn finish(
-    deck: &[u8],
-    counts: Deck,
-    rules: &[u64],
-    parts: &[u64],
-    memo: &mut [u32],
-    index: &mut [u16],
-    pool: &mut [i32],
-    capacity: u32,
-    back: &[i32],
-    values: &mut [i32],
-    part: usize,
-    changed: u64,
-    used: usize,
-    charge: u32,
-) -> AfterCommit
-    requires { ⌜ Finishing (now deck) counts (now rules) (now parts) (now memo) (heldOf (now index) (now pool)) capacity (now back)
-        (now values) part changed used charge ⌝ }
-    ensures { λ r. ⌜ Finishes (deckOf (now (deck .entry))) (shape (now (rules .entry)) (now (parts .entry)) counts) capacity
-        (now (back .entry)) (now (values .entry)) part changed used charge (heldOf (now (index .entry)) (now (pool .entry)))
-        (now (memo .exit)) (heldOf (now (index .exit)) (now (pool .exit))) (now (values .exit)) (r .used) (r .charge) (r .applied) ⌝ }
-{
-    if passing_tests::within(deck, counts, parts, values, part) {
-        let queue = firing_rules::react(
-            deck,
-            counts,
-            rules,
-            parts,
-            memo,
-            index,
-            pool,
-            capacity,
-            used,
-            charge,
-            values,
-            part,
-            changed,
-        );
-        return AfterCommit {
-            used: queue.used,
-            charge: queue.charge,
-            applied: true,
-        };
-    }
-    firing_actions::assign_pairs(values, part, back);
-    AfterCommit {
-        used: used,
-        charge: charge,
-        applied: false,
-    }
-}
-
-// The commit of the update at place k, which becomes a hole. There is room for a charge of `capacity` beside the holes.
+// The commit of the update at place k, which becomes a hole: it is applied, and set back where the limit of its part would fail. There
+// is room for a charge of the queue's capacity beside the holes, and for one less afterwards.
 pub fn commit(
     deck: &[u8],
     counts: Deck,
@@ -132,24 +80,38 @@ pub fn commit(
     memo: &mut [u32],
     index: &mut [u16],
     pool: &mut [i32],
-    capacity: u32,
+    queue: Queue,
     values: &mut [i32],
-    used: usize,
-    charge: u32,
     k: usize,
 ) -> AfterCommit
-    requires { ⌜ CommittingAt (now deck) counts (now rules) (now parts) (now memo) (heldOf (now index) (now pool)) capacity
-        (now values) used charge k ⌝ }
-    ensures { λ r. ⌜ Commits (deckOf (now (deck .entry))) (shape (now (rules .entry)) (now (parts .entry)) counts) capacity k
-        (heldOf (now (index .entry)) (now (pool .entry))) (now (values .entry)) used charge (now (memo .exit))
-        (heldOf (now (index .exit)) (now (pool .exit))) (now (values .exit)) (r .used) (r .charge) (r .applied) ⌝ }
+    requires { ⌜ CommittingAt (now deck) counts (now rules) (now parts) (now memo) (heldOf (now index) (now pool)) (queue .capacity)
+        (now values) (queue .used) (queue .charge) k ⌝ }
+    ensures { λ r. ⌜ Commits (deckOf (now (deck .entry))) (shape (now (rules .entry)) (now (parts .entry)) counts) (queue .capacity) k
+        (heldOf (now (index .entry)) (now (pool .entry))) (now (values .entry)) (queue .used) (queue .charge) (now (memo .exit))
+        (heldOf (now (index .exit)) (now (pool .exit))) (now (values .exit)) (r .queue .used) (r .queue .charge) (r .applied)
+        × (r .queue .capacity ≡ queue .capacity - 1) ⌝ }
 {
     let mut back = [0i32; 2 * Deck::ASSIGNMENTS];
     let found = look(counts, rules, parts, memo, pool, values, &mut back, k);
     pool_holes::empty(pool, k);
-    let left = charge - found.charge;
-    let held = 2 * found.count;
-    finish(
+    let part = found.part;
+    let left = Queue {
+        used: queue.used,
+        charge: queue.charge - found.charge,
+        capacity: queue.capacity - 1,
+        full: false,
+    };
+    if !passing_tests::within(deck, counts, parts, values, part) {
+        let held = 2 * found.count;
+        firing_actions::assign_pairs(values, part, &back[..held]);
+        return AfterCommit {
+            queue: left,
+            applied: false,
+        };
+    }
+    let channels = found.changed;
+    let change = Change { part, channels };
+    let after = firing_rules::react(
         deck,
         counts,
         rules,
@@ -157,14 +119,14 @@ pub fn commit(
         memo,
         index,
         pool,
-        capacity - 1,
-        &back[..held],
-        values,
-        found.part,
-        found.changed,
-        used,
         left,
-    )
+        values,
+        change,
+    );
+    AfterCommit {
+        queue: after,
+        applied: true,
+    }
 }
 
 // Whether a commit may take a place: every pending one.

@@ -2,4 +2,3 @@
 pub mod Queue
 pub mod Kept
 pub mod Adding
-pub mod Offers

@@ -1,80 +1,70 @@
 // The firing: the updates that the active rules add when channels of a part changed. The definitions are in `firing`.
 ghost use mathlib.Core.Path.{_≡_};
+ghost use mathlib.Core.Bool.{true, not};
 ghost use Prim.Native.Nat.{_<_};
 ghost use lib.ListN.{length};
-ghost use Rattle.lists.specs.Lists.{flatMap};
+ghost use Rattle.lists.specs.Lists.{flatMap, isEmpty};
 ghost use Rattle.deck.specs.Deck.{ruleAt};
 ghost use Rattle.deck.specs.Laws.Forms.{NoDefaults};
 ghost use Rattle.charge.specs.Charge.{others};
 ghost use Rattle.passing.specs.Tabled.{deckOf, Tabled};
 ghost use Rattle.passing.specs.Judged.{shape};
-ghost use Rattle.firing.specs.Firing.{firedHere, firedThere};
 ghost use Rattle.firing_queue.specs.Queue.{heldOf, Offering, Offered};
-ghost use Rattle.firing_rules.specs.Reactions.{FiresAll, Reacting, Reacts};
+ghost use Rattle.firing_rules.specs.Reactions.{adds, firedIn, Tasked, Made, FiresAll, Reacting, Reacts};
 use deck::Deck;
 use firing_queue::Queue;
 
-// What rule r at part p adds to p itself: its action, for kind 0 with the condition true. A new deck has no default actions.
-fn fire_here(
-    deck: &[u8],
-    counts: Deck,
-    rules: &[u64],
-    parts: &[u64],
-    memo: &mut [u32],
-    index: &mut [u16],
-    pool: &mut [i32],
-    capacity: u32,
-    queue: Queue,
-    values: &[i32],
-    p: usize,
-    r: usize,
-) -> Queue
-    requires { ⌜ Tabled (now deck) counts (now rules) (now parts)
-        × Offering (now rules) (now parts) counts capacity (now memo) (heldOf (now index) (now pool)) queue
-        × (length (now values) ≡ 512) × (p < counts .parts) × (r < counts .rules) × NoDefaults (deckOf (now deck)) ⌝ }
-    ensures { λ q. ⌜ Offered (shape (now (rules .entry)) (now (parts .entry)) counts) capacity
-        (firedHere (now (values .entry)) p (ruleAt (deckOf (now (deck .entry))) r))
-        (heldOf (now (index .entry)) (now (pool .entry))) queue (now (memo .exit)) (heldOf (now (index .exit)) (now (pool .exit))) q ⌝ }
-{
-    if rules[Deck::RULE_ROW * r + 3] == 1 {
-        return queue;
-    }
-    let from = Deck::CHANNELS * p;
-    let to = from + counts.channels;
-    let own = &values[from..to];
-    let far = &values[0..0];
-    if passing_tests::truth_from(
-        deck,
-        rules[Deck::RULE_ROW * r + 5] as usize,
-        values,
-        from,
-        counts.channels,
-        0,
-        0,
-    ) {
-        let action = rules[Deck::RULE_ROW * r + 6] as usize;
-        firing_queue::offer(
-            deck,
-            counts,
-            rules,
-            parts,
-            memo,
-            index,
-            pool,
-            capacity,
-            queue,
-            action,
-            p,
-            own,
-            far,
-        )
-    } else {
-        queue
-    }
+// A rule at part `from` whose action goes to part `to`.
+struct Task {
+    rule: usize,
+    from: usize,
+    to: usize,
 }
 
-// What rule r of kind 1 at part p adds to part q.
-fn fire_there(
+// Whether the rule adds an update there: its action is not empty and its condition is true. A rule of kind 0 reads no far channels,
+// one of kind 1 as many as there are.
+fn sends(deck: &[u8], counts: Deck, rules: &[u64], values: &[i32], task: Task) -> bool
+    requires { ⌜ Tasked (now deck) counts (now rules) (now values) (task .from) (task .to) (task .rule) ⌝ }
+    ensures { λ b. ⌜ b ≡ not (isEmpty (adds (now (values .entry)) (task .from) (task .to)
+        (ruleAt (deckOf (now (deck .entry))) (task .rule)))) ⌝ }
+{
+    let r = task.rule;
+    let action = rules[Deck::RULE_ROW * r + 6] as usize;
+    if deck[action] == 0 {
+        return false;
+    }
+    let condition = rules[Deck::RULE_ROW * r + 5] as usize;
+    let kind = rules[Deck::RULE_ROW * r + 3] as usize;
+    let channels = counts.channels;
+    let fars = channels * kind;
+    let own = Deck::CHANNELS * task.from;
+    let far = Deck::CHANNELS * task.to;
+    passing_tests::truth_from(deck, condition, values, own, channels, far, fars)
+}
+
+// The update that it adds there.
+fn made(deck: &[u8], counts: Deck, rules: &[u64], values: &[i32], task: Task) -> [i32; Deck::PLACE]
+    requires { ⌜ Tasked (now deck) counts (now rules) (now values) (task .from) (task .to) (task .rule)
+        × (not (isEmpty (adds (now values) (task .from) (task .to) (ruleAt (deckOf (now deck)) (task .rule)))) ≡ true) ⌝ }
+    ensures { λ row. ⌜ Made (deckOf (now (deck .entry))) (now (values .entry)) (task .from) (task .to)
+        (ruleAt (deckOf (now (deck .entry))) (task .rule)) row ⌝ }
+{
+    let r = task.rule;
+    let action = rules[Deck::RULE_ROW * r + 6] as usize;
+    let kind = rules[Deck::RULE_ROW * r + 3] as usize;
+    let channels = counts.channels;
+    let fars = channels * kind;
+    let from = Deck::CHANNELS * task.from;
+    let end = from + channels;
+    let own = &values[from..end];
+    let far_from = Deck::CHANNELS * task.to;
+    let far_end = far_from + fars;
+    let far = &values[far_from..far_end];
+    firing_actions::evaluate(deck, action, task.to, own, far)
+}
+
+// A rule's action at one part.
+fn fire_to(
     deck: &[u8],
     counts: Deck,
     rules: &[u64],
@@ -82,60 +72,32 @@ fn fire_there(
     memo: &mut [u32],
     index: &mut [u16],
     pool: &mut [i32],
-    capacity: u32,
     queue: Queue,
     values: &[i32],
-    p: usize,
-    r: usize,
-    q: usize,
+    task: Task,
 ) -> Queue
     requires { ⌜ Tabled (now deck) counts (now rules) (now parts)
-        × Offering (now rules) (now parts) counts capacity (now memo) (heldOf (now index) (now pool)) queue × (length (now values) ≡ 512)
-        × (p < counts .parts) × (r < counts .rules) × (q < counts .parts) ⌝ }
-    ensures { λ s. ⌜ Offered (shape (now (rules .entry)) (now (parts .entry)) counts) capacity
-        (firedThere (now (values .entry)) p (ruleAt (deckOf (now (deck .entry))) r) q)
+        × Offering (now rules) (now parts) counts (now memo) (heldOf (now index) (now pool)) queue
+        × (length (now values) ≡ 512) × (task .from < counts .parts) × (task .to < counts .parts) × (task .rule < counts .rules) ⌝ }
+    ensures { λ s. ⌜ Offered (shape (now (rules .entry)) (now (parts .entry)) counts)
+        (adds (now (values .entry)) (task .from) (task .to) (ruleAt (deckOf (now (deck .entry))) (task .rule)))
         (heldOf (now (index .entry)) (now (pool .entry))) queue (now (memo .exit)) (heldOf (now (index .exit)) (now (pool .exit))) s ⌝ }
 {
-    if rules[Deck::RULE_ROW * r + 3] != 1 {
+    if !sends(deck, counts, rules, values, task) {
         return queue;
     }
-    let from = Deck::CHANNELS * p;
-    let to = from + counts.channels;
-    let own = &values[from..to];
-    let start = Deck::CHANNELS * q;
-    let end = start + counts.channels;
-    let far = &values[start..end];
-    if passing_tests::truth_from(
-        deck,
-        rules[Deck::RULE_ROW * r + 5] as usize,
-        values,
-        from,
-        counts.channels,
-        start,
-        counts.channels,
-    ) {
-        let action = rules[Deck::RULE_ROW * r + 6] as usize;
-        firing_queue::offer(
-            deck,
-            counts,
-            rules,
-            parts,
-            memo,
-            index,
-            pool,
-            capacity,
-            queue,
-            action,
-            q,
-            own,
-            far,
-        )
-    } else {
-        queue
-    }
+    let row = made(deck, counts, rules, values, task);
+    firing_queue::add(counts, rules, parts, memo, index, pool, queue, &row)
 }
 
-// The same for every other part in rising number.
+// A rule's turn at a part: in the first half of the firing it adds to the part itself, in the second half to the others.
+struct Turn {
+    rule: usize,
+    part: usize,
+    others: bool,
+}
+
+// A rule's action at every other part, in rising number.
 fn fire_others(
     deck: &[u8],
     counts: Deck,
@@ -144,25 +106,27 @@ fn fire_others(
     memo: &mut [u32],
     index: &mut [u16],
     pool: &mut [i32],
-    capacity: u32,
     queue: Queue,
     values: &[i32],
-    p: usize,
-    r: usize,
+    turn: Turn,
 ) -> Queue
     requires { ⌜ Tabled (now deck) counts (now rules) (now parts)
-        × Offering (now rules) (now parts) counts capacity (now memo) (heldOf (now index) (now pool)) queue × (length (now values) ≡ 512)
-        × (p < counts .parts) × (r < counts .rules) ⌝ }
-    ensures { λ s. ⌜ Offered (shape (now (rules .entry)) (now (parts .entry)) counts) capacity
-        (flatMap (firedThere (now (values .entry)) p (ruleAt (deckOf (now (deck .entry))) r)) (others (deckOf (now (deck .entry))) p))
+        × Offering (now rules) (now parts) counts (now memo) (heldOf (now index) (now pool)) queue
+        × (length (now values) ≡ 512) × (turn .part < counts .parts) × (turn .rule < counts .rules) ⌝ }
+    ensures { λ s. ⌜ Offered (shape (now (rules .entry)) (now (parts .entry)) counts)
+        (flatMap (λ q. adds (now (values .entry)) (turn .part) q (ruleAt (deckOf (now (deck .entry))) (turn .rule)))
+        (others (deckOf (now (deck .entry))) (turn .part)))
         (heldOf (now (index .entry)) (now (pool .entry))) queue (now (memo .exit)) (heldOf (now (index .exit)) (now (pool .exit))) s ⌝ }
 {
+    let rule = turn.rule;
+    let from = turn.part;
     let n = counts.parts;
     let mut out = queue;
-    let mut q: usize = 0;
-    while q < n {
-        if q != p {
-            out = fire_there(
+    let mut to: usize = 0;
+    while to < n {
+        if to != from {
+            let task = Task { rule, from, to };
+            out = fire_to(
                 deck,
                 counts,
                 rules,
@@ -170,21 +134,19 @@ fn fire_others(
                 memo,
                 index,
                 pool,
-                capacity,
                 out,
                 values,
-                p,
-                r,
-                q,
+                task,
             );
         }
-        q += 1;
+        to += 1;
     }
     out
 }
 
-// The first half of the firing: each rule of the set, in rule order, adds to p itself.
-fn fire_all_here(
+// What a rule adds in its turn: one of kind 1 has nothing to add in the first half, one of kind 0 nothing in the second. A new deck
+// has no default actions.
+fn fire_rule(
     deck: &[u8],
     counts: Deck,
     rules: &[u64],
@@ -192,27 +154,98 @@ fn fire_all_here(
     memo: &mut [u32],
     index: &mut [u16],
     pool: &mut [i32],
-    capacity: u32,
     queue: Queue,
     values: &[i32],
-    p: usize,
-    set: u64,
+    turn: Turn,
 ) -> Queue
     requires { ⌜ Tabled (now deck) counts (now rules) (now parts)
-        × Offering (now rules) (now parts) counts capacity (now memo) (heldOf (now index) (now pool)) queue
-        × (length (now values) ≡ 512) × (p < counts .parts) × NoDefaults (deckOf (now deck)) ⌝ }
-    ensures { λ s. ⌜ FiresAll (deckOf (now (deck .entry))) (λ r. firedHere (now (values .entry)) p r) p set
-        (shape (now (rules .entry)) (now (parts .entry)) counts) capacity (heldOf (now (index .entry)) (now (pool .entry))) queue
+        × Offering (now rules) (now parts) counts (now memo) (heldOf (now index) (now pool)) queue
+        × (length (now values) ≡ 512) × (turn .part < counts .parts) × (turn .rule < counts .rules) × NoDefaults (deckOf (now deck)) ⌝ }
+    ensures { λ s. ⌜ Offered (shape (now (rules .entry)) (now (parts .entry)) counts)
+        (firedIn (deckOf (now (deck .entry))) (now (values .entry)) (turn .part) (turn .others)
+        (ruleAt (deckOf (now (deck .entry))) (turn .rule)))
+        (heldOf (now (index .entry)) (now (pool .entry))) queue (now (memo .exit)) (heldOf (now (index .exit)) (now (pool .exit))) s ⌝ }
+{
+    let rule = turn.rule;
+    let from = turn.part;
+    if rules[Deck::RULE_ROW * rule + 3] == 1 {
+        if turn.others {
+            return fire_others(
+                deck,
+                counts,
+                rules,
+                parts,
+                memo,
+                index,
+                pool,
+                queue,
+                values,
+                turn,
+            );
+        }
+        return queue;
+    }
+    if turn.others {
+        return queue;
+    }
+    let task = Task {
+        rule,
+        from,
+        to: from,
+    };
+    fire_to(
+        deck,
+        counts,
+        rules,
+        parts,
+        memo,
+        index,
+        pool,
+        queue,
+        values,
+        task,
+    )
+}
+
+// The rules that have a turn at a part, in one half of the firing.
+struct Half {
+    part: usize,
+    set: u64,
+    others: bool,
+}
+
+// One half of the firing: each rule of the set has its turn, in rule order.
+fn fire_all(
+    deck: &[u8],
+    counts: Deck,
+    rules: &[u64],
+    parts: &[u64],
+    memo: &mut [u32],
+    index: &mut [u16],
+    pool: &mut [i32],
+    queue: Queue,
+    values: &[i32],
+    half: Half,
+) -> Queue
+    requires { ⌜ Tabled (now deck) counts (now rules) (now parts)
+        × Offering (now rules) (now parts) counts (now memo) (heldOf (now index) (now pool)) queue
+        × (length (now values) ≡ 512) × (half .part < counts .parts) × NoDefaults (deckOf (now deck)) ⌝ }
+    ensures { λ s. ⌜ FiresAll (deckOf (now (deck .entry)))
+        (firedIn (deckOf (now (deck .entry))) (now (values .entry)) (half .part) (half .others)) (half .part) (half .set)
+        (shape (now (rules .entry)) (now (parts .entry)) counts) (heldOf (now (index .entry)) (now (pool .entry))) queue
         (now (memo .exit)) (heldOf (now (index .exit)) (now (pool .exit))) s
-        × Offering (now (rules .entry)) (now (parts .entry)) counts capacity (now (memo .exit))
+        × Offering (now (rules .entry)) (now (parts .entry)) counts (now (memo .exit))
         (heldOf (now (index .exit)) (now (pool .exit))) s ⌝ }
 {
     let n = counts.rules;
+    let part = half.part;
+    let others = half.others;
     let mut out = queue;
-    let mut left = set;
-    let mut r = lists::lowest(left);
-    while r < n {
-        out = fire_here(
+    let mut left = half.set;
+    let mut rule = lists::lowest(left);
+    while rule < n {
+        let turn = Turn { rule, part, others };
+        out = fire_rule(
             deck,
             counts,
             rules,
@@ -220,67 +253,23 @@ fn fire_all_here(
             memo,
             index,
             pool,
-            capacity,
             out,
             values,
-            p,
-            r,
+            turn,
         );
         left = lists::rest(left);
-        r = lists::lowest(left);
+        rule = lists::lowest(left);
     }
     out
 }
 
-// The second half: each rule of the set that is of kind 1, in rule order, goes to every other part.
-fn fire_all_others(
-    deck: &[u8],
-    counts: Deck,
-    rules: &[u64],
-    parts: &[u64],
-    memo: &mut [u32],
-    index: &mut [u16],
-    pool: &mut [i32],
-    capacity: u32,
-    queue: Queue,
-    values: &[i32],
-    p: usize,
-    set: u64,
-) -> Queue
-    requires { ⌜ Tabled (now deck) counts (now rules) (now parts)
-        × Offering (now rules) (now parts) counts capacity (now memo) (heldOf (now index) (now pool)) queue × (length (now values) ≡ 512)
-        × (p < counts .parts) ⌝ }
-    ensures { λ s. ⌜ FiresAll (deckOf (now (deck .entry)))
-        (λ r. flatMap (firedThere (now (values .entry)) p r) (others (deckOf (now (deck .entry))) p)) p set
-        (shape (now (rules .entry)) (now (parts .entry)) counts) capacity (heldOf (now (index .entry)) (now (pool .entry))) queue
-        (now (memo .exit)) (heldOf (now (index .exit)) (now (pool .exit))) s ⌝ }
-{
-    let n = counts.rules;
-    let mut out = queue;
-    let mut left = set;
-    let mut r = lists::lowest(left);
-    while r < n {
-        out = fire_others(
-            deck,
-            counts,
-            rules,
-            parts,
-            memo,
-            index,
-            pool,
-            capacity,
-            out,
-            values,
-            p,
-            r,
-        );
-        left = lists::rest(left);
-        r = lists::lowest(left);
-    }
-    out
+// The channels of a part that changed, as a set.
+pub struct Change {
+    pub part: usize,
+    pub channels: u64,
 }
 
-// The firing that follows when channels of part p changed, reading the new values, with the pending updates that the pool holds.
+// The firing that follows a change, reading the new values, with the pending updates that the pool holds.
 pub fn react(
     deck: &[u8],
     counts: Deck,
@@ -289,37 +278,31 @@ pub fn react(
     memo: &mut [u32],
     index: &mut [u16],
     pool: &mut [i32],
-    capacity: u32,
-    used: usize,
-    charge: u32,
+    queue: Queue,
     values: &[i32],
-    p: usize,
-    changed: u64,
+    change: Change,
 ) -> Queue
-    requires { ⌜ Reacting (now deck) counts (now rules) (now parts) (now memo) (heldOf (now index) (now pool)) capacity used charge
-        × (length (now values) ≡ 512) × (p < counts .parts) ⌝ }
-    ensures { λ r. ⌜ Reacts (deckOf (now (deck .entry))) (shape (now (rules .entry)) (now (parts .entry)) counts) capacity used charge
-        (now (values .entry)) p changed (heldOf (now (index .entry)) (now (pool .entry))) (now (memo .exit))
+    requires { ⌜ Reacting (now deck) counts (now rules) (now parts) (now memo) (heldOf (now index) (now pool)) queue
+        × (length (now values) ≡ 512) × (change .part < counts .parts) ⌝ }
+    ensures { λ r. ⌜ Reacts (deckOf (now (deck .entry))) (shape (now (rules .entry)) (now (parts .entry)) counts) (now (values .entry))
+        (change .part) (change .channels) (heldOf (now (index .entry)) (now (pool .entry))) queue (now (memo .exit))
         (heldOf (now (index .exit)) (now (pool .exit))) r ⌝ }
 {
-    let queue = Queue {
-        used: used,
-        charge: charge,
-        full: false,
-    };
+    let part = change.part;
     let set = charge_listeners::active(
         rules,
         parts,
         counts.channels,
         counts.rules,
         counts.parts,
-        p,
-        changed,
+        part,
+        change.channels,
     );
     if set == 0 {
         return queue;
     }
-    let first = fire_all_here(
+    let mut others = false;
+    let first = fire_all(
         deck,
         counts,
         rules,
@@ -327,13 +310,12 @@ pub fn react(
         memo,
         index,
         pool,
-        capacity,
         queue,
         values,
-        p,
-        set,
+        Half { part, set, others },
     );
-    fire_all_others(
+    others = true;
+    fire_all(
         deck,
         counts,
         rules,
@@ -341,10 +323,8 @@ pub fn react(
         memo,
         index,
         pool,
-        capacity,
         first,
         values,
-        p,
-        set,
+        Half { part, set, others },
     )
 }

@@ -34,7 +34,7 @@ use Rattle.firing_queue.specs.Laws.Kept.{kept-laid}
 use Rattle.firing_rules.specs.Reactions.{Reacting, Reacted, Reacts}
 use Rattle.firing_rules.specs.Laws.Reacting.{changed-low}
 use Rattle.firing_queue.specs.Stored.{Stored}
-use Rattle.firing_commits.specs.Laws.Committing.{charge-same}
+use Rattle.firing_commits.specs.Laws.Committing.{leftIn, charge-same}
 use Rattle.calls.specs.Calls.{Answer, added, Done, goodInput}
 use Rattle.calls_tests.specs.Laws.Entering.{enter-room}
 use Rattle.calls_tests.specs.Tested.{Entering, Left}
@@ -83,17 +83,17 @@ record Written (d : Deck) (C : ℕ) (us new : List Update) (pool : List ℤ) (q 
   pub room : q .full ≡ false → (us ++ extra ≡ enqueue us new) × (q .charge ≡ charge d (us ++ extra)) × (q .charge ≤ C)
   pub over : q .full ≡ true → C < charge d (enqueue us new)
 
-grown-written : {d : Deck} {C : ℕ} {us new : List Update} {held : Held} {q : Queue} → Grown d C (whole us) new held q
-    → Written d C us new (held .pool) q
-grown-written {d} {C} {us} {new} {held} {q} g =
+grown-written : {d : Deck} {C : ℕ} {us new : List Update} {held : Held} {q : Queue} → q .capacity ≡ C
+    → Grown d (whole us) new held q → Written d C us new (held .pool) q
+grown-written {d} {C} {us} {new} {held} {q} c g =
     let same = sym (whole-append us (g .extra)) in
     record {
       extra = g .extra;
       laid = kept-laid (subst (λ l. Kept l held) same (g .kept));
       used = g .used ∙ ap length same ∙ whole-length (us ++ g .extra);
       room = λ f. subst (λ l. (l ++ g .extra ≡ enqueue l new) × (q .charge ≡ charge d (l ++ g .extra)) × (q .charge ≤ C))
-          (whole-standing us) (g .room f);
-      over = λ f. subst (λ l. C < charge d (enqueue l new)) (whole-standing us) (g .over f);
+          (whole-standing us) (let r = g .room f in (r .0, r .1, omega (arith, r .2, c)));
+      over = λ f. subst (λ l. C < charge d (enqueue l new)) (whole-standing us) (omega (arith, g .over f, c));
     }
 
 -- the end of a pool, cleared
@@ -121,7 +121,7 @@ module _ {s : List ℕ} {k : Counted.Deck} {rules parts memo index : List ℕ} {
   pub enter-long : length vs ≡ 512
   enter-long = ap length (w .stored .values) ∙ w .stored .fine .long
 
-  pub enter-reacting : Reacting s k rules parts memo (heldOf index pool) C pending total
+  pub enter-reacting : Reacting s k rules parts memo (heldOf index pool) (leftIn pending total C)
   unfolding capacity
   enter-reacting =
       let st = w .stored in
@@ -135,6 +135,7 @@ module _ {s : List ℕ} {k : Counted.Deck} {rules parts memo index : List ℕ} {
         count = st .count;
         charged = st .charged ∙ sym (charge-same s rules parts k (w .tabled) (w .machine .pending)) ∙ ap (charge e) (sym (st .stands));
         within = omega (arith, st .charged, st .fine .bounded);
+        not-full = refl;
       }
 
   pub enter-low : {p : ℕ} → p < k .parts → p < 16
@@ -195,8 +196,8 @@ module _ {s : List ℕ} {k : Counted.Deck} {rules parts memo index : List ℕ} {
             ∙ ap (λ a. maskOf (changed d p vs a)) (sym is)
 
         module _ {m index₁ : List ℕ} {pool₁ : List ℤ} {q : Queue}
-            (react : Reacts d e C pending total after p mask (heldOf index pool) m (heldOf index₁ pool₁) q) where
-          r : Reacted d e C pending total after p (changed d p vs after) (heldOf index pool) m (heldOf index₁ pool₁) q
+            (react : Reacts d e after p mask (heldOf index pool) (leftIn pending total C) m (heldOf index₁ pool₁) q) where
+          r : Reacted d e after p (changed d p vs after) (heldOf index pool) (leftIn pending total C) m (heldOf index₁ pool₁) q
           r = react (changed d p vs after) (changed-low d p vs after (w .tabled .counts .formed .channels)) changes
 
           module _ (x : Machine) (st : Stored d (capacity (length pool)) (whole (x .pending)) x vs pending total (heldOf index pool)) where
@@ -221,7 +222,7 @@ module _ {s : List ℕ} {k : Counted.Deck} {rules parts memo index : List ℕ} {
 
             grown : Written e C (x .pending) new pool₁ q
             grown =
-                grown-written (r .grown (whole (x .pending)) (st .kept) (st .count)
+                grown-written (r .capacity) (r .grown (whole (x .pending)) (st .kept) (st .count)
                 (st .charged ∙ sym (charge-same s rules parts k (w .tabled) (x .pending)) ∙ ap (charge e) (sym (st .stands))))
 
             same-pending : enqueue (x .pending) new ≡ y .pending

@@ -1,8 +1,7 @@
--- `calls_lent::call_lent` meets its contract: the tables are as long as the deck needs them, and the rest is the same. Assumes
--- nothing.
-use mathlib.Core.Path.{refl}
+-- `calls_lent::call_lent` meets its contract: what is looked up of the deck decides on the tables. Assumes nothing.
+use mathlib.Core.Path.{subst}
 use borrow.Author.Needs.{needs}
-use Rattle.passing.specs.Laws.Tables.{zero-rules, zero-memo}
+use Rattle.deck.specs.Marks.{FewRules}
 use Rattle.calls_lent.proofs.call_lent.Statement.{statement}
 use Rattle.calls_lent.proofs.call_lent.Tie as tie
 
@@ -12,37 +11,9 @@ call-lent-spec =
     tie.close
     (tie.spec
     (λ c κs. search needs)
-    (λ c. refl)
-    (λ c. refl)
-    (λ c κs.
-    let l = c .before .before .before .before .before in
-    let i = l .before in
-    let few = i .before .few-rules .ensures in
-    (l .if2 .taken, zero-rules _ few (i .if1 .taken), zero-memo _ few (i .if1 .taken)))
+    (λ c κs. let i = c .before .before .before in subst (FewRules _) (i .if1 .taken) (i .before .few-rules .ensures))
     (λ c. search needs)
-    (λ c. c .before .before .before .call-short .ensures)
-    (λ c. refl)
-    (λ c. refl)
-    (λ c κs.
-    let i = c .before .before .before .before .before .before in
-    let few = i .before .few-rules .ensures in
-    (zero-rules _ few (i .if1 .taken), zero-memo _ few (i .if1 .taken)))
+    (λ c. c .before .call-few .ensures)
+    (λ c κs. let i = c .before .before .before in subst (FewRules _) (i .if1 .left) (i .before .few-rules .ensures))
     (λ c. search needs)
-    (λ c. c .before .before .before .call-long .ensures)
-    (λ c. refl)
-    (λ c. refl)
-    (λ c κs.
-    let l = c .before .before .before .before .before in
-    let i = l .before in
-    let few = i .before .few-rules .ensures in
-    (l .if3 .taken, zero-rules _ few (i .if1 .left), zero-memo _ few (i .if1 .left)))
-    (λ c. search needs)
-    (λ c. c .before .before .before .call-short2 .ensures)
-    (λ c. refl)
-    (λ c. refl)
-    (λ c κs.
-    let i = c .before .before .before .before .before .before in
-    let few = i .before .few-rules .ensures in
-    (zero-rules _ few (i .if1 .left), zero-memo _ few (i .if1 .left)))
-    (λ c. search needs)
-    (λ c. c .before .before .before .call-long2 .ensures))
+    (λ c. c .before .call-many .ensures))

@@ -1,7 +1,7 @@
 -- `calls_lent::call_long` meets its contract: the index is long enough, and the rest is the same. Assumes nothing.
 use mathlib.Core.Path.{refl}
 use borrow.Author.Needs.{needs}
-use Rattle.calls_tests.specs.Laws.Tested.{usable-long, usable-longer, usable}
+use Rattle.calls_tests.specs.Laws.Tested.{usable-long, usable-longer}
 use Rattle.calls_lent.proofs.call_long.Statement.{statement}
 use Rattle.calls_lent.proofs.call_long.Tie as tie
 
@@ -28,11 +28,11 @@ call-long-spec =
     (λ c. search needs)
     (λ c. search needs)
     (λ c. c .before .before .before .before .before .before .call-on2 .ensures)
-    (λ c. refl)
     (λ c κs.
-    let s = c .before .before .before .before .before .before .before .before .before .before .before in
-    (usable _, s .pre .0, s .pre .1))
+    let i = c .before .before .before .before .before in
+    let s = i .before .before .before .before .before in
+    (s .pre .0, s .pre .1))
     (λ c. search needs)
     (λ c. search needs)
     (λ c. search needs)
-    (λ c. c .before .before .before .before .before .before .call-on3 .ensures))
+    (λ c. c .before .before .before .before .before .call-longest .ensures))

@@ -9,23 +9,26 @@ call-tested-spec =
     tie.close
     (tie.spec
     (λ c. search needs)
-    (λ c κs. c .before .before .before .before .before .before .before .before .before .before .before .before .before .pre)
+    (λ c κs. let m = c .before .before .before .before .before .before in m .before .before .before .before .before .before .pre)
     (λ c. search needs)
-    (λ c κs. c .before .before .before .before .before .before .before .before .before .before .before .before .before .pre)
+    (λ c κs. let m = c .before .before .before .before .before .before in m .before .before .before .before .before .before .pre)
     (λ c. search needs)
-    (λ c κs. c .before .before .before .before .before .before .before .before .before .before .before .before .before .pre)
-    (λ c. search needs)
-    (λ c. search needs)
-    (λ c. search needs)
-    (λ c. rw (c .before .before .before .before .before .before .before .before .before .before .before .before .request .given .1)
-    (c .before .before .before .before .before .input-tested .ensures))
+    (λ c κs. let m = c .before .before .before .before .before .before in m .before .before .before .before .before .before .pre)
     (λ c. search needs)
     (λ c. search needs)
     (λ c. search needs)
-    (λ c. rw (c .before .before .before .before .before .before .before .before .before .before .before .before .request2 .given .1)
-    (c .before .before .before .before .before .commit-tested .ensures))
+    (λ c.
+    let f = c .before .before .before .before .before in
+    rw (f .before .before .before .before .before .before .request .given .1) (f .input-tested .ensures))
     (λ c. search needs)
     (λ c. search needs)
     (λ c. search needs)
-    (λ c. rw (c .before .before .before .before .before .before .before .before .before .before .before .before .request3 .given .1)
-    (c .before .before .before .before .before .settle-tested .ensures)))
+    (λ c.
+    let f = c .before .before .before .before .before in
+    rw (f .before .before .before .before .before .before .request2 .given .1) (f .commit-tested .ensures))
+    (λ c. search needs)
+    (λ c. search needs)
+    (λ c. search needs)
+    (λ c.
+    let f = c .before .before .before .before .before in
+    rw (f .before .before .before .before .before .before .request3 .given .1) (f .settle-tested .ensures)))

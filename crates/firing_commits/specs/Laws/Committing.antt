@@ -11,7 +11,9 @@ use Rattle.lists.specs.Bits.{maskOf}
 use Rattle.lists.specs.Laws.Alls.{allOf-weaken}
 use Rattle.deck.specs.Deck.{Deck}
 use Rattle.deck.specs.declared.Deck as Counted
+use Rattle.deck.specs.Laws.Forms.{NoDefaults}
 use Rattle.deck.specs.Laws.Shape.{shape-R, shape-N}
+use Rattle.graph.specs.Laws.Cycles.{Acyclic}
 use Rattle.charge.specs.Laws.Equations.{update-at-least-one}
 use Rattle.pool.specs.Updates.{Update, channels, valueAt, assign, charge}
 use Rattle.pool.specs.Places.{zeros, pairsOf}
@@ -27,19 +29,58 @@ use Rattle.passing.specs.Check.{within}
 use Rattle.passing.specs.Tabled.{deckOf, Tabled}
 use Rattle.passing.specs.Judged.{shape}
 use Rattle.firing.specs.Firing.{fired, changed, enqueue, setAndFire, pick, without, committed}
+use Rattle.firing.specs.Evaluated.{Assignable}
 use Rattle.firing.specs.Laws.Commits.{Known, pick-known, commit-falls, commit-fine, without-charge}
 use Rattle.charge.specs.Charge.{updateCharge}
-use Rattle.charge.specs.Memo.{capped}
+use Rattle.charge.specs.Memo.{Memo, Ready, capped}
 use Rattle.pool_index.specs.Index.{Roomy}
-use Rattle.firing_queue.specs.Queue.{Held, heldOf, Room, SameSize, Grown}
+use Rattle.firing_queue.specs.Queue.{Held, heldOf, Kept, Room, SameSize, Grown}
 use Rattle.firing_queue.specs.Laws.Kept.{standing-behind, kept-emptied}
 use Rattle.firing_rules.specs.Reactions.{Reacting, Reacted, Reacts}
 use Rattle.firing_queue.specs.Stored.{Stored, Committing}
-use Rattle.firing_commits.specs.Commits.{At, Looking, Looks, Without, Finishing, CommittedTo, Finishes, CommittingAt, Commits}
+use Rattle.firing_commits.specs.Commits.{At, Looking, Looks, CommittedTo, CommittingAt, Commits}
 use Rattle.firing_queue.specs.Laws.Queue.{same-size, size-then, room-same}
 use Rattle.firing_rules.specs.Laws.Reacting.{changed-low}
 use Rattle.firing_commits.specs.Laws.Looking.{taken-charge}
 use Rattle.firing_queue.specs.declared.Queue.{Queue}
+
+-- ---- the update is out of the pool
+
+-- update j was taken out of the pending ones of x and applied: the others are left in these slots, with room for C. The pairs of
+-- `back` set its channels back, and `mask` is the set of those that it changes
+pub record Without (d : Deck) (C j : ℕ) (x : Machine) (left : List Slot) (back after : List ℤ) (part mask used total : ℕ)
+    (held : Held) : Type 0 where
+  pub fine : Fine d (C + 1) x
+  pub inside : j < length (x .pending)
+  pub part-is : part ≡ pick j (x .pending) .part
+  pub after-is : after ≡ assign (pick j (x .pending) .part) (pick j (x .pending) .pairs) (x .values)
+  pub undone : assign part (pairsOf back) after ≡ x .values
+  pub changes : mask ≡ maskOf (changed d part (x .values) after)
+  pub stands : standing left ≡ without j (x .pending)
+  pub count : used ≡ length left
+  pub kept : Kept left held
+  pub charged : total ≡ charge d (without j (x .pending))
+
+pub record Finishing (s : List ℕ) (k : Counted.Deck) (rules parts memo : List ℕ) (held : Held) (C : ℕ) (back after : List ℤ)
+    (part mask used total : ℕ) : Type 0 where
+  pub tabled : Tabled s k rules parts
+  pub none : NoDefaults (deckOf s)
+  pub ready : Ready rules parts (k .channels) (k .rules) (k .parts) memo
+  pub acyclic : Acyclic (deckOf s)
+  pub assignable : Assignable back
+  pub number : ℕ
+  pub machine : Machine
+  pub left : List Slot
+  pub room : Room C (holes left) held
+  pub taken : Without (deckOf s) C number machine left back after part mask used total held
+
+-- the rest of a commit
+pub record Finishes (d e : Deck) (C : ℕ) (back after : List ℤ) (part mask used₀ total₀ : ℕ) (held₀ : Held) (m : List ℕ) (held : Held)
+    (values : List ℤ) (used total : ℕ) (applied : Bool) : Type 0 where
+  pub result : (j : ℕ) (x : Machine) (left : List Slot) → Without d C j x left back after part mask used₀ total₀ held₀
+      → CommittedTo d C j x left values used total held applied
+  pub memo : Memo e m
+  pub size : SameSize held₀ held
 
 -- ---- what the definition makes of place j
 
@@ -115,6 +156,10 @@ fine-narrower f E h =
 
 -- ---- the rest of a commit, when the update is out
 
+-- so much is left to go on with
+abbrev pub leftIn : ℕ → ℕ → ℕ → Queue
+leftIn used total C = record { used = used; charge = total; capacity = C; full = false }
+
 nothing-behind : (left : List Slot) → left ≡ left ++ whole []
 unfolding whole
 nothing-behind left = sym (append-nil left)
@@ -166,7 +211,7 @@ module _ {s : List ℕ} {k : Counted.Deck} {rules parts memo : List ℕ} {held :
       let some = update-at-least-one d (pick (w .number) (x .pending) .part) (channels (pick (w .number) (x .pending))) in
       omega (arith, t .charged, whole, some, t .fine .bounded)
 
-  pub finish-reacting : Reacting s k rules parts memo held C used total
+  pub finish-reacting : Reacting s k rules parts memo held (leftIn used total C)
   finish-reacting =
       let t = w .taken in
       record {
@@ -179,6 +224,7 @@ module _ {s : List ℕ} {k : Counted.Deck} {rules parts memo : List ℕ} {held :
         count = t .count;
         charged = left-charge (w .number) (w .machine) (w .left) t;
         within = left-low;
+        not-full = refl;
       }
 
   -- the update is discarded
@@ -210,18 +256,18 @@ module _ {s : List ℕ} {k : Counted.Deck} {rules parts memo : List ℕ} {held :
 
   -- it is applied, and the firing follows
   module _ {m : List ℕ} {held₂ : Held} {q : Queue} (yes : within d part now ≡ true)
-      (r : Reacts d e C used total now part mask held m held₂ q) where
+      (r : Reacts d e now part mask held (leftIn used total C) m held₂ q) where
     module _ (j : ℕ) (x : Machine) (left : List Slot) (t : Without d C j x left back now part mask used total held) where
-      followed : Reacted d e C used total now part (changed d part (x .values) now) held m held₂ q
+      followed : Reacted d e now part (changed d part (x .values) now) held (leftIn used total C) m held₂ q
       followed =
           r (changed d part (x .values) now) (changed-low d part (x .values) now (w .tabled .counts .formed .channels)) (t .changes)
 
-      grown-out : Grown e C left (new d j x) held₂ q
+      grown-out : Grown e left (new d j x) held₂ q
       grown-out =
           let g = followed .grown left (t .kept) (t .count) (left-charge j x left t) in
           let fresh : fired d now part (changed d part (x .values) now) ≡ new d j x
           = ap₂ (λ p a. fired d a p (changed d p (x .values) a)) (t .part-is) (t .after-is) in
-          subst (λ l. Grown e C left l held₂ q) fresh g
+          subst (λ l. Grown e left l held₂ q) fresh g
 
       applied-is : committed d j x
           ≡ record { applied = true; machine = record { values = after d j x; pending = enqueue (rest d j x) (new d j x) } }
@@ -242,7 +288,10 @@ module _ {s : List ℕ} {k : Counted.Deck} {rules parts memo : List ℕ} {held :
         where
           go : (b : Bool) → q .full ≡ b → q .full ≡ false
           go false f = f
-          go true f = absurd (omega (arith, grown-out .over f, same-charge, fine-after j x left t .bounded))
+          go true f = absurd (omega (arith, grown-out .over f, followed .capacity, same-charge, fine-after j x left t .bounded))
+
+    pub finish-capacity : q .capacity ≡ C
+    finish-capacity = followed (w .number) (w .machine) (w .left) (w .taken) .capacity
 
     pub finish-applied : Finishes d e C back now part mask used total held m held₂ now (q .used) (q .charge) true
     finish-applied =

@@ -18,7 +18,7 @@ use Rattle.firing_queue.proofs.add.Tie as tie
 abbrev start-of : tie.Else1 → tie.Start
 start-of c = c .before .before .before .before .before
 
-few : (c : tie.Else1) → start-of c .args .capacity ≤ 65535
+few : (c : tie.Else1) → start-of c .args .queue .capacity ≤ 65535
 few c = omega (arith, start-of c .pre .0 .room .bounded)
 
 returns : tie.Need-returns
@@ -66,6 +66,10 @@ new-of : (c : tie.After-place-charge) → let a = start-of (open-of c) .args in 
     ≡ false
 new-of c = found-of c .find .ensures .none (c .before .before .if2 .left)
 
+-- behind the test of the capacity
+abbrev charge-of : tie.Else3 → tie.After-place-charge
+charge-of c = c .before .before .before .before .before
+
 add-total : tie.Need-add-total
 add-total c =
     let k = c .before .before .before in
@@ -75,16 +79,17 @@ add-total c =
 
 returns-3 : tie.Need-returns-3
 returns-3 c =
-    let k = c .before .before .before .before .before in
+    let t = c .before in
+    let k = t .before .before .before .before .before in
     let f = open-of k in
     let s = start-of f in
     added-over (s .pre .1) (few f) (f .if1 .left) (new-of k) (k .place-charge .ensures)
-    (omega (arith, c .before .if3 .taken))
+    (omega (arith, t .if3 .taken))
     (c .over-capacity .ensures)
 
 push-requires : tie.Need-push-requires
 push-requires c κs =
-    let k = c .before .before .before .before .before in
+    let k = charge-of (c .before) in
     let f = open-of k in
     let s = start-of f in
     let o = s .pre .0 in (
@@ -93,48 +98,54 @@ push-requires c κs =
           (o .grown),
     )
 
--- one more fits
-fewer : (c : tie.After-push) → let s = start-of (open-of (c .before .before .before .before .before .before)) in
-    s .args .queue .used < holes (s .pre .0 .slots) + s .args .capacity
-fewer c =
-    let k = c .before .before .before .before .before .before in
-    let f = open-of k in
-    let s = start-of f in
-    let o = s .pre .0 in
-    added-few (s .pre .1) (few f) (f .if1 .left) (new-of k) (k .place-charge .ensures) (omega (arith, c .before .before .if3 .left))
-    (o .room) (o .grown)
+-- it is written
+module _ (c : tie.After-push) where
+  abbrev room-left : tie.Else3
+  room-left = c .before .before
 
--- its place can be entered where the search ended
-entering : (c : tie.After-push)
-    → let k = c .before .before .before .before .before .before in
-    let a = start-of (open-of k) .args in
-    Entering (a .queue .used) (a .row .now) (found-of k .find .result) (a .index .now)
-entering c =
-    let k = c .before .before .before .before .before .before in
-    let f = open-of k in
-    let s = start-of f in
-    let o = s .pre .0 in
-    added-entering (s .pre .1) (few f) (f .if1 .left) (new-of k) (k .place-charge .ensures) (omega (arith, c .before .before .if3 .left))
-    (o .room) (o .grown)
-    (found-of k .find .ensures .ends (k .before .before .if2 .left))
+  abbrev k : tie.After-place-charge
+  k = charge-of room-left
+
+  abbrev s : tie.Start
+  s = start-of (open-of k)
+
+  abbrev held : tie.Else1
+  held = open-of k
+
+  -- one more fits
+  fewer : s .args .queue .used < holes (s .pre .0 .slots) + s .args .queue .capacity
+  fewer =
+      added-few (s .pre .1) (few held) (held .if1 .left) (new-of k) (k .place-charge .ensures) (omega (arith, room-left .if3 .left))
+      (s .pre .0 .room) (s .pre .0 .grown)
+
+  -- its place can be entered where the search ended
+  entering : let a = s .args in Entering (a .queue .used) (a .row .now) (found-of k .find .result) (a .index .now)
+  entering =
+      added-entering (s .pre .1) (few held) (held .if1 .left) (new-of k) (k .place-charge .ensures) (omega (arith, room-left .if3 .left))
+      (s .pre .0 .room) (s .pre .0 .grown)
+      (found-of k .find .ensures .ends (k .before .before .if2 .left))
 
 note-requires : tie.Need-note-requires
 note-requires c κs =
     let p = c .before .before in
-    let s = start-of (open-of (p .before .before .before .before .before .before)) in
-    (omega (arith, fewer p, s .pre .0 .room .bounded), entering-inside (entering p))
+    (omega (arith, fewer p, s p .pre .0 .room .bounded), entering-inside (entering p))
+
+-- its place is entered
+abbrev noted-of : tie.After-struct-known3 → tie.After-note
+noted-of c = c .before .before .before
+
+abbrev pushed-of : tie.After-note → tie.After-push
+pushed-of n = n .before .before .before
 
 returns-4 : tie.Need-returns-4
 returns-4 c =
     let n = c .before .before .before in
     let p = n .before .before .before in
-    let k = p .before .before .before .before .before .before in
-    let f = open-of k in
-    let s = start-of f in
-    let o = s .pre .0 in
+    let f = open-of (k p) in
     rw (p .push .ensures, n .note .ensures)
-    (added-more (s .pre .1) (few f) (f .if1 .left) (new-of k) (k .place-charge .ensures) (omega (arith, p .before .before .if3 .left))
-    (o .room) (o .grown)
+    (added-more (s p .pre .1) (few f) (f .if1 .left) (new-of (k p)) (k p .place-charge .ensures)
+    (omega (arith, p .before .before .if3 .left))
+    (s p .pre .0 .room) (s p .pre .0 .grown)
     (entering-done (entering p)))
 
 pub add-spec : {M : Type 1} → statement M
@@ -149,17 +160,14 @@ add-spec =
     place-charge-requires
     add-total
     (λ c κs. search needs)
-    (λ c. c .before .before .before .before .before .place-charge .kept .1 .1 .0)
+    (λ c. c .before .before .before .before .before .before .place-charge .kept .1 .1 .0)
     (λ c. refl)
     (λ c. refl)
     returns-3
     push-requires
     note-requires
-    (λ c.
-    let p = c .before .before .before .before .before .before in
-    let s = start-of (open-of (p .before .before .before .before .before .before)) in
-    omega (arith, fewer p, s .pre .0 .room .bounded))
-    (λ c. c .before .before .before .before .before .before .before .before .before .before .before .before .place-charge .kept .1 .1 .0)
-    (λ c. c .before .before .before .note .kept .0)
-    (λ c. c .before .before .before .before .before .before .push .kept .0)
+    (λ c. let p = pushed-of (noted-of c) in omega (arith, fewer p, s p .pre .0 .room .bounded))
+    (λ c. k (pushed-of (noted-of c)) .place-charge .kept .1 .1 .0)
+    (λ c. noted-of c .note .kept .0)
+    (λ c. pushed-of (noted-of c) .push .kept .0)
     returns-4)

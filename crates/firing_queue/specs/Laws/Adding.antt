@@ -54,11 +54,14 @@ pushedTo held index n row = heldOf index (written (held .pool) (10 * n) row)
 
 -- ---- the counts, and the updates in the pool
 
-abbrev pub counted : ℕ → ℕ → Bool → Queue
-counted n c b = record { used = n; charge = c; full = b }
+abbrev pub counted : ℕ → ℕ → ℕ → Bool → Queue
+counted n c k b = record { used = n; charge = c; capacity = k; full = b }
 
-module _ {d : Deck} {C : ℕ} {slots : List Slot} {new : List Update} {held : Held} {q : Queue} (g : Grown d C slots new held q)
+module _ {d : Deck} {slots : List Slot} {new : List Update} {held : Held} {q : Queue} (g : Grown d slots new held q)
     (w : Update) where
+  abbrev C : ℕ
+  C = q .capacity
+
   -- what was pending at first
   abbrev us : List Update
   us = standing slots
@@ -67,12 +70,12 @@ module _ {d : Deck} {C : ℕ} {slots : List Slot} {new : List Update} {held : He
   over-still : q .full ≡ true → C < charge d (enqueue us (new ++ w ∷ []))
   over-still h = omega (arith, g .over h, last-grows d us new w)
 
-  grown-full : q .full ≡ true → Grown d C slots (new ++ w ∷ []) held q
+  grown-full : q .full ≡ true → Grown d slots (new ++ w ∷ []) held q
   grown-full h =
       record { extra = g .extra; kept = g .kept; used = g .used; room = λ e. contradiction h e; over = over-still }
 
   -- equal to one then pending
-  grown-same : isAmong w (us ++ g .extra) ≡ true → Grown d C slots (new ++ w ∷ []) held q
+  grown-same : isAmong w (us ++ g .extra) ≡ true → Grown d slots (new ++ w ∷ []) held q
   grown-same h =
       record {
         extra = g .extra;
@@ -102,7 +105,7 @@ module _ {d : Deck} {C : ℕ} {slots : List Slot} {new : List Update} {held : He
 
     module _ (few : C ≤ 65535) {c : ℕ} (e : c ≡ capped (updateCharge d (w .part) (channels w))) where
       -- its charge passes C
-      grown-over : C < q .charge + c → Grown d C slots (new ++ w ∷ []) held (counted (q .used) (q .charge) true)
+      grown-over : C < q .charge + c → Grown d slots (new ++ w ∷ []) held (counted (q .used) (q .charge) C true)
       grown-over l =
           let total = ap (charge d) one-more ∙ more-charge in
           record {
@@ -152,7 +155,7 @@ module _ {d : Deck} {C : ℕ} {slots : List Slot} {new : List Update} {held : He
           unfolding whole
           more-slots = append-assoc slots (whole (g .extra)) (holds w ∷ []) ∙ ap (λ l. slots ++ l) (sym (whole-append (g .extra) (w ∷ [])))
 
-          grown-more : Grown d C slots (new ++ w ∷ []) after (counted (q .used + 1) (q .charge + c) false)
+          grown-more : Grown d slots (new ++ w ∷ []) after (counted (q .used + 1) (q .charge + c) C false)
           grown-more =
               let there = append-assoc us (g .extra) (w ∷ []) in
               let total = ap (charge d) (sym there) ∙ more-charge ∙ ap (λ x. q .charge + x) (sym exact) in
@@ -167,8 +170,8 @@ module _ {d : Deck} {C : ℕ} {slots : List Slot} {new : List Update} {held : He
               }
 
 -- every pending one has a charge of at least 1
-pub few-used : {d : Deck} {C : ℕ} {slots : List Slot} {new : List Update} {held : Held} {q : Queue} (g : Grown d C slots new held q)
-    → q .full ≡ false → q .used ≤ holes slots + C
+pub few-used : {d : Deck} {slots : List Slot} {new : List Update} {held : Held} {q : Queue} (g : Grown d slots new held q)
+    → q .full ≡ false → q .used ≤ holes slots + q .capacity
 few-used {d} {slots = slots} g f =
     let r = g .room f in
     omega (arith, g .used, used-counted slots (g .extra), count-bounded d (standing slots ++ g .extra), r .1, r .2)
@@ -189,8 +192,8 @@ held-fits : {d : Deck} (row : List ℤ) → HoldsKnown d row → fits (holds (up
 unfolding fits
 held-fits {d} row h = and-both (held-short row h) (known-some d (updateOf row) (h .known))
 
-module _ {d : Deck} {C : ℕ} {held : Held} {q : Queue} {row : List ℤ} (h : HoldsKnown d row) where
-  among : {slots : List Slot} {new : List Update} (g : Grown d C slots new held q)
+module _ {d : Deck} {held : Held} {q : Queue} {row : List ℤ} (h : HoldsKnown d row) where
+  among : {slots : List Slot} {new : List Update} (g : Grown d slots new held q)
       → amongPlaces (q .used) (held .pool) row ≡ isAmong (updateOf row) (standing slots ++ g .extra)
   among {slots} g =
       ap₂ (λ n r. amongPlaces n (held .pool) r) (g .used) (sym (written-same row (h .written)))
@@ -198,37 +201,39 @@ module _ {d : Deck} {C : ℕ} {held : Held} {q : Queue} {row : List ℤ} (h : Ho
       ∙ ap (isAmong (updateOf row)) (standing-behind slots (g .extra))
 
   -- nothing more is taken
-  pub added-full : {m : List ℕ} → Memo d m → q .full ≡ true → Offered d C (updateOf row ∷ []) held q m held q
-  added-full r f = record { grows = λ slots new g. grown-full g (updateOf row) f; memo = r; size = same-size }
+  pub added-full : {m : List ℕ} → Memo d m → q .full ≡ true → Offered d (updateOf row ∷ []) held q m held q
+  added-full r f = record { grows = λ slots new g. grown-full g (updateOf row) f; capacity = refl; memo = r; size = same-size }
 
   -- it is pending already
-  pub added-same : {m : List ℕ} → Memo d m → amongPlaces (q .used) (held .pool) row ≡ true → Offered d C (updateOf row ∷ []) held q m held q
-  added-same r f = record { grows = λ slots new g. grown-same g (updateOf row) (sym (among g) ∙ f); memo = r; size = same-size }
+  pub added-same : {m : List ℕ} → Memo d m → amongPlaces (q .used) (held .pool) row ≡ true → Offered d (updateOf row ∷ []) held q m held q
+  added-same r f = record { grows = λ slots new g. grown-same g (updateOf row) (sym (among g) ∙ f); capacity = refl; memo = r; size = same-size }
 
-  module _ (few : C ≤ 65535) (f : q .full ≡ false) (a : amongPlaces (q .used) (held .pool) row ≡ false)
+  module _ (few : q .capacity ≤ 65535) (f : q .full ≡ false) (a : amongPlaces (q .used) (held .pool) row ≡ false)
       {m : List ℕ} {c : ℕ} (p : PlaceGives d row m c) where
     -- its charge is too much
-    pub added-over : {q′ : Queue} → C < q .charge + c → (q′ .used ≡ q .used) × (q′ .charge ≡ q .charge) × (q′ .full ≡ true)
-        → Offered d C (updateOf row ∷ []) held q m held q′
+    pub added-over : {q′ : Queue} → q .capacity < q .charge + c → (q′ .used ≡ q .used) × (q′ .charge ≡ q .charge) × (q′ .capacity ≡ q .capacity) × (q′ .full ≡ true)
+        → Offered d (updateOf row ∷ []) held q m held q′
     added-over {q′} l e =
-        subst (Offered d C (updateOf row ∷ []) held q m held) (same-queue e)
+        subst (Offered d (updateOf row ∷ []) held q m held) (same-queue e)
         (record {
           grows = λ slots new g. grown-over g (updateOf row) f (sym (among g) ∙ a) few (p .value) l;
+          capacity = refl;
           memo = p .memo;
-          size =
-              same-size;
+          size = same-size;
         })
       where
-        same-queue : (q′ .used ≡ q .used) × (q′ .charge ≡ q .charge) × (q′ .full ≡ true) → counted (q .used) (q .charge) true ≡ q′
+        same-queue : (q′ .used ≡ q .used) × (q′ .charge ≡ q .charge) × (q′ .capacity ≡ q .capacity) × (q′ .full ≡ true)
+            → counted (q .used) (q .charge) (q .capacity) true ≡ q′
         same-queue e =
-            ap (λ n. counted n (q .charge) true) (sym (e .0))
-            ∙ ap (λ c. counted (q′ .used) c true) (sym (e .1))
-            ∙ ap (counted (q′ .used) (q′ .charge)) (sym (e .2))
+            ap (λ n. counted n (q .charge) (q .capacity) true) (sym (e .0))
+            ∙ ap (λ c. counted (q′ .used) c (q .capacity) true) (sym (e .1))
+            ∙ ap (λ k. counted (q′ .used) (q′ .charge) k true) (sym (e .2))
+            ∙ ap (counted (q′ .used) (q′ .charge) (q′ .capacity)) (sym (e .3))
 
     -- it is written, and there is room for it
-    module _ (l : q .charge + c ≤ C) {slots₀ : List Slot} (r : Room C (holes slots₀) held) {new : List Update}
-        (g₀ : Grown d C slots₀ new held q) where
-      pub added-few : q .used < holes slots₀ + C
+    module _ (l : q .charge + c ≤ q .capacity) {slots₀ : List Slot} (r : Room (q .capacity) (holes slots₀) held) {new : List Update}
+        (g₀ : Grown d slots₀ new held q) where
+      pub added-few : q .used < holes slots₀ + q .capacity
       added-few =
           omega (
             arith,
@@ -260,15 +265,16 @@ module _ {d : Deck} {C : ℕ} {held : Held} {q : Queue} {row : List ℤ} (h : Ho
         enters : Enters (q .used) (place (updateOf row)) (held .index) index
         enters = subst (λ x. Enters (q .used) x (held .index) index) (sym same-row) e
 
-        pub added-more : Offered d C (updateOf row ∷ []) held q m (pushedTo held index (q .used) row)
-            (counted (q .used + 1) (q .charge + c) false)
+        pub added-more : Offered d (updateOf row ∷ []) held q m (pushedTo held index (q .used) row)
+            (counted (q .used + 1) (q .charge + c) (q .capacity) false)
         added-more =
             let w = updateOf row in
             let there = ap (pushedTo held index (q .used)) same-row in
             record {
               grows = λ slots new g.
-                  subst (λ x. Grown d C slots (new ++ w ∷ []) x (counted (q .used + 1) (q .charge + c) false)) there
+                  subst (λ x. Grown d slots (new ++ w ∷ []) x (counted (q .used + 1) (q .charge + c) (q .capacity) false)) there
                   (grown-more g w f (sym (among g) ∙ a) few (p .value) l added-room (held-fits row h) enters);
+              capacity = refl;
               memo = p .memo;
               size = subst (SameSize held) there
                   (after-size g₀ w f (sym (among g₀) ∙ a) few (p .value) l added-room (held-fits row h) enters);

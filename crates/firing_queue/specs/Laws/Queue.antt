@@ -7,6 +7,7 @@ use Rattle.deck.specs.Deck.{Deck}
 use Rattle.deck.specs.declared.Deck as Counted
 use Rattle.charge.specs.Memo.{Memo}
 use Rattle.pool.specs.Updates.{Update}
+use Rattle.pool_holes.specs.Slots.{holes}
 use Rattle.passing.specs.Judged.{shape}
 use Rattle.pool_index.specs.Index.{headsOf}
 use Rattle.firing_queue.specs.Queue.{Held, Room, SameSize, Grown, Offering, Offered}
@@ -38,43 +39,45 @@ room-same {C} {H} {h₀} {h} s r =
 
 -- ---- offers
 
-module _ {d : Deck} {C : ℕ} {held₀ : Held} {q₀ : Queue} where
+module _ {d : Deck} {held₀ : Held} {q₀ : Queue} where
   -- nothing was offered
-  pub offered-none : (m : List ℕ) → Memo d m → Offered d C [] held₀ q₀ m held₀ q₀
+  pub offered-none : (m : List ℕ) → Memo d m → Offered d [] held₀ q₀ m held₀ q₀
   offered-none m r =
       record {
-        grows = λ slots new g. subst (λ l. Grown d C slots l held₀ q₀) (sym (append-nil new)) g;
+        grows = λ slots new g. subst (λ l. Grown d slots l held₀ q₀) (sym (append-nil new)) g;
+        capacity = refl;
         memo = r;
         size = same-size;
       }
 
   -- the same updates, named otherwise
-  pub offered-as : {a b : List Update} {m : List ℕ} {held : Held} {q : Queue} → b ≡ a → Offered d C a held₀ q₀ m held q
-      → Offered d C b held₀ q₀ m held q
-  offered-as {m} {held} {q} e o = subst (λ us. Offered d C us held₀ q₀ m held q) (sym e) o
+  pub offered-as : {a b : List Update} {m : List ℕ} {held : Held} {q : Queue} → b ≡ a → Offered d a held₀ q₀ m held q
+      → Offered d b held₀ q₀ m held q
+  offered-as {m} {held} {q} e o = subst (λ us. Offered d us held₀ q₀ m held q) (sym e) o
 
   -- some were, and then others
-  pub offered-then : {a b : List Update} {m m′ : List ℕ} {held held′ : Held} {q q′ : Queue} → Offered d C a held₀ q₀ m held q
-      → Offered d C b held q m′ held′ q′ → Offered d C (a ++ b) held₀ q₀ m′ held′ q′
+  pub offered-then : {a b : List Update} {m m′ : List ℕ} {held held′ : Held} {q q′ : Queue} → Offered d a held₀ q₀ m held q
+      → Offered d b held q m′ held′ q′ → Offered d (a ++ b) held₀ q₀ m′ held′ q′
   offered-then {a} {b} {held′} {q′} x y =
       record {
         grows = λ slots new g.
-            subst (λ l. Grown d C slots l held′ q′) (append-assoc new a b) (y .grows slots (new ++ a) (x .grows slots new g));
+            subst (λ l. Grown d slots l held′ q′) (append-assoc new a b) (y .grows slots (new ++ a) (x .grows slots new g));
+        capacity = y .capacity ∙ x .capacity;
         memo = y .memo;
         size = size-then (x .size) (y .size);
       }
 
 -- what is left can be taken again
-pub offering-next : {rules parts : List ℕ} {k : Counted.Deck} {C : ℕ} {memo m : List ℕ} {held₀ held : Held} {q₀ q : Queue}
+pub offering-next : {rules parts : List ℕ} {k : Counted.Deck} {memo m : List ℕ} {held₀ held : Held} {q₀ q : Queue}
     {fresh : List Update}
-    → Offering rules parts k C memo held₀ q₀ → Offered (shape rules parts k) C fresh held₀ q₀ m held q
-    → Offering rules parts k C m held q
-offering-next {C} {fresh} o x =
+    → Offering rules parts k memo held₀ q₀ → Offered (shape rules parts k) fresh held₀ q₀ m held q
+    → Offering rules parts k m held q
+offering-next {held = held} {fresh = fresh} o x =
     record {
       ready = record { tables = o .ready .tables; memo = x .memo };
       few = o .few;
       slots = o .slots;
-      room = room-same (x .size) (o .room);
+      room = subst (λ C. Room C (holes (o .slots)) held) (sym (x .capacity)) (room-same (x .size) (o .room));
       new = o .new ++ fresh;
       grown = x .grows (o .slots) (o .new) (o .grown);
     }

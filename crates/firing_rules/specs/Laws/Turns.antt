@@ -62,29 +62,29 @@ module _ {A : Type 0} (f : ℕ → Bool) (g : ℕ → List A) where
 
 -- ---- what a loop has offered
 
-module _ {d : Deck} {C : ℕ} {held₀ : Held} {q₀ : Queue} (f : ℕ → Bool) (g : ℕ → List Update) where
-  pub turned-none : (m : List ℕ) → Memo d m → Offered d C (turns f g 0) held₀ q₀ m held₀ q₀
-  turned-none m r = subst (λ l. Offered d C l held₀ q₀ m held₀ q₀) (sym (turns-none f g)) (offered-none m r)
+module _ {d : Deck} {held₀ : Held} {q₀ : Queue} (f : ℕ → Bool) (g : ℕ → List Update) where
+  pub turned-none : (m : List ℕ) → Memo d m → Offered d (turns f g 0) held₀ q₀ m held₀ q₀
+  turned-none m r = subst (λ l. Offered d l held₀ q₀ m held₀ q₀) (sym (turns-none f g)) (offered-none m r)
 
-  module _ {m : List ℕ} {held : Held} {q : Queue} (n : ℕ) (x : Offered d C (turns f g n) held₀ q₀ m held q) where
+  module _ {m : List ℕ} {held : Held} {q : Queue} (n : ℕ) (x : Offered d (turns f g n) held₀ q₀ m held q) where
     -- the number n passes
-    pub turned-pass : {m′ : List ℕ} {held′ : Held} {q′ : Queue} → f n ≡ true → Offered d C (g n) held q m′ held′ q′
-        → Offered d C (turns f g (n + 1)) held₀ q₀ m′ held′ q′
+    pub turned-pass : {m′ : List ℕ} {held′ : Held} {q′ : Queue} → f n ≡ true → Offered d (g n) held q m′ held′ q′
+        → Offered d (turns f g (n + 1)) held₀ q₀ m′ held′ q′
     turned-pass {m′} {held′} {q′} e y =
-        subst (λ l. Offered d C l held₀ q₀ m′ held′ q′) (sym (turns-pass f g n e)) (offered-then x y)
+        subst (λ l. Offered d l held₀ q₀ m′ held′ q′) (sym (turns-pass f g n e)) (offered-then x y)
 
     -- it does not
-    pub turned-fail : f n ≡ false → Offered d C (turns f g (n + 1)) held₀ q₀ m held q
-    turned-fail e = subst (λ l. Offered d C l held₀ q₀ m held q) (sym (turns-fail f g n e)) x
+    pub turned-fail : f n ≡ false → Offered d (turns f g (n + 1)) held₀ q₀ m held q
+    turned-fail e = subst (λ l. Offered d l held₀ q₀ m held q) (sym (turns-fail f g n e)) x
 
 -- where two ways of a turn meet
-pub offered-came : {d : Deck} {C : ℕ} {fresh : List Update} {held₀ : Held} {q₀ : Queue}
+pub offered-came : {d : Deck} {fresh : List Update} {held₀ : Held} {q₀ : Queue}
     {m m′ : List ℕ} {held held′ : Held} {q q′ : Queue} → m ≡ m′ → held ≡ held′ → q ≡ q′
-    → Offered d C fresh held₀ q₀ m′ held′ q′ → Offered d C fresh held₀ q₀ m held q
-offered-came {d} {C} {fresh} {held₀} {q₀} {m} {m′} {held} {held′} {q} {q′} a b c x =
-    subst (λ m. Offered d C fresh held₀ q₀ m held q) (sym a)
-    (subst (λ held. Offered d C fresh held₀ q₀ m′ held q) (sym b)
-    (subst (λ q. Offered d C fresh held₀ q₀ m′ held′ q) (sym c) x))
+    → Offered d fresh held₀ q₀ m′ held′ q′ → Offered d fresh held₀ q₀ m held q
+offered-came {d} {fresh} {held₀} {q₀} {m} {m′} {held} {held′} {q} {q′} a b c x =
+    subst (λ m. Offered d fresh held₀ q₀ m held q) (sym a)
+    (subst (λ held. Offered d fresh held₀ q₀ m′ held q) (sym b)
+    (subst (λ q. Offered d fresh held₀ q₀ m′ held′ q) (sym c) x))
 
 -- ---- the other parts
 
@@ -101,9 +101,9 @@ unfolding other
 other-not p q e = ap not (eq-eqb q p e)
 
 -- all of them had their turn
-pub turned-others : {d : Deck} {C : ℕ} {held₀ : Held} {q₀ : Queue} {m : List ℕ} {held : Held} {q : Queue}
+pub turned-others : {d : Deck} {held₀ : Held} {q₀ : Queue} {m : List ℕ} {held : Held} {q : Queue}
     (e : Deck) (p n : ℕ) (g : ℕ → List Update) → n ≡ N e
-    → Offered d C (turns (other p) g n) held₀ q₀ m held q → Offered d C (flatMap g (others e p)) held₀ q₀ m held q
+    → Offered d (turns (other p) g n) held₀ q₀ m held q → Offered d (flatMap g (others e p)) held₀ q₀ m held q
 unfolding others other turns
-turned-others {d} {C} {held₀} {q₀} {m} {held} {q} e p n g k x =
-    subst (λ n. Offered d C (flatMap g (select (λ q. not (eqb q p)) (below n))) held₀ q₀ m held q) k x
+turned-others {d} {held₀} {q₀} {m} {held} {q} e p n g k x =
+    subst (λ n. Offered d (flatMap g (select (λ q. not (eqb q p)) (below n))) held₀ q₀ m held q) k x
