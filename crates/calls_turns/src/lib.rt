@@ -42,8 +42,8 @@ pub fn take_turns(
     first: usize,
     budget: u32,
 ) -> Turns
-    requires { ⌜ Beginning (now deck) (found .counts) (now rules) (now parts) (now memo) (now index) (now pool) (capacity (length (now pool)))
-        (now values) (found .pending) (found .charge) first ⌝ }
+    requires { ⌜ Beginning (now deck) (found .counts) (now rules) (now parts) (now memo) (now index) (now pool)
+        (capacity (length (now pool))) (now values) (found .pending) (found .charge) first ⌝ }
     ensures { λ r. ⌜ Turned (now (deck .entry)) (capacity (length (now (pool .entry)))) (now (values .entry)) (found .pending)
         (found .charge) (now (index .entry)) (now (pool .entry)) first budget (r .made) (r .pending) (r .charge) (r .applied)
         (now (values .exit)) (now (pool .exit)) ⌝ }

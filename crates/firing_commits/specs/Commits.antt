@@ -8,8 +8,6 @@ use lib.ListN.{length, getD, take, set}
 use lib.IntN.{ℤ}
 use Rattle.deck.specs.Deck.{Deck}
 use Rattle.deck.specs.declared.Deck as Counted
-use Rattle.graph.specs.Laws.Cycles.{Acyclic}
-use Rattle.deck.specs.Laws.Forms.{NoDefaults}
 use Rattle.charge.specs.Charge.{updateCharge}
 use Rattle.charge.specs.Memo.{Memo, Ready, capped}
 use Rattle.lists.specs.Lists.{allOf}
@@ -17,13 +15,11 @@ use Rattle.lists.specs.Bits.{maskOf}
 use Rattle.pool.specs.Updates.{Update, channels, assign, charge}
 use Rattle.pool.specs.Places.{pairsOf}
 use Rattle.pool.specs.States.{Machine, known}
-use Rattle.pool.specs.Laws.Good.{Fine}
-use Rattle.passing.specs.Tabled.{deckOf, Tabled}
 use Rattle.passing.specs.Judged.{shape}
-use Rattle.firing.specs.Firing.{changed, pick, without, committed, mayTake, nextPlace}
+use Rattle.firing.specs.Firing.{changed, committed, mayTake, nextPlace}
 use Rattle.firing.specs.Evaluated.{Assignable}
-use Rattle.pool_holes.specs.Slots.{Slot, hole, holds, standing, holes, whole, before, Spread}
-use Rattle.firing_queue.specs.Queue.{Held, Kept, Room, SameSize}
+use Rattle.pool_holes.specs.Slots.{Slot, hole, holds, standing, whole, before, Spread}
+use Rattle.firing_queue.specs.Queue.{Held, SameSize}
 use Rattle.firing_queue.specs.Stored.{Stored, Committing}
 
 -- place p of these slots holds the update u

@@ -46,7 +46,9 @@ pub record Grown (d : Deck) (slots : List Slot) (new : List Update) (held : Held
   pub kept : Kept (slots ++ whole extra) held
   pub used : q .used ≡ length (slots ++ whole extra)
   pub room : q .full ≡ false
-      → (standing slots ++ extra ≡ enqueue (standing slots) new) × (q .charge ≡ charge d (standing slots ++ extra)) × (q .charge ≤ q .capacity)
+      → (standing slots ++ extra ≡ enqueue (standing slots) new)
+      × (q .charge ≡ charge d (standing slots ++ extra))
+      × (q .charge ≤ q .capacity)
   pub over : q .full ≡ true → q .capacity < charge d (enqueue (standing slots) new)
 
 -- what a function that offers updates takes: tables without a cycle, a memo that is right, and room

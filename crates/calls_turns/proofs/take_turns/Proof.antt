@@ -1,7 +1,7 @@
 -- `calls_turns::take_turns` meets its contract: each turn is a commit of one place, and the places move together at the end. Assumes
 -- nothing.
 use Prim.Native.Nat.{_+_, _-_, _<_, _≤_, _/_}
-use mathlib.Core.Path.{_≡_, refl, sym, _∙_}
+use mathlib.Core.Path.{_≡_, sym, _∙_}
 use mathlib.Core.Logic.{⊎-elim, inl, inr}
 use native.Mathlib.Omega.{arith}
 use lib.ListN.{length}

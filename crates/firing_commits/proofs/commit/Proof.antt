@@ -37,7 +37,8 @@ pairs-inside l = looks-inside (l .look .ensures) (l .look .kept .1 .1 .1 .1 .1 .
 
 look-requires : tie.Need-look-requires
 look-requires c κs =
-    let s = c .before .before .before .before .before .before .before .before .before in
+    let b = c .before .before .before .before in
+    let s = b .before .before .before .before .before in
     (commit-looking (s .pre), commit-long (s .pre), refl)
 
 within-requires : tie.Need-within-requires

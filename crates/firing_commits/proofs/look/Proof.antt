@@ -65,6 +65,13 @@ module _ (c : tie.After-bounded-at2) where
       subst (λ n. Assignable (take (2 * n) (drop 2 numbers)) × (length (take (2 * n) (drop 2 numbers)) ≡ 2 * n)) (sym count-is)
       (looking-pairs (s .pre .0))
 
+-- back from the comparison to the charge, and to the numbers of the place
+abbrev charge-of : tie.After-changed-by → tie.After-update-charge
+charge-of c = c .before .before .before .before .before .before
+
+abbrev mask-of : tie.After-update-charge → tie.After-channels-of
+mask-of c = c .before .before
+
 channels-of-requires : tie.Need-channels-of-requires
 channels-of-requires c κs =
     let h = holds c in
@@ -77,7 +84,7 @@ update-charge-requires c κs =
 
 changed-by-requires : tie.Need-changed-by-requires
 changed-by-requires c κs =
-    let n = c .before .before .before .before .before .before .before .before in
+    let n = mask-of (c .before .before .before .before .before) .before in
     let h = pairs n in (
       s n .pre .1,
       low n,
@@ -87,19 +94,22 @@ changed-by-requires c κs =
     )
 
 assign-requires : tie.Need-assign-pairs-requires
-assign-requires c κs = let n = c .before .before .before .before .before .before .before .before .before .before .before in
+assign-requires c κs =
+    let n = mask-of (charge-of (c .before .before)) .before in
     (s n .pre .1, low n, rw (add-sub-cancel-left, add-sub-cancel-left) (pairs n .0))
 
 returns : tie.Need-returns
 returns c =
-    let m = c .before .before .before .before .before .before .before .before .before .before .before .before in
+    let b = c .before .before .before .before in
+    let u = charge-of b in
+    let m = mask-of u in
     let n = m .before in
     looks (s n .pre .0) (s n .args .values .now) (s n .pre .1)
     (holds-charge (e n) _ (parts-are n) (numbers n) (holds n) (channels-few n) (part-is n)
     (rw add-sub-cancel-left at (m .channels-of .ensures))
-    (c .before .before .before .before .before .before .before .before .before .before .update-charge .ensures))
+    (u .update-charge .ensures))
     (part-is n) (count-is n)
-    (rw (add-sub-cancel-left, add-sub-cancel-left) at (c .before .before .before .before .changed-by .ensures))
+    (rw (add-sub-cancel-left, add-sub-cancel-left) at (b .changed-by .ensures))
     (rw (add-sub-cancel-left, add-sub-cancel-left) at (c .before .assign-pairs .ensures))
 
 pub look-spec : {M : Type 1} → statement M
@@ -123,7 +133,7 @@ look-spec =
     (λ c. omega (arith, few (c .before .before .before .before .before)))
     changed-by-requires
     assign-requires
-    (λ c. c .before .before .before .before .before .before .before .before .before .before .update-charge .kept .1 .1 .0)
+    (λ c. charge-of (c .before .before .before .before) .update-charge .kept .1 .1 .0)
     (λ c. c .before .assign-pairs .kept .0)
     (λ c. c .before .before .before .before .changed-by .kept .1 .1 .1 .0)
     returns)

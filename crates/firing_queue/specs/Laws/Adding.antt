@@ -206,12 +206,14 @@ module _ {d : Deck} {held : Held} {q : Queue} {row : List ℤ} (h : HoldsKnown d
 
   -- it is pending already
   pub added-same : {m : List ℕ} → Memo d m → amongPlaces (q .used) (held .pool) row ≡ true → Offered d (updateOf row ∷ []) held q m held q
-  added-same r f = record { grows = λ slots new g. grown-same g (updateOf row) (sym (among g) ∙ f); capacity = refl; memo = r; size = same-size }
+  added-same r f =
+      record { grows = λ slots new g. grown-same g (updateOf row) (sym (among g) ∙ f); capacity = refl; memo = r; size = same-size }
 
   module _ (few : q .capacity ≤ 65535) (f : q .full ≡ false) (a : amongPlaces (q .used) (held .pool) row ≡ false)
       {m : List ℕ} {c : ℕ} (p : PlaceGives d row m c) where
     -- its charge is too much
-    pub added-over : {q′ : Queue} → q .capacity < q .charge + c → (q′ .used ≡ q .used) × (q′ .charge ≡ q .charge) × (q′ .capacity ≡ q .capacity) × (q′ .full ≡ true)
+    pub added-over : {q′ : Queue} → q .capacity < q .charge + c
+        → (q′ .used ≡ q .used) × (q′ .charge ≡ q .charge) × (q′ .capacity ≡ q .capacity) × (q′ .full ≡ true)
         → Offered d (updateOf row ∷ []) held q m held q′
     added-over {q′} l e =
         subst (Offered d (updateOf row ∷ []) held q m held) (same-queue e)

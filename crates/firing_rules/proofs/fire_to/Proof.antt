@@ -1,5 +1,5 @@
 -- `firing_rules::fire_to` meets its contract: the rule adds nothing, or the one update that is made is offered. Assumes nothing.
-use mathlib.Core.Path.{_≡_, sym, _∙_}
+use mathlib.Core.Path.{sym, _∙_}
 use borrow.Author.Needs.{needs}
 use borrow.Author.Tests.{not-true, not-false}
 use Rattle.firing_queue.specs.Laws.Queue.{offered-none, offered-as}

@@ -1,5 +1,5 @@
 -- `firing_rules::react` meets its contract: the two halves, one behind the other. Assumes nothing.
-use mathlib.Core.Path.{_∙_, subst}
+use mathlib.Core.Path.{subst}
 use mathlib.Core.Bool.{true, false}
 use borrow.Author.Needs.{needs}
 use Rattle.deck.specs.Deck.{M}

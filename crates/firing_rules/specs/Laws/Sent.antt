@@ -204,7 +204,8 @@ module _ (values : List ℤ) (p q : ℕ) (r : Rule) where
       go true = sym (ap not (sent-some h))
       go false = refl
 
-  pub adds-true : not (isEmpty (adds values p q r)) ≡ true → (adds values p q r ≡ sent values p q (r .action)) × (length (r .action) ≡ 0 → ⊥)
+  pub adds-true : not (isEmpty (adds values p q r)) ≡ true
+      → (adds values p q r ≡ sent values p q (r .action)) × (length (r .action) ≡ 0 → ⊥)
   unfolding adds lists
   adds-true h = (go (holds values p q r) h, λ e. contradiction h (sym (adds-none e)))
     where
