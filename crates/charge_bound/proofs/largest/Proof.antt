@@ -5,7 +5,7 @@ use mathlib.Core.Path.{sym, _∙_}
 use native.Mathlib.Omega.{arith}
 use Rattle.lists.specs.Laws.Through.{Through, through-next, through-here, through-all}
 use Rattle.lists.specs.Laws.Walks.{Walk, walk-first, walk-on, walk-next}
-use Rattle.deck.specs.Shape.{shapeOf}
+use Rattle.deck.specs.Shape.{shape}
 use Rattle.charge.specs.Memo.{Memo}
 use Rattle.charge.specs.Answer.{LargestOfRules}
 use Rattle.charge_tables.specs.Laws.Entries.{row-room}
@@ -14,12 +14,12 @@ use Rattle.charge_bound.proofs.largest.Statement.{statement}
 use Rattle.charge_bound.proofs.largest.Tie as tie
 
 abbrev Inv-loop : tie.InvT-loop
-Inv-loop rules parts memo₀ channels count parts-count carried most₀ left₀ r₀ memo most left r =
-    let d = shapeOf rules parts channels count parts-count in
-    Walk carried left r × Memo d memo × Through carried count (λ k. LargestOfRules d k most) r
+Inv-loop rules parts memo₀ counts count carried most₀ left₀ r₀ memo most left r =
+    let d = shape rules parts counts in
+    Walk carried left r × Memo d memo × Through carried (counts .rules) (λ k. LargestOfRules d k most) r
 
 abbrev μ-loop : tie.MeasureT-loop
-μ-loop rules parts memo₀ channels count parts-count carried most₀ left₀ r₀ memo most left r = 64 - r
+μ-loop rules parts memo₀ counts count carried most₀ left₀ r₀ memo most left r = 64 - r
 
 -- back from the loop to the start, and within a turn to its call and its test
 abbrev start-of : tie.At-loop Inv-loop μ-loop → tie.Start Inv-loop μ-loop

@@ -9,7 +9,7 @@ use lib.ListN.{getD}
 use Rattle.lists.specs.Bits.{bit}
 use Rattle.lists.specs.Laws.Walks.{Walk, walk-first, walk-on, walk-next}
 use Rattle.deck.specs.Deck.{Deck}
-use Rattle.deck.specs.Shape.{shapeOf}
+use Rattle.deck.specs.Shape.{shape}
 use Rattle.charge.specs.Memo.{Memo, AcyclicTables}
 use Rattle.charge.specs.Answer.{LargestBelow}
 use Rattle.charge_bound.proofs.Search.{Carried, few-rules, passed-more, passed-above, is-place, passed-next, passed-part}
@@ -19,12 +19,12 @@ use Rattle.charge_bound.proofs.part_above.Statement.{statement}
 use Rattle.charge_bound.proofs.part_above.Tie as tie
 
 abbrev Inv-loop : tie.InvT-loop
-Inv-loop rules parts memo₀ channels count parts-count p best carried most₀ left₀ r₀ memo most left r =
-    let d = shapeOf rules parts channels count parts-count in
-    (r < 64 → bit carried r ≡ true) × Memo d memo × LargestBelow d (64 * p + min r count) most × Walk carried left r
+Inv-loop rules parts memo₀ counts p best count carried most₀ left₀ r₀ memo most left r =
+    let d = shape rules parts counts in
+    (r < 64 → bit carried r ≡ true) × Memo d memo × LargestBelow d (64 * p + min r (counts .rules)) most × Walk carried left r
 
 abbrev μ-loop : tie.MeasureT-loop
-μ-loop rules parts memo₀ channels count parts-count p best carried most₀ left₀ r₀ memo most left r = count - r
+μ-loop rules parts memo₀ counts p best count carried most₀ left₀ r₀ memo most left r = count - r
 
 -- back from the loop to the start, and within a turn to its call and its test
 abbrev start-of : tie.At-loop Inv-loop μ-loop → tie.Start Inv-loop μ-loop
@@ -37,7 +37,7 @@ abbrev call-of : tie.After-slice-known3 Inv-loop μ-loop → tie.After-known-cha
 call-of c = c .before .before .before
 
 abbrev deckOf : tie.Start Inv-loop μ-loop → Deck
-deckOf s = shapeOf (s .args .rules .now) (s .args .parts .now) (s .args .channels) (s .args .count) (s .args .parts-count)
+deckOf s = shape (s .args .rules .now) (s .args .parts .now) (s .args .counts)
 
 -- the rule of a turn
 found : (c : tie.In-loop Inv-loop μ-loop)
@@ -56,7 +56,7 @@ passed : (c : tie.In-loop Inv-loop μ-loop)
     → let s = start-of (c .before) in LargestBelow (deckOf s) (64 * s .args .p + c .before .loop .r) (c .before .loop .most)
 passed c =
     let s = start-of (c .before) in
-    let e : min (c .before .loop .r) (s .args .count) ≡ c .before .loop .r = omega (arith, c .loop-test .taken) in
+    let e : min (c .before .loop .r) (s .args .counts .rules) ≡ c .before .loop .r = omega (arith, c .loop-test .taken) in
     subst (λ r. LargestBelow (deckOf s) (64 * s .args .p + r) (c .before .loop .most)) e (c .before .loop .inv .2)
 
 loop-holds : tie.Need-loop-holds Inv-loop μ-loop
@@ -77,7 +77,7 @@ known-charges-requires c κs =
     let s = start-of (t .before) in (
       record { tables = s .pre .0 .tables; memo = t .before .loop .inv .1 },
       t .loop-test .taken,
-      carried-by (s .args .parts .now) (s .args .parts-count) _ (s .args .p) (s .pre .1) (found t),
+      carried-by (s .args .parts .now) (s .args .counts .parts) _ (s .args .p) (s .pre .1) (found t),
     )
 
 -- the entry that is read
@@ -94,7 +94,7 @@ column k =
 -- what the tables hold, seen from where the entry was read
 tables : (c : tie.After-slice-known3 Inv-loop μ-loop)
     → let a = start-of (turn-of (call-of c) .before) .args in
-    AcyclicTables (a .rules .now) (a .parts .now) (a .channels) (a .count) (a .parts-count)
+    AcyclicTables (a .rules .now) (a .parts .now) (a .counts)
 tables c = start-of (turn-of (call-of c) .before) .pre .0 .tables
 
 sub-c : tie.Need-sub-c Inv-loop μ-loop

@@ -5,8 +5,8 @@ use mathlib.Core.Path.{_≡_, sym, _∙_, subst}
 use native.Mathlib.Omega.{arith}
 use borrow.Author.Needs.{needs}
 use Rattle.deck.specs.Deck.{Deck}
-use Rattle.deck.specs.Shape.{shapeOf}
-use Rattle.deck.specs.Laws.Shape.{shape-N}
+use Rattle.deck.specs.Shape.{shape}
+use Rattle.deck.specs.Laws.Shape.{counted-N}
 use Rattle.charge.specs.Memo.{Memo}
 use Rattle.charge.specs.Answer.{LargestBelow, PartBound}
 use Rattle.charge.specs.declared.Bound.{Bound}
@@ -15,12 +15,12 @@ use Rattle.charge_bound.proofs.search_above.Statement.{statement}
 use Rattle.charge_bound.proofs.search_above.Tie as tie
 
 abbrev Inv-loop : tie.InvT-loop
-Inv-loop rules parts memo₀ channels count parts-count best₀ p₀ memo best p =
-    let d = shapeOf rules parts channels count parts-count in
-    (p ≤ parts-count) × Memo d memo × LargestBelow d (64 * p) best
+Inv-loop rules parts memo₀ counts n best₀ p₀ memo best p =
+    let d = shape rules parts counts in
+    (p ≤ counts .parts) × Memo d memo × LargestBelow d (64 * p) best
 
 abbrev μ-loop : tie.MeasureT-loop
-μ-loop rules parts memo₀ channels count parts-count best₀ p₀ memo best p = parts-count - p
+μ-loop rules parts memo₀ counts n best₀ p₀ memo best p = counts .parts - p
 
 -- back from the loop to the start, and within a turn to its call and its test
 abbrev start-of : tie.At-loop Inv-loop μ-loop → tie.Start Inv-loop μ-loop
@@ -33,7 +33,7 @@ abbrev turn-of : tie.After-part-above Inv-loop μ-loop → tie.In-loop Inv-loop 
 turn-of c = c .before .before
 
 abbrev deckOf : tie.Start Inv-loop μ-loop → Deck
-deckOf s = shapeOf (s .args .rules .now) (s .args .parts .now) (s .args .channels) (s .args .count) (s .args .parts-count)
+deckOf s = shape (s .args .rules .now) (s .args .parts .now) (s .args .counts)
 
 loop-holds : tie.Need-loop-holds Inv-loop μ-loop
 loop-holds c =
@@ -67,8 +67,8 @@ returns-2 : tie.Need-returns-2 Inv-loop μ-loop
 returns-2 c =
     let s = start-of (c .before) in
     let i = c .before .loop .inv in (
-      passed-all _ (few-rules (s .pre .tables)) (i .2) (s .args .parts-count)
-          (shape-N (s .args .rules .now) (s .args .parts .now) (s .args .channels) (s .args .count) (s .args .parts-count))
+      passed-all _ (few-rules (s .pre .tables)) (i .2) (s .args .counts .parts)
+          (counted-N (s .args .rules .now) (s .args .parts .now) (s .args .counts))
           (omega (arith, i .0, c .loop-test .left)),
       i .1,
     )

@@ -18,7 +18,7 @@ use Rattle.lists.specs.Laws.Walks.{Walk, walk-first, walk-on, walk-next}
 use Rattle.lists.proofs.lowest.Reads as lowest-reads
 use Rattle.lists.proofs.rest.Reads as rest-reads
 use Rattle.deck.specs.Shape.{bitsOf, shapeOf}
-use Rattle.charge.specs.Memo.{Memo, Keeps, listening}
+use Rattle.charge.specs.Memo.{Memo, Keeps, listening, countsOf}
 use Rattle.charge.specs.Laws.Tables.{Field, field, Entry, entry}
 use Rattle.charge_listeners.specs.Laws.Listening.{is-listener}
 use Rattle.charge_tables.specs.Laws.Entries.{row-room}
@@ -165,7 +165,7 @@ module _ (t : ℕ) where
   -- what is known where the arms of a test for an empty action meet
   abbrev Given : R.Start (R-claims t) (R-at t) rule.Post → ℕ → List ℕ → List ℕ → List ℕ → Type 0
   Given s k m₀ m sums =
-      ActionGives (s .args .rules .now) (s .args .parts .now) (s .args .channels) (s .args .count) (s .args .parts-count)
+      ActionGives (s .args .rules .now) (s .args .parts .now) (countsOf (s .args .channels) (s .args .count) (s .args .parts-count))
       (getD (s .args .rules .now) (8 * s .args .r + k) 0) m₀ m sums
 
   first-given : (c : R.Joined2 (R-claims t) (R-at t) rule.Post)

@@ -6,7 +6,7 @@ use native.Mathlib.Nat.{lt-of-lt-of-le}
 use native.Mathlib.Omega.{arith}
 use Rattle.lists.specs.Laws.Through.{Through, through-next, through-here, through-all}
 use Rattle.lists.specs.Laws.Walks.{Walk, walk-first, walk-on, walk-next}
-use Rattle.deck.specs.Shape.{bitsOf, shapeOf}
+use Rattle.deck.specs.Shape.{bitsOf, shape}
 use Rattle.charge_tables.proofs.Terms.{heard}
 use Rattle.charge_tables.proofs.Sums.{Summing, same, small, none-yet, skip, more}
 use Rattle.charge_tables.proofs.Tabled.{update-all, heard-yes, heard-no, hears-carried}
@@ -15,12 +15,12 @@ use Rattle.charge_tables.proofs.update_charge.Statement.{statement}
 use Rattle.charge_tables.proofs.update_charge.Tie as tie
 
 abbrev Inv-loop : tie.InvT-loop
-Inv-loop rules parts memo₀ channels count parts-count p mask set total₀ left₀ r₀ memo total left r =
-    let d = shapeOf rules parts channels count parts-count in
-    Walk set left r × Through set count (Summing d 1 (heard d p (bitsOf 32 mask)) memo total) r
+Inv-loop rules parts memo₀ counts p mask count set total₀ left₀ r₀ memo total left r =
+    let d = shape rules parts counts in
+    Walk set left r × Through set (counts .rules) (Summing d 1 (heard d p (bitsOf 32 mask)) memo total) r
 
 abbrev μ-loop : tie.MeasureT-loop
-μ-loop rules parts memo₀ channels count parts-count p mask set total₀ left₀ r₀ memo total left r = 64 - r
+μ-loop rules parts memo₀ counts p mask count set total₀ left₀ r₀ memo total left r = 64 - r
 
 -- back from the loop to the start, and within a turn to its call and its test
 abbrev start-of : tie.At-loop Inv-loop μ-loop → tie.Start Inv-loop μ-loop

@@ -1,7 +1,7 @@
 -- `pool_states::place_charge` meets its contract: part and channels of the place give the charge. Assumes nothing.
 use native.Mathlib.Omega.{arith}
 use borrow.Author.Needs.{needs}
-use Rattle.deck.specs.Laws.Shape.{shape-R, shape-N}
+use Rattle.deck.specs.Laws.Shape.{counted-R, counted-N}
 use Rattle.pool.specs.Places.{updateOf}
 use Rattle.pool_states.specs.Laws.PairsHeld.{known-low}
 use Rattle.pool_states.specs.Laws.Charges.{holds-part, holds-charge}
@@ -23,7 +23,7 @@ channels-of-requires c κs =
     let s = start-of c in
     let a = s .args in
     let h = s .pre .2 in
-    let few = shape-R (a .rules .now) (a .parts .now) (a .channels) (a .count) (a .parts-count) in
+    let few = counted-R (a .rules .now) (a .parts .now) (a .counts) in
     (h .long, h .written, known-low _ (updateOf (a .place .now)) (h .known) (omega (arith, few)))
 
 update-charge-requires : tie.Need-update-charge-requires
@@ -31,7 +31,7 @@ update-charge-requires c κs =
     let s = start-of (c .before .before) in
     let a = s .args in (
       s .pre .0,
-      holds-part _ (a .parts-count) (shape-N (a .rules .now) (a .parts .now) (a .channels) (a .count) (a .parts-count)) (a .place .now)
+      holds-part _ (a .counts .parts) (counted-N (a .rules .now) (a .parts .now) (a .counts)) (a .place .now)
           (s .pre .2)
           (c .before .before .bounded-at .ensures),
     )
@@ -41,8 +41,8 @@ returns c =
     let u = c .before .before in
     let s = start-of (part-of u) in
     let a = s .args in
-    let few = shape-R (a .rules .now) (a .parts .now) (a .channels) (a .count) (a .parts-count) in
-    holds-charge _ (a .parts-count) (shape-N (a .rules .now) (a .parts .now) (a .channels) (a .count) (a .parts-count)) (a .place .now)
+    let few = counted-R (a .rules .now) (a .parts .now) (a .counts) in
+    holds-charge _ (a .counts .parts) (counted-N (a .rules .now) (a .parts .now) (a .counts)) (a .place .now)
     (s .pre .2)
     (omega (arith, few))
     (part-of u .bounded-at .ensures)
