@@ -56,7 +56,7 @@ pub record Grown (d : Deck) (C : ℕ) (slots : List Slot) (new : List Update) (h
 
 -- what a function that offers updates takes: tables without a cycle, a memo that is right, and room for C updates
 pub record Offering (rules parts : List ℕ) (k : Counted.Deck) (C : ℕ) (memo : List ℕ) (held : Held) (q : Queue) : Type 0 where
-  pub ready : Ready rules parts (k .channels) (k .rules) (k .parts) memo
+  pub ready : Ready rules parts k memo
   pub few : k .channels ≤ 32
   pub slots : List Slot
   pub room : Room C (holes slots) held

@@ -307,15 +307,7 @@ pub fn react(
         charge: charge,
         full: false,
     };
-    let set = charge_listeners::active(
-        rules,
-        parts,
-        counts.channels,
-        counts.rules,
-        counts.parts,
-        p,
-        changed,
-    );
+    let set = charge_listeners::active(rules, parts, counts, p, changed);
     if set == 0 {
         return queue;
     }
