@@ -56,7 +56,7 @@ fn test_state(
     values: &[i32],
     pending: u32,
 ) -> Tested
-    requires { ⌜ Ready (now rules) (now parts) (counts .channels) (counts .rules) (counts .parts) (now memo) × (counts .channels ≤ 32)
+    requires { ⌜ Ready (now rules) (now parts) counts (now memo) × (counts .channels ≤ 32)
         × Usable (length (now pool)) (now index) ⌝ }
     ensures { λ r. ⌜ TestsState counts (now (rules .entry)) (now (parts .entry)) (now (memo .exit)) (now (index .exit))
         (now (pool .entry)) (now (values .entry)) pending r ⌝ }
@@ -68,18 +68,7 @@ fn test_state(
         };
     }
     let n = pending as usize;
-    let good = pool_states::good_state(
-        rules,
-        parts,
-        memo,
-        index,
-        counts.channels,
-        counts.rules,
-        counts.parts,
-        values,
-        n,
-        pool,
-    );
+    let good = pool_states::good_state(rules, parts, memo, index, counts, values, n, pool);
     match good {
         pool_states::Goodness::Good(charge) => Tested::Ready {
             counts: counts,

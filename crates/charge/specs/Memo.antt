@@ -10,7 +10,8 @@ use lib.ListN.{length, getD, replicate}
 use Rattle.lists.specs.Lists.{anyOf, member, sumOf, below}
 use Rattle.lists.specs.Bits.{bit}
 use Rattle.deck.specs.Deck.{Deck, M, N}
-use Rattle.deck.specs.Shape.{bitsOf, shapeOf}
+use Rattle.deck.specs.Shape.{bitsOf, shape}
+use Rattle.deck.specs.declared.Deck as Counted
 use Rattle.graph.specs.Masks.{carriedAt}
 use Rattle.graph.specs.Laws.Cycles.{KnownTargets, Acyclic}
 use Rattle.charge.specs.Charge.{updateCharge, ruleCharge}
@@ -40,16 +41,16 @@ pub record RuleNoted (events r : ℕ) (rules₀ rules : List ℕ) : Type 0 where
 pub record ListenersAre (rules : List ℕ) (mask s : ℕ) : Type 0 where
   pub each : (r : ℕ) → bit s r ≡ anyOf (λ c. bit (getD rules (8 * c + 7) 0) r) (bitsOf 32 mask)
 
--- what the reading pass and the test for cycles gave, with the listeners noted: a row for each of 32 channels and of M rules
-pub record AcyclicTables (rules parts : List ℕ) (R M N : ℕ) : Type 0 where
+-- what the reading pass and the test for cycles gave, with the listeners noted: a row for each of 32 channels and for each rule
+pub record AcyclicTables (rules parts : List ℕ) (k : Counted.Deck) : Type 0 where
   pub rules-long : 256 ≤ length rules
-  pub rules-room : 8 * M ≤ length rules
+  pub rules-room : 8 * k .rules ≤ length rules
   pub parts-long : 64 ≤ length parts
-  pub few-rules : M ≤ 64
-  pub few-parts : N ≤ 16
-  pub acyclic : Acyclic (shapeOf rules parts R M N)
-  pub known : KnownTargets (shapeOf rules parts R M N)
-  pub noted : Noted rules parts M N
+  pub few-rules : k .rules ≤ 64
+  pub few-parts : k .parts ≤ 16
+  pub acyclic : Acyclic (shape rules parts k)
+  pub known : KnownTargets (shape rules parts k)
+  pub noted : Noted rules parts (k .rules) (k .parts)
 
 -- exact below 65,536, the first number above the bound
 abbrev pub capped : ℕ → ℕ
@@ -70,15 +71,19 @@ pub record Answered (d : Deck) (x : ℕ) (m : List ℕ) (s : ℕ) : Type 0 where
   pub value : s ≡ capped x
   pub memo : Memo d m
 
+-- the counts, for functions that hand three numbers on
+abbrev pub countsOf : ℕ → ℕ → ℕ → Counted.Deck
+countsOf R M N = record { channels = R; rules = M; parts = N; «rules_at» = 0; «parts_at» = 0 }
+
 -- what the functions take: tables of a deck without cycles, and a memo that is right for it
-pub record Ready (rules parts : List ℕ) (R M N : ℕ) (m : List ℕ) : Type 0 where
-  pub tables : AcyclicTables rules parts R M N
-  pub memo : Memo (shapeOf rules parts R M N) m
+pub record Ready (rules parts : List ℕ) (k : Counted.Deck) (m : List ℕ) : Type 0 where
+  pub tables : AcyclicTables rules parts k
+  pub memo : Memo (shape rules parts k) m
 
 -- what is answered for an update of the channels in a mask
-abbrev pub UpdateGives : List ℕ → List ℕ → ℕ → ℕ → ℕ → ℕ → ℕ → List ℕ → ℕ → Type 0
-UpdateGives rules parts R M N p mask m s =
-    let d = shapeOf rules parts R M N in Answered d (updateCharge d p (bitsOf 32 mask)) m s
+abbrev pub UpdateGives : List ℕ → List ℕ → Counted.Deck → ℕ → ℕ → List ℕ → ℕ → Type 0
+UpdateGives rules parts k p mask m s =
+    let d = shape rules parts k in Answered d (updateCharge d p (bitsOf 32 mask)) m s
 
 -- part p carries rule r, which has a channel of the mask among its events
 abbrev pub hearing : List ℕ → List ℕ → ℕ → ℕ → ℕ → Bool
@@ -137,14 +142,14 @@ pub record Begun (mask : ℕ) (sums : List ℕ) : Type 0 where
   pub some : (bitAnd mask 4294967295 ≡ 0 → ⊥) → sums ≡ replicate 16 1
 
 -- what is answered for an update at all parts, and for a rule at all parts
-pub record UpdatesGive (rules parts : List ℕ) (R M N mask : ℕ) (m₀ m sums : List ℕ) : Type 0 where
-  pub memo : Memo (shapeOf rules parts R M N) m
+pub record UpdatesGive (rules parts : List ℕ) (k : Counted.Deck) (mask : ℕ) (m₀ m sums : List ℕ) : Type 0 where
+  pub memo : Memo (shape rules parts k) m
   pub keeps : Keeps m₀ m
   pub small : RowSmall 64 sums
-  pub each : (q : ℕ) → q < N
-      → capped (getD sums q 0) ≡ capped (updateCharge (shapeOf rules parts R M N) q (bitsOf 32 mask))
+  pub each : (q : ℕ) → q < k .parts
+      → capped (getD sums q 0) ≡ capped (updateCharge (shape rules parts k) q (bitsOf 32 mask))
 
-pub record RulesGive (rules parts : List ℕ) (R M N r : ℕ) (m₀ m : List ℕ) : Type 0 where
-  pub memo : Memo (shapeOf rules parts R M N) m
+pub record RulesGive (rules parts : List ℕ) (k : Counted.Deck) (r : ℕ) (m₀ m : List ℕ) : Type 0 where
+  pub memo : Memo (shape rules parts k) m
   pub keeps : Keeps m₀ m
-  pub known : RowKnown N r m
+  pub known : RowKnown (k .parts) r m

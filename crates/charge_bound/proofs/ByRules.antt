@@ -10,8 +10,9 @@ use lib.ListN.{getD}
 use Rattle.lists.specs.Bits.{bit}
 use Rattle.lists.specs.Laws.Booleans.{contradiction}
 use Rattle.deck.specs.Deck.{Deck, M, N, carries}
-use Rattle.deck.specs.Shape.{shapeOf}
-use Rattle.deck.specs.Laws.Shape.{shape-M, shape-N, shape-carries}
+use Rattle.deck.specs.Shape.{shape}
+use Rattle.deck.specs.declared.Deck as Counted
+use Rattle.deck.specs.Laws.Shape.{counted-M, counted-N, shape-carries}
 use Rattle.graph.specs.Masks.{carriedAt}
 use Rattle.charge.specs.declared.Bound.the-variants.{Within}
 use Rattle.charge.specs.Charge.{largestCharge}
@@ -25,12 +26,22 @@ use Rattle.charge_bound.proofs.Search.{few-rules, is-place, passed-all}
 pub rules-none : {d : Deck} → LargestOfRules d 0 0
 rules-none = record { most = λ q s _ _ _ h. absurd (omega arith); least = zero-le }
 
-module _ {rules parts : List ℕ} {R′ M′ N′ : ℕ} (h : AcyclicTables rules parts R′ M′ N′) where
+module _ {rules parts : List ℕ} {counts : Counted.Deck} (h : AcyclicTables rules parts counts) where
+  -- the counts
+  abbrev R′ : ℕ
+  R′ = counts .channels
+
+  abbrev M′ : ℕ
+  M′ = counts .rules
+
+  abbrev N′ : ℕ
+  N′ = counts .parts
+
   abbrev d : Deck
-  d = shapeOf rules parts R′ M′ N′
+  d = shape rules parts counts
 
   inside : (q : ℕ) → q < N d → q < N′
-  inside q l = omega (arith, shape-N rules parts R′ M′ N′)
+  inside q l = omega (arith, counted-N rules parts counts)
 
   -- a rule that part q carries, in the numbers of the table
   carries-is : (q s : ℕ) → q < N d → s < M d → carries d q s ≡ true → bit (getD parts (4 * q) 0) s ≡ true
@@ -78,12 +89,12 @@ module _ {rules parts : List ℕ} {R′ M′ N′ : ℕ} (h : AcyclicTables rule
 
     -- all rules are passed, and none is above the bound
     pub rules-within : k ≡ M′ → best < 65536 → Within best ≡ boundOf d
-    rules-within e small = passed-all d (few-rules h) all N′ (shape-N rules parts R′ M′ N′) refl
+    rules-within e small = passed-all d (few-rules h) all N′ (counted-N rules parts counts) refl
       where
         all : LargestBelow d (64 * N′) best
         all =
             record {
-              most = λ q s l m t _. omega (arith, w .most q s l m t (omega (arith, shape-M rules parts R′ M′ N′)));
+              most = λ q s l m t _. omega (arith, w .most q s l m t (omega (arith, counted-M rules parts counts)));
               least = omega (arith, w .least);
               fits = omega arith;
             }

@@ -11,8 +11,9 @@ use lib.ListN.{getD}
 use Rattle.lists.specs.Bits.{bit, NextIn}
 use Rattle.lists.specs.Laws.Booleans.{contradiction}
 use Rattle.deck.specs.Deck.{Deck, M, N, carries}
-use Rattle.deck.specs.Shape.{shapeOf}
-use Rattle.deck.specs.Laws.Shape.{shape-M, shape-N, shape-carries}
+use Rattle.deck.specs.Shape.{shape}
+use Rattle.deck.specs.declared.Deck as Counted
+use Rattle.deck.specs.Laws.Shape.{counted-M, counted-N, shape-carries}
 use Rattle.charge.specs.declared.Bound.the-variants.{Within, Above}
 use Rattle.charge.specs.Charge.{ruleCharge, carriedCharges, largestCharge, aboveBound}
 use Rattle.charge.specs.Memo.{AcyclicTables, capped}
@@ -93,17 +94,27 @@ module _ (d : Deck) (few : M d ≤ 64) where
         ap Within largest ∙ sym (ap (λ l. boundBy l (largestCharge d)) none)
 
 -- what the search finds, in the numbers of the tables
-module _ {rules parts : List ℕ} {R′ M′ N′ : ℕ} (h : AcyclicTables rules parts R′ M′ N′) where
+module _ {rules parts : List ℕ} {counts : Counted.Deck} (h : AcyclicTables rules parts counts) where
+  -- the counts
+  abbrev R′ : ℕ
+  R′ = counts .channels
+
+  abbrev M′ : ℕ
+  M′ = counts .rules
+
+  abbrev N′ : ℕ
+  N′ = counts .parts
+
   abbrev deck : Deck
-  deck = shapeOf rules parts R′ M′ N′
+  deck = shape rules parts counts
 
   pub few-rules : M deck ≤ 64
-  few-rules = omega (arith, shape-M rules parts R′ M′ N′, h .few-rules)
+  few-rules = omega (arith, counted-M rules parts counts, h .few-rules)
 
   pub is-place : (p r : ℕ) → p < N′ → r < M′ → bit (getD parts (4 * p) 0) r ≡ true → Carried deck p r
   is-place p r l m t = (
-    omega (arith, shape-N rules parts R′ M′ N′),
-    omega (arith, shape-M rules parts R′ M′ N′),
+    omega (arith, counted-N rules parts counts),
+    omega (arith, counted-M rules parts counts),
     shape-carries rules parts R′ M′ N′ p r l (omega (arith, h .few-rules)) ∙ t,
   )
 
@@ -123,4 +134,4 @@ module _ {rules parts : List ℕ} {R′ M′ N′ : ℕ} (h : AcyclicTables rule
     pub passed-part : (r : ℕ) → M′ ≤ r → LargestBelow deck (64 * p + min r M′) best → LargestBelow deck (64 * (p + 1)) best
     passed-part r m w =
         passed-skip deck few-rules w (64 * (p + 1))
-        (λ q s c a b. omega (arith, c .1, few-rules, shape-M rules parts R′ M′ N′))
+        (λ q s c a b. omega (arith, c .1, few-rules, counted-M rules parts counts))

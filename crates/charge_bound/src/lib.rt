@@ -3,7 +3,7 @@
 ghost use mathlib.Core.Path.{_≡_};
 ghost use Prim.Native.Nat.{_+_, _*_, _<_, _≤_, max};
 ghost use lib.ListN.{length};
-ghost use Rattle.deck.specs.Shape.{shapeOf};
+ghost use Rattle.deck.specs.Shape.{shape};
 ghost use Rattle.charge.specs.Memo.{Memo, Ready, RowKnown, RowLargest};
 ghost use Rattle.charge.specs.Answer.{boundOf, LargestBelow, PartBound, LargestOfRules};
 use charge::Bound;
@@ -20,23 +20,22 @@ fn part_above(
     rules: &[u64],
     parts: &[u64],
     memo: &mut [u32],
-    channels: usize,
-    count: usize,
-    parts_count: usize,
+    counts: Deck,
     p: usize,
     best: u32,
 ) -> Bound
-    requires { ⌜ Ready (now rules) (now parts) channels count «parts_count» (now memo) × (p < «parts_count»)
-        × LargestBelow (shapeOf (now rules) (now parts) channels count «parts_count») (64 * p) best ⌝ }
-    ensures { λ b. ⌜ PartBound (shapeOf (now (rules .entry)) (now (parts .entry)) channels count «parts_count») p b
-        × Memo (shapeOf (now (rules .entry)) (now (parts .entry)) channels count «parts_count») (now (memo .exit)) ⌝ }
+    requires { ⌜ Ready (now rules) (now parts) counts (now memo) × (p < counts .parts)
+        × LargestBelow (shape (now rules) (now parts) counts) (64 * p) best ⌝ }
+    ensures { λ b. ⌜ PartBound (shape (now (rules .entry)) (now (parts .entry)) counts) p b
+        × Memo (shape (now (rules .entry)) (now (parts .entry)) counts) (now (memo .exit)) ⌝ }
 {
+    let count = counts.rules;
     let carried = parts[Deck::PART_ROW * p];
     let mut most = best;
     let mut left = carried;
     let mut r = lists::lowest(left);
     while r < count {
-        charge_tables::known_charges(rules, parts, memo, channels, count, parts_count, r);
+        charge_tables::known_charges(rules, parts, memo, counts, r);
         let c = memo[Deck::PARTS * r + p] - 1;
         if c == charge_tables::CAP {
             return Bound::Above(Deck::RULES * p + r);
@@ -49,22 +48,16 @@ fn part_above(
 }
 
 // The bound on the charges of the carried rules, lowest place first.
-fn search_above(
-    rules: &[u64],
-    parts: &[u64],
-    memo: &mut [u32],
-    channels: usize,
-    count: usize,
-    parts_count: usize,
-) -> Bound
-    requires { ⌜ Ready (now rules) (now parts) channels count «parts_count» (now memo) ⌝ }
-    ensures { λ b. ⌜ (b ≡ boundOf (shapeOf (now (rules .entry)) (now (parts .entry)) channels count «parts_count»))
-        × Memo (shapeOf (now (rules .entry)) (now (parts .entry)) channels count «parts_count») (now (memo .exit)) ⌝ }
+fn search_above(rules: &[u64], parts: &[u64], memo: &mut [u32], counts: Deck) -> Bound
+    requires { ⌜ Ready (now rules) (now parts) counts (now memo) ⌝ }
+    ensures { λ b. ⌜ (b ≡ boundOf (shape (now (rules .entry)) (now (parts .entry)) counts))
+        × Memo (shape (now (rules .entry)) (now (parts .entry)) counts) (now (memo .exit)) ⌝ }
 {
+    let n = counts.parts;
     let mut best: u32 = 0;
     let mut p: usize = 0;
-    while p < parts_count {
-        let bound = part_above(rules, parts, memo, channels, count, parts_count, p, best);
+    while p < n {
+        let bound = part_above(rules, parts, memo, counts, p, best);
         match bound {
             Bound::Above(place) => {
                 return Bound::Above(place);
@@ -96,25 +89,19 @@ fn row_largest(parts: &[u64], memo: &[u32], parts_count: usize, r: usize, best: 
 }
 
 // The largest charge of the carried rules, up to 65,536. The memo has then the charges of all of them.
-fn largest(
-    rules: &[u64],
-    parts: &[u64],
-    memo: &mut [u32],
-    channels: usize,
-    count: usize,
-    parts_count: usize,
-) -> u32
-    requires { ⌜ Ready (now rules) (now parts) channels count «parts_count» (now memo) ⌝ }
-    ensures { λ most. ⌜ LargestOfRules (shapeOf (now (rules .entry)) (now (parts .entry)) channels count «parts_count») count most
-        × Memo (shapeOf (now (rules .entry)) (now (parts .entry)) channels count «parts_count») (now (memo .exit)) ⌝ }
+fn largest(rules: &[u64], parts: &[u64], memo: &mut [u32], counts: Deck) -> u32
+    requires { ⌜ Ready (now rules) (now parts) counts (now memo) ⌝ }
+    ensures { λ most. ⌜ LargestOfRules (shape (now (rules .entry)) (now (parts .entry)) counts) (counts .rules) most
+        × Memo (shape (now (rules .entry)) (now (parts .entry)) counts) (now (memo .exit)) ⌝ }
 {
-    let carried = graph::carried_by_some(parts, parts_count);
+    let count = counts.rules;
+    let carried = graph::carried_by_some(parts, counts.parts);
     let mut most: u32 = 0;
     let mut left = carried;
     let mut r = lists::lowest(left);
     while r < count {
-        charge_tables::known_charges(rules, parts, memo, channels, count, parts_count, r);
-        most = row_largest(parts, memo, parts_count, r, most);
+        charge_tables::known_charges(rules, parts, memo, counts, r);
+        most = row_largest(parts, memo, counts.parts, r, most);
         left = lists::rest(left);
         r = lists::lowest(left);
     }
@@ -123,21 +110,14 @@ fn largest(
 
 // The bound on the charges of the carried rules. Mostly none is above it, and then the order of the places plays no role.
 // The memo is lent, and has then what was computed.
-pub fn first_above(
-    rules: &[u64],
-    parts: &[u64],
-    memo: &mut [u32],
-    channels: usize,
-    count: usize,
-    parts_count: usize,
-) -> Bound
-    requires { ⌜ Ready (now rules) (now parts) channels count «parts_count» (now memo) ⌝ }
-    ensures { λ b. ⌜ (b ≡ boundOf (shapeOf (now (rules .entry)) (now (parts .entry)) channels count «parts_count»))
-        × Memo (shapeOf (now (rules .entry)) (now (parts .entry)) channels count «parts_count») (now (memo .exit)) ⌝ }
+pub fn first_above(rules: &[u64], parts: &[u64], memo: &mut [u32], counts: Deck) -> Bound
+    requires { ⌜ Ready (now rules) (now parts) counts (now memo) ⌝ }
+    ensures { λ b. ⌜ (b ≡ boundOf (shape (now (rules .entry)) (now (parts .entry)) counts))
+        × Memo (shape (now (rules .entry)) (now (parts .entry)) counts) (now (memo .exit)) ⌝ }
 {
-    let most = largest(rules, parts, memo, channels, count, parts_count);
+    let most = largest(rules, parts, memo, counts);
     if most < charge_tables::CAP {
         return Bound::Within(most);
     }
-    search_above(rules, parts, memo, channels, count, parts_count)
+    search_above(rules, parts, memo, counts)
 }

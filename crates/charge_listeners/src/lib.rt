@@ -77,17 +77,9 @@ pub fn carries(parts: &[u64], p: usize, r: usize) -> bool
 }
 
 // The rules that are active at part p when the channels in the mask change, as a set.
-pub fn active(
-    rules: &[u64],
-    parts: &[u64],
-    channels: usize,
-    count: usize,
-    parts_count: usize,
-    p: usize,
-    mask: u64,
-) -> u64
-    requires { ⌜ AcyclicTables (now rules) (now parts) channels count «parts_count» × (p < «parts_count») ⌝ }
-    ensures { λ s. ⌜ ActiveIs (now (rules .entry)) (now (parts .entry)) count p mask s ⌝ }
+pub fn active(rules: &[u64], parts: &[u64], counts: Deck, p: usize, mask: u64) -> u64
+    requires { ⌜ AcyclicTables (now rules) (now parts) counts × (p < counts .parts) ⌝ }
+    ensures { λ s. ⌜ ActiveIs (now (rules .entry)) (now (parts .entry)) (counts .rules) p mask s ⌝ }
 {
     listeners(rules, mask) & parts[Deck::PART_ROW * p]
 }

@@ -13,8 +13,9 @@ use Rattle.lists.specs.Lists.{sumOf, below}
 use Rattle.lists.specs.Bits.{bit}
 use Rattle.lists.specs.Laws.Steps.{sumOf-start, sumOf-next, sumOf-only}
 use Rattle.deck.specs.Deck.{Deck, N}
-use Rattle.deck.specs.Shape.{bitsOf, shapeOf}
-use Rattle.deck.specs.Laws.Shape.{shape-N, shape-kind}
+use Rattle.deck.specs.Shape.{bitsOf, shape}
+use Rattle.deck.specs.declared.Deck as Counted
+use Rattle.deck.specs.Laws.Shape.{counted-N, shape-kind}
 use Rattle.charge.specs.Charge.{unlessEmpty, updateCharge, ruleCharge}
 use Rattle.charge.specs.Memo.{AcyclicTables, Memo, RowSmall, RowKnown, RowAdded, RowPut, Keeps, Begun, UpdatesGive, RulesGive, listening}
 use Rattle.charge.specs.Memo.{capped}
@@ -54,17 +55,27 @@ pub record Hearing (d : Deck) (n mask k : ℕ) (xs : List ℕ) : Type 0 where
   pub row : RowOf n (hearsBelow d mask k) k xs
 
 -- the charges of an action, and a memo that has all that it had
-pub record ActionGives (rules parts : List ℕ) (R M N mask : ℕ) (m₀ m sums : List ℕ) : Type 0 where
-  pub memo : Memo (shapeOf rules parts R M N) m
+pub record ActionGives (rules parts : List ℕ) (k : Counted.Deck) (mask : ℕ) (m₀ m sums : List ℕ) : Type 0 where
+  pub memo : Memo (shape rules parts k) m
   pub keeps : Keeps m₀ m
-  pub row : RowOf N (λ q. unlessEmpty (bitsOf 32 mask) (updateCharge (shapeOf rules parts R M N) q (bitsOf 32 mask))) 64 sums
+  pub row : RowOf (k .parts) (λ q. unlessEmpty (bitsOf 32 mask) (updateCharge (shape rules parts k) q (bitsOf 32 mask))) 64 sums
 
 pub ones-long : {row : List ℕ} → row ≡ replicate 16 1 → length row ≡ 16
 ones-long e = ap length e ∙ length-replicate {A = ℕ} 16 1
 
-module _ {rules parts : List ℕ} {R′ M′ N′ : ℕ} (h : AcyclicTables rules parts R′ M′ N′) where
+module _ {rules parts : List ℕ} {counts : Counted.Deck} (h : AcyclicTables rules parts counts) where
+  -- the counts
+  abbrev R′ : ℕ
+  R′ = counts .channels
+
+  abbrev M′ : ℕ
+  M′ = counts .rules
+
+  abbrev N′ : ℕ
+  N′ = counts .parts
+
   abbrev d : Deck
-  d = shapeOf rules parts R′ M′ N′
+  d = shape rules parts counts
 
   -- those of an action
   abbrev charges : ℕ → ℕ → ℕ
@@ -137,7 +148,7 @@ module _ {rules parts : List ℕ} {R′ M′ N′ : ℕ} (h : AcyclicTables rule
   pub row-written : {r : ℕ} {m n xs ys : List ℕ} → r < M′ → RowOf N′ (λ q. own d q r) 64 xs → RowOf N′ (given d r) 64 ys
       → RowPut N′ r (getD rules (8 * r + 3) 0) xs ys m n → Written d r m n
   row-written {r} {m} {n} {xs} {ys} b one two put =
-      let same = shape-N rules parts R′ M′ N′ in
+      let same = counted-N rules parts counts in
       record {
         long = put .long;
         each = λ p l. each p (omega (arith, same));
@@ -153,7 +164,7 @@ module _ {rules parts : List ℕ} {R′ M′ N′ : ℕ} (h : AcyclicTables rule
 
   -- the contracts' records from these
   pub gives-heard : {mask k : ℕ} {m₀ m xs : List ℕ} → Memo d m → Keeps m₀ m → Hearing d N′ mask k xs → k ≡ M′
-      → UpdatesGive rules parts R′ M′ N′ mask m₀ m xs
+      → UpdatesGive rules parts counts mask m₀ m xs
   gives-heard {mask} {k} memo keeps w e =
       record {
         memo = memo;
@@ -169,7 +180,7 @@ module _ {rules parts : List ℕ} {R′ M′ N′ : ℕ} (h : AcyclicTables rule
 
   -- an action without a channel leaves the row of zeros, another gives what its update gives
   pub action-none : {mask : ℕ} {m xs : List ℕ} → bitAnd mask 4294967295 ≡ 0 → Begun mask xs → Memo d m
-      → ActionGives rules parts R′ M′ N′ mask m m xs
+      → ActionGives rules parts counts mask m m xs
   action-none {mask} z b memo =
       record {
         memo = memo;
@@ -180,7 +191,7 @@ module _ {rules parts : List ℕ} {R′ M′ N′ : ℕ} (h : AcyclicTables rule
       }
 
   pub action-some : {mask : ℕ} {m₀ m xs : List ℕ} → (bitAnd mask 4294967295 ≡ 0 → ⊥)
-      → UpdatesGive rules parts R′ M′ N′ mask m₀ m xs → ActionGives rules parts R′ M′ N′ mask m₀ m xs
+      → UpdatesGive rules parts counts mask m₀ m xs → ActionGives rules parts counts mask m₀ m xs
   action-some {mask} z g =
       record {
         memo = g .memo;
@@ -192,13 +203,13 @@ module _ {rules parts : List ℕ} {R′ M′ N′ : ℕ} (h : AcyclicTables rule
       }
 
   all-known : {r : ℕ} {m : List ℕ} → RowKnown (N d) r m → RowKnown N′ r m
-  all-known {r} {m} known = subst (λ n. RowKnown n r m) (shape-N rules parts R′ M′ N′) known
+  all-known {r} {m} known = subst (λ n. RowKnown n r m) (counted-N rules parts counts) known
 
-  pub gives-known : {r : ℕ} {m : List ℕ} → Memo d m → (getD m (16 * r) 0 ≡ 0 → ⊥) → RulesGive rules parts R′ M′ N′ r m m
+  pub gives-known : {r : ℕ} {m : List ℕ} → Memo d m → (getD m (16 * r) 0 ≡ 0 → ⊥) → RulesGive rules parts counts r m m
   gives-known {r} memo w = record { memo = memo; keeps = keeps-same; known = all-known (row-known memo (few-parts h) r w) }
 
   pub gives-written : {r : ℕ} {m₀ m n : List ℕ} → Memo d m → Keeps m₀ m → Written d r m n
-      → RulesGive rules parts R′ M′ N′ r m₀ n
+      → RulesGive rules parts counts r m₀ n
   gives-written memo keeps w =
       record {
         memo = put-memo memo (few-parts h) w;

@@ -10,8 +10,9 @@ use Rattle.lists.specs.Bits.{bit}
 use Rattle.lists.specs.Laws.Booleans.{contradiction, not-true→false, and-both, and-left, and-right}
 use Rattle.lists.specs.Laws.Below.{anyOf-below}
 use Rattle.deck.specs.Deck.{Deck, N}
-use Rattle.deck.specs.Shape.{bitsOf, shapeOf}
-use Rattle.deck.specs.Laws.Shape.{shape-M, shape-N}
+use Rattle.deck.specs.Shape.{bitsOf, shape}
+use Rattle.deck.specs.declared.Deck as Counted
+use Rattle.deck.specs.Laws.Shape.{counted-M, counted-N}
 use Rattle.graph.specs.Masks.{carriedAt}
 use Rattle.charge.specs.Charge.{unlessEmpty, updateCharge, ruleCharge}
 use Rattle.charge.specs.Memo.{AcyclicTables, hearing, listening}
@@ -21,22 +22,32 @@ use Rattle.charge_tables.proofs.Terms.{heard, own, given, sent, when-no
 use Rattle.charge_tables.proofs.Terms.{listens-is}
 use Rattle.charge_tables.proofs.Heights.{rank, updateRank, ruleRank, falls}
 
-module _ {rules parts : List ℕ} {R′ M′ N′ : ℕ} (h : AcyclicTables rules parts R′ M′ N′) where
+module _ {rules parts : List ℕ} {counts : Counted.Deck} (h : AcyclicTables rules parts counts) where
+  -- the counts
+  abbrev R′ : ℕ
+  R′ = counts .channels
+
+  abbrev M′ : ℕ
+  M′ = counts .rules
+
+  abbrev N′ : ℕ
+  N′ = counts .parts
+
   abbrev d : Deck
-  d = shapeOf rules parts R′ M′ N′
+  d = shape rules parts counts
 
   inside : (p : ℕ) → p < N′ → p < N d
-  inside p l = omega (arith, shape-N rules parts R′ M′ N′)
+  inside p l = omega (arith, counted-N rules parts counts)
 
   module _ (p : ℕ) (l : p < N′) where
     pub update-all : (u : List ℕ) → 1 + sumOf (heard d p u) (below M′) ≡ updateCharge d p u
     update-all u =
-        ap (λ n. 1 + sumOf (heard d p u) (below n)) (sym (shape-M rules parts R′ M′ N′))
+        ap (λ n. 1 + sumOf (heard d p u) (below n)) (sym (counted-M rules parts counts))
         ∙ update-is (h .known) (h .acyclic) p (inside p l) u
 
     pub rule-all : (r : ℕ) → own d p r + sumOf (sent d p r) (below N′) ≡ ruleCharge d p r
     rule-all r =
-        ap (λ n. own d p r + sumOf (sent d p r) (below n)) (sym (shape-N rules parts R′ M′ N′))
+        ap (λ n. own d p r + sumOf (sent d p r) (below n)) (sym (counted-N rules parts counts))
         ∙ rule-is (h .known) (h .acyclic) p (inside p l) r
 
   module _ (r : ℕ) (k : r < M′) where
@@ -85,7 +96,7 @@ module _ {rules parts : List ℕ} {R′ M′ N′ : ℕ} (h : AcyclicTables rule
 
         rule-falls : hears ≡ true → ruleRank d r < updateRank d u
         rule-falls t =
-            falls (h .known) (h .acyclic) p r u (inside p l) (omega (arith, shape-M rules parts R′ M′ N′))
+            falls (h .known) (h .acyclic) p r u (inside p l) (omega (arith, counted-M rules parts counts))
             (listens-is rules parts R′ M′ N′ r k p u l (h .few-rules) ∙ t)
 
         -- a rule that part p hears is carried

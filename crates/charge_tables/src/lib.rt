@@ -8,10 +8,14 @@ ghost use lib.ListN.{length, getD, replicate};
 ghost use Rattle.lists.specs.Lists.{sumOf, below};
 ghost use Rattle.graph.specs.Masks.{carriedAt};
 ghost use Rattle.charge.specs.Memo.{Ready, UpdateGives, RulesGive, Begun, UpdatesGive, RowSmall, RowKnown, RowAdded, RowPut, capped};
+ghost use Rattle.charge.specs.Memo.{countsOf};
 use deck::Deck;
 
 // Where a charge stops: above the largest that a deck may have.
 pub const CAP: u32 = 65536;
+
+// All channels as a set: the other bits of a mask play no role.
+const ALL_CHANNELS: u64 = 4294967295;
 
 // A sum that stops at the cap, so that it fits however large the charge is.
 pub fn capped_sum(a: u32, b: u32) -> u32
@@ -41,13 +45,14 @@ fn add_row(sums: &mut [u32], parts: &[u64], memo: &[u32], parts_count: usize, r:
 fn begin(mask: u64) -> [u32; Deck::PARTS]
     ensures { λ sums. ⌜ Begun mask sums ⌝ }
 {
-    if mask & 4294967295 == 0 {
+    if mask & ALL_CHANNELS == 0 {
         return [0u32; Deck::PARTS];
     }
     [1u32; Deck::PARTS]
 }
 
-// The charges at all parts of an update of the channels in the mask, on a row that has 1 for each.
+// The charges at all parts of an update of the channels in the mask, on a row that has 1 for each. The counts are three numbers
+// here and in `rule_charges`: a struct would go through memory in each call.
 fn update_charges(
     rules: &[u64],
     parts: &[u64],
@@ -58,9 +63,9 @@ fn update_charges(
     mask: u64,
     sums: &mut [u32],
 )
-    requires { ⌜ Ready (now rules) (now parts) channels count «parts_count» (now memo) × (now sums ≡ replicate 16 1) ⌝ }
-    ensures { λ _. ⌜ UpdatesGive (now (rules .entry)) (now (parts .entry)) channels count «parts_count» mask (now (memo .entry))
-        (now (memo .exit)) (now (sums .exit)) ⌝ }
+    requires { ⌜ Ready (now rules) (now parts) (countsOf channels count «parts_count») (now memo) × (now sums ≡ replicate 16 1) ⌝ }
+    ensures { λ _. ⌜ UpdatesGive (now (rules .entry)) (now (parts .entry)) (countsOf channels count «parts_count») mask
+        (now (memo .entry)) (now (memo .exit)) (now (sums .exit)) ⌝ }
 {
     let set = charge_listeners::listeners(rules, mask);
     let mut left = set;
@@ -133,9 +138,9 @@ fn rule_charges(
     parts_count: usize,
     r: usize,
 )
-    requires { ⌜ Ready (now rules) (now parts) channels count «parts_count» (now memo) × (r < count)
+    requires { ⌜ Ready (now rules) (now parts) (countsOf channels count «parts_count») (now memo) × (r < count)
         × (carriedAt (now parts) «parts_count» r ≡ true) ⌝ }
-    ensures { λ _. ⌜ RulesGive (now (rules .entry)) (now (parts .entry)) channels count «parts_count» r (now (memo .entry))
+    ensures { λ _. ⌜ RulesGive (now (rules .entry)) (now (parts .entry)) (countsOf channels count «parts_count») r (now (memo .entry))
         (now (memo .exit)) ⌝ }
 {
     if memo[Deck::PARTS * r] != 0 {
@@ -145,7 +150,7 @@ fn rule_charges(
     let action = rules[Deck::RULE_ROW * r + 2];
     let mut first = begin(default);
     let mut second = begin(action);
-    if default & 4294967295 != 0 {
+    if default & ALL_CHANNELS != 0 {
         update_charges(
             rules,
             parts,
@@ -157,7 +162,7 @@ fn rule_charges(
             &mut first,
         );
     }
-    if action & 4294967295 != 0 {
+    if action & ALL_CHANNELS != 0 {
         update_charges(
             rules,
             parts,
@@ -180,24 +185,23 @@ fn rule_charges(
 }
 
 // The charges of rule r at all parts, if they are not in the memo yet. Mostly they are, and this test costs no call.
-pub fn known_charges(
-    rules: &[u64],
-    parts: &[u64],
-    memo: &mut [u32],
-    channels: usize,
-    count: usize,
-    parts_count: usize,
-    r: usize,
-)
-    requires { ⌜ Ready (now rules) (now parts) channels count «parts_count» (now memo) × (r < count)
-        × (carriedAt (now parts) «parts_count» r ≡ true) ⌝ }
-    ensures { λ _. ⌜ RulesGive (now (rules .entry)) (now (parts .entry)) channels count «parts_count» r (now (memo .entry))
-        (now (memo .exit)) ⌝ }
+pub fn known_charges(rules: &[u64], parts: &[u64], memo: &mut [u32], counts: Deck, r: usize)
+    requires { ⌜ Ready (now rules) (now parts) counts (now memo) × (r < counts .rules)
+        × (carriedAt (now parts) (counts .parts) r ≡ true) ⌝ }
+    ensures { λ _. ⌜ RulesGive (now (rules .entry)) (now (parts .entry)) counts r (now (memo .entry)) (now (memo .exit)) ⌝ }
 {
     if memo[Deck::PARTS * r] != 0 {
         return;
     }
-    rule_charges(rules, parts, memo, channels, count, parts_count, r);
+    rule_charges(
+        rules,
+        parts,
+        memo,
+        counts.channels,
+        counts.rules,
+        counts.parts,
+        r,
+    );
 }
 
 // The charge at part p of an update of the channels in the mask, up to 65,536.
@@ -205,21 +209,20 @@ pub fn update_charge(
     rules: &[u64],
     parts: &[u64],
     memo: &mut [u32],
-    channels: usize,
-    count: usize,
-    parts_count: usize,
+    counts: Deck,
     p: usize,
     mask: u64,
 ) -> u32
-    requires { ⌜ Ready (now rules) (now parts) channels count «parts_count» (now memo) × (p < «parts_count») ⌝ }
-    ensures { λ s. ⌜ UpdateGives (now (rules .entry)) (now (parts .entry)) channels count «parts_count» p mask (now (memo .exit)) s ⌝ }
+    requires { ⌜ Ready (now rules) (now parts) counts (now memo) × (p < counts .parts) ⌝ }
+    ensures { λ s. ⌜ UpdateGives (now (rules .entry)) (now (parts .entry)) counts p mask (now (memo .exit)) s ⌝ }
 {
-    let set = charge_listeners::active(rules, parts, channels, count, parts_count, p, mask);
+    let count = counts.rules;
+    let set = charge_listeners::active(rules, parts, counts, p, mask);
     let mut total: u32 = 1;
     let mut left = set;
     let mut r = lists::lowest(left);
     while r < count {
-        known_charges(rules, parts, memo, channels, count, parts_count, r);
+        known_charges(rules, parts, memo, counts, r);
         total = capped_sum(total, memo[Deck::PARTS * r + p] - 1);
         left = lists::rest(left);
         r = lists::lowest(left);

@@ -10,6 +10,7 @@ use Rattle.lists.specs.Lists.{select, below}
 use Rattle.lists.specs.Bits.{bit}
 use Rattle.expression.specs.Syntax.{literal, constant}
 use Rattle.deck.specs.Deck.{Action, Rule, Part, Deck}
+use Rattle.deck.specs.declared.Deck as Counted
 
 -- the numbers below n in a set
 unfoldable pub bitsOf : ℕ → ℕ → List ℕ
@@ -42,6 +43,10 @@ shapeOf rules parts R M N =
       rules = map (ruleShape rules) (below M);
       parts = map (partShape parts) (below N);
     }
+
+-- the same, with the three counts of a deck that was read
+abbrev pub shape : List ℕ → List ℕ → Counted.Deck → Deck
+shape rules parts k = shapeOf rules parts (k .channels) (k .rules) (k .parts)
 
 -- to open all definitions of this file, on an `unfolding` line
 unfoldable pub shapes : Unit {0}

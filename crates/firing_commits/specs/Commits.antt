@@ -29,7 +29,7 @@ pub record At (slots : List Slot) (p : ℕ) (u : Update) : Type 0 where
 
 -- a pool of slots whose updates are known, and a place that holds one
 pub record Looking (k : Counted.Deck) (rules parts memo : List ℕ) (pool : List ℤ) (p : ℕ) : Type 0 where
-  pub ready : Ready rules parts (k .channels) (k .rules) (k .parts) memo
+  pub ready : Ready rules parts k memo
   pub few : k .channels ≤ 32
   pub slots : List Slot
   pub spread : Spread pool slots

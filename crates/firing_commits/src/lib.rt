@@ -42,16 +42,7 @@ fn look(
     let part = pool_states::bounded_at(place, 0, counts.parts);
     let count = pool_states::bounded_at(place, 1, COUNTS);
     let mask = pool_states::channels_of(place);
-    let c = charge_tables::update_charge(
-        rules,
-        parts,
-        memo,
-        counts.channels,
-        counts.rules,
-        counts.parts,
-        part,
-        mask,
-    );
+    let c = charge_tables::update_charge(rules, parts, memo, counts, part, mask);
     let to = 2 + 2 * count;
     let pairs = &place[2..to];
     let changed = firing_actions::changed_by(values, part, pairs, back);

@@ -53,7 +53,7 @@ pub record Grown (d : Deck) (slots : List Slot) (new : List Update) (held : Held
 
 -- what a function that offers updates takes: tables without a cycle, a memo that is right, and room
 pub record Offering (rules parts : List ℕ) (k : Counted.Deck) (memo : List ℕ) (held : Held) (q : Queue) : Type 0 where
-  pub ready : Ready rules parts (k .channels) (k .rules) (k .parts) memo
+  pub ready : Ready rules parts k memo
   pub few : k .channels ≤ 32
   pub slots : List Slot
   pub room : Room (q .capacity) (holes slots) held

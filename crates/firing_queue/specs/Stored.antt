@@ -31,7 +31,7 @@ pub record Committing (s : List ℕ) (k : Counted.Deck) (rules parts memo : List
     (used total : ℕ) : Type 0 where
   pub tabled : Tabled s k rules parts
   pub none : NoDefaults (deckOf s)
-  pub ready : Ready rules parts (k .channels) (k .rules) (k .parts) memo
+  pub ready : Ready rules parts k memo
   pub acyclic : Acyclic (deckOf s)
   pub slots : List Slot
   pub room : Room C (holes slots) held

@@ -52,15 +52,7 @@ pub fn add(
     if slot == index.len() {
         return queue;
     }
-    let c = pool_states::place_charge(
-        rules,
-        parts,
-        memo,
-        counts.channels,
-        counts.rules,
-        counts.parts,
-        row,
-    );
+    let c = pool_states::place_charge(rules, parts, memo, counts, row);
     let total = queue.charge + c;
     if total > queue.capacity {
         return over_capacity(queue);

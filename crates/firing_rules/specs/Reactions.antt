@@ -68,7 +68,7 @@ Fires d values p mask e held₀ q₀ m held q =
 pub record Reacting (s : List ℕ) (k : Counted.Deck) (rules parts memo : List ℕ) (held : Held) (q : Queue) : Type 0 where
   pub tabled : Tabled s k rules parts
   pub none : NoDefaults (deckOf s)
-  pub ready : Ready rules parts (k .channels) (k .rules) (k .parts) memo
+  pub ready : Ready rules parts k memo
   pub slots : List Slot
   pub room : Room (q .capacity) (holes slots) held
   pub kept : Kept slots held

@@ -289,15 +289,7 @@ pub fn react(
         (heldOf (now (index .exit)) (now (pool .exit))) r ⌝ }
 {
     let part = change.part;
-    let set = charge_listeners::active(
-        rules,
-        parts,
-        counts.channels,
-        counts.rules,
-        counts.parts,
-        part,
-        change.channels,
-    );
+    let set = charge_listeners::active(rules, parts, counts, part, change.channels);
     if set == 0 {
         return queue;
     }

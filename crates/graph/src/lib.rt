@@ -7,7 +7,7 @@ ghost use mathlib.Core.Path.{_≡_};
 ghost use Prim.Native.Nat.{_≤_, _<_};
 ghost use lib.ListN.{length};
 ghost use Rattle.lists.specs.Lists.{select, below, firstOr};
-ghost use Rattle.deck.specs.Shape.{shapeOf};
+ghost use Rattle.deck.specs.Shape.{shape};
 ghost use Rattle.graph.specs.Graph.{reachesItself};
 ghost use Rattle.graph.specs.FirstCycle.{firstCycle};
 ghost use Rattle.graph.specs.Masks.{Sized, edgeAt, Added, CarriedIs, Drawn, Spread};
@@ -101,18 +101,12 @@ fn lowest_cycle(edges: &[u64], channels: usize) -> usize
     start
 }
 
-// The lowest channel of the tables that can reach itself, or `channels` where none can.
-pub fn first_cycle(
-    rules: &[u64],
-    parts: &[u64],
-    channels: usize,
-    count: usize,
-    parts_count: usize,
-) -> usize
-    requires { ⌜ Sized (now rules) (now parts) count «parts_count» × (channels ≤ 32) ⌝ }
-    ensures { λ r. ⌜ r ≡ firstCycle (shapeOf (now (rules .entry)) (now (parts .entry)) channels count «parts_count») ⌝ }
+// The lowest channel of the tables that can reach itself, or the number of channels where none can.
+pub fn first_cycle(rules: &[u64], parts: &[u64], counts: Deck) -> usize
+    requires { ⌜ Sized (now rules) (now parts) (counts .rules) (counts .parts) × (counts .channels ≤ 32) ⌝ }
+    ensures { λ r. ⌜ r ≡ firstCycle (shape (now (rules .entry)) (now (parts .entry)) counts) ⌝ }
 {
     let mut edges = [0u64; Deck::CHANNELS];
-    draw(rules, parts, count, parts_count, &mut edges);
-    lowest_cycle(&edges, channels)
+    draw(rules, parts, counts.rules, counts.parts, &mut edges);
+    lowest_cycle(&edges, counts.channels)
 }

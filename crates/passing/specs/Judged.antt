@@ -10,7 +10,7 @@ use Rattle.expression.specs.Laws.Bytes.{Bytes}
 use Rattle.deck.specs.declared.Form.{Form}
 use Rattle.deck.specs.Deck.{Deck}
 use Rattle.deck.specs.Layout.{read}
-use Rattle.deck.specs.Shape.{shapeOf}
+pub use Rattle.deck.specs.Shape.{shape}
 use Rattle.deck.specs.Marks.{RulesFit, Marked, markedSections}
 use Rattle.deck.specs.declared.Deck as Counted
 use Rattle.graph.specs.Laws.Cycles.{KnownTargets}
@@ -24,10 +24,6 @@ use Rattle.passing.specs.Check.{passing}
 use Rattle.passing.specs.Tabled.{layoutOf, deckOf, Tabled}
 use Rattle.passing.specs.declared.Judged.{Judged}
 use Rattle.passing.specs.declared.Judged.the-variants.{Passing, Refused}
-
--- the deck that graph and charge see in the tables
-abbrev pub shape : List ℕ → List ℕ → Counted.Deck → Deck
-shape rules parts k = shapeOf rules parts (k .channels) (k .rules) (k .parts)
 
 -- tables that the searches can take
 pub record RulesKnown (rules parts : List ℕ) (k : Counted.Deck) : Type 0 where
@@ -43,7 +39,7 @@ JudgesRules rules parts memo k (Passing c n) =
     (c ≡ k)
     × (firstCycle (shape rules parts k) ≡ k .channels)
     × (boundOf (shape rules parts k) ≡ Within n)
-    × AcyclicTables rules parts (k .channels) (k .rules) (k .parts)
+    × AcyclicTables rules parts k
     × Memo (shape rules parts k) memo
 JudgesRules rules parts memo k (Refused n p) =
     ((n ≡ cyclicGraph) × (firstCycle (shape rules parts k) ≡ p) × (p < k .channels))
@@ -72,7 +68,7 @@ pub record Passed (f : Form) (s rules parts memo : List ℕ) (k : Counted.Deck) 
   pub passes : passing f s ≡ accepted (layoutOf s)
   pub largest : largestCharge (deckOf s) ≡ charge
   pub tabled : Tabled s k rules parts
-  pub acyclic : AcyclicTables rules parts (k .channels) (k .rules) (k .parts)
+  pub acyclic : AcyclicTables rules parts k
   pub charges : Memo (shape rules parts k) memo
   pub bytes : Bytes s
 

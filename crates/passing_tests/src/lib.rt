@@ -133,18 +133,11 @@ fn judge_rules(rules: &[u64], parts: &[u64], memo: &mut [u32], counts: Deck) -> 
     requires { ⌜ RulesKnown (now rules) (now parts) counts × (now memo ≡ replicate (memoSize (counts .rules)) 0) ⌝ }
     ensures { λ r. ⌜ JudgesRules (now (rules .entry)) (now (parts .entry)) (now (memo .exit)) counts r ⌝ }
 {
-    let c = graph::first_cycle(rules, parts, counts.channels, counts.rules, counts.parts);
+    let c = graph::first_cycle(rules, parts, counts);
     if c < counts.channels {
         return refused(refusals::CYCLIC_GRAPH, c);
     }
-    let bound = charge_bound::first_above(
-        rules,
-        parts,
-        memo,
-        counts.channels,
-        counts.rules,
-        counts.parts,
-    );
+    let bound = charge_bound::first_above(rules, parts, memo, counts);
     match bound {
         charge::Bound::Above(place) => refused(refusals::OVERCHARGED, place),
         charge::Bound::Within(charge) => Judged::Passing {

@@ -9,7 +9,6 @@ use lib.IntN.{ℤ, pos}
 use Rattle.lists.specs.Lists.{allOf}
 use Rattle.lists.specs.Bits.{maskOf}
 use Rattle.deck.specs.Deck.{Deck, R, N}
-use Rattle.deck.specs.Shape.{shapeOf}
 use Rattle.charge.specs.Charge.{updateCharge}
 use Rattle.charge.specs.Memo.{Memo, Answered, capped}
 use Rattle.pool.specs.Updates.{channels, allDifferent, charge}
@@ -98,9 +97,8 @@ pub record Fresh (n : ℕ) (index : List ℕ) : Type 0 where
   pub roomy : Roomy (capacity n) index
   pub zeros : index ≡ replicate (length index) 0
 
--- the answer by the shape of the tables, a memo that is still right, and the index of a good state
-pub record TestsGood (rules parts : List ℕ) (R′ M′ N′ : ℕ) (values : List ℤ) (pending : ℕ) (pool : List ℤ) (m index₀ index : List ℕ)
-    (r : Goodness) : Type 0 where
-  pub answer : r ≡ goodnessOf (shapeOf rules parts R′ M′ N′) (memoryOf values pending pool)
-  pub memo : Memo (shapeOf rules parts R′ M′ N′) m
+-- the answer, a memo that is still right, and the index of a good state
+pub record TestsGood (d : Deck) (values : List ℤ) (pending : ℕ) (pool : List ℤ) (m index₀ index : List ℕ) (r : Goodness) : Type 0 where
+  pub answer : r ≡ goodnessOf d (memoryOf values pending pool)
+  pub memo : Memo d m
   pub indexes : IndexedIf pending pool index₀ index ((total : ℕ) × (r ≡ Good total))

@@ -7,7 +7,7 @@ ghost use lib.ListN.{length, getD, drop, replicate};
 ghost use lib.IntN.{pos};
 ghost use Rattle.lists.specs.Lists.{allOf};
 ghost use Rattle.lists.specs.Bits.{maskOf};
-ghost use Rattle.deck.specs.Shape.{shapeOf};
+ghost use Rattle.deck.specs.Shape.{shape};
 ghost use Rattle.charge.specs.Memo.{Ready};
 ghost use Rattle.pool.specs.Updates.{channels};
 ghost use Rattle.pool.specs.Places.{isZero, updateOf, wellWritten};
@@ -180,19 +180,16 @@ pub fn place_charge(
     rules: &[u64],
     parts: &[u64],
     memo: &mut [u32],
-    channels: usize,
-    count: usize,
-    parts_count: usize,
+    counts: Deck,
     place: &[i32],
 ) -> u32
-    requires { ⌜ Ready (now rules) (now parts) channels count «parts_count» (now memo) × (channels ≤ 32)
-        × HoldsKnown (shapeOf (now rules) (now parts) channels count «parts_count») (now place) ⌝ }
-    ensures { λ s. ⌜ PlaceGives (shapeOf (now (rules .entry)) (now (parts .entry)) channels count «parts_count») (now (place .entry))
-        (now (memo .exit)) s ⌝ }
+    requires { ⌜ Ready (now rules) (now parts) counts (now memo) × (counts .channels ≤ 32)
+        × HoldsKnown (shape (now rules) (now parts) counts) (now place) ⌝ }
+    ensures { λ s. ⌜ PlaceGives (shape (now (rules .entry)) (now (parts .entry)) counts) (now (place .entry)) (now (memo .exit)) s ⌝ }
 {
-    let p = bounded_at(place, 0, parts_count);
+    let p = bounded_at(place, 0, counts.parts);
     let mask = channels_of(place);
-    charge_tables::update_charge(rules, parts, memo, channels, count, parts_count, p, mask)
+    charge_tables::update_charge(rules, parts, memo, counts, p, mask)
 }
 
 // The charge of the pending updates, up to 65,536, and the index of them, if each place is well written and holds a known
@@ -202,39 +199,27 @@ fn weigh(
     rules: &[u64],
     parts: &[u64],
     memo: &mut [u32],
-    channels: usize,
-    count: usize,
-    parts_count: usize,
+    counts: Deck,
     pool: &[i32],
     pending: usize,
     index: &mut [u16],
 ) -> Goodness
-    requires { ⌜ Ready (now rules) (now parts) channels count «parts_count» (now memo) × (channels ≤ 32)
-        × (10 * pending ≤ length (now pool)) × (pending ≤ 65535) × Roomy pending (now index)
-        × (now index ≡ replicate (length (now index)) 0) ⌝ }
-    ensures { λ r. ⌜ Weighs (shapeOf (now (rules .entry)) (now (parts .entry)) channels count «parts_count») pending (now (pool .entry))
-        (now (memo .exit)) (now (index .entry)) (now (index .exit)) r ⌝ }
+    requires { ⌜ Ready (now rules) (now parts) counts (now memo) × (counts .channels ≤ 32) × (10 * pending ≤ length (now pool))
+        × (pending ≤ 65535) × Roomy pending (now index) × (now index ≡ replicate (length (now index)) 0) ⌝ }
+    ensures { λ r. ⌜ Weighs (shape (now (rules .entry)) (now (parts .entry)) counts) pending (now (pool .entry)) (now (memo .exit))
+        (now (index .entry)) (now (index .exit)) r ⌝ }
 {
     let mut total: u32 = 0;
     let mut k: usize = 0;
     while k < pending {
         let at = Deck::PLACE * k;
         let next = at + Deck::PLACE;
-        let mask = place_fits(&pool[at..next], channels, parts_count);
+        let mask = place_fits(&pool[at..next], counts.channels, counts.parts);
         if mask == 0 {
             return Goodness::Bad;
         }
-        let p = bounded_at(&pool[at..next], 0, parts_count);
-        let c = charge_tables::update_charge(
-            rules,
-            parts,
-            memo,
-            channels,
-            count,
-            parts_count,
-            p,
-            mask,
-        );
+        let p = bounded_at(&pool[at..next], 0, counts.parts);
+        let c = charge_tables::update_charge(rules, parts, memo, counts, p, mask);
         total = charge_tables::capped_sum(total, c);
         let slot = pool_index::find_first(index, pool, k, &pool[at..next]);
         if slot == index.len() {
@@ -270,32 +255,20 @@ pub fn good_state(
     parts: &[u64],
     memo: &mut [u32],
     index: &mut [u16],
-    channels: usize,
-    count: usize,
-    parts_count: usize,
+    counts: Deck,
     values: &[i32],
     pending: usize,
     pool: &[i32],
 ) -> Goodness
-    requires { ⌜ Ready (now rules) (now parts) channels count «parts_count» (now memo) × (channels ≤ 32)
-        × (goodLength (length (now pool)) ≡ true) × Fresh (length (now pool)) (now index) ⌝ }
-    ensures { λ r. ⌜ TestsGood (now (rules .entry)) (now (parts .entry)) channels count «parts_count» (now (values .entry)) pending
-        (now (pool .entry)) (now (memo .exit)) (now (index .entry)) (now (index .exit)) r ⌝ }
+    requires { ⌜ Ready (now rules) (now parts) counts (now memo) × (counts .channels ≤ 32) × (goodLength (length (now pool)) ≡ true)
+        × Fresh (length (now pool)) (now index) ⌝ }
+    ensures { λ r. ⌜ TestsGood (shape (now (rules .entry)) (now (parts .entry)) counts) (now (values .entry)) pending (now (pool .entry))
+        (now (memo .exit)) (now (index .entry)) (now (index .exit)) r ⌝ }
 {
-    if !state_fits(values, pending, pool, channels, parts_count) {
+    if !state_fits(values, pending, pool, counts.channels, counts.parts) {
         return Goodness::Bad;
     }
-    let weighed = weigh(
-        rules,
-        parts,
-        memo,
-        channels,
-        count,
-        parts_count,
-        pool,
-        pending,
-        index,
-    );
+    let weighed = weigh(rules, parts, memo, counts, pool, pending, index);
     match weighed {
         Goodness::Bad => Goodness::Bad,
         Goodness::Good(total) => {

@@ -145,7 +145,7 @@ module _ (s rules parts charges : List ℕ) (k : Counted.Deck) (n : ℕ) (w : Ju
       rw (w .tabled .counts .channels, w .tabled .counts .rules, w .tabled .counts .parts)
       (shape-goodness (w .tabled .sets) (w .tabled .ranged) m)
 
-  pub state-ready : Ready rules parts (k .channels) (k .rules) (k .parts) charges × (k .channels ≤ 32)
+  pub state-ready : Ready rules parts k charges × (k .channels ≤ 32)
   state-ready = (
     record { tables = w .acyclic; memo = w .charges },
     omega (arith, w .tabled .counts .channels, w .tabled .counts .formed .channels),

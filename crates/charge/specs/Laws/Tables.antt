@@ -12,9 +12,10 @@ use mir.Val.{Fits}
 use borrow.Author.Tests.{leb-true}
 use Rattle.lists.specs.Lists.{below}
 use Rattle.deck.specs.Deck.{Deck, Rule, M}
-use Rattle.deck.specs.Shape.{ruleShape, partShape, shapeOf}
-use Rattle.deck.specs.Laws.Shape.{shape-M}
-use Rattle.charge.specs.Memo.{AcyclicTables, OthersKept, memoSize, Memo}
+use Rattle.deck.specs.Shape.{ruleShape, partShape, shapeOf, shape}
+use Rattle.deck.specs.declared.Deck as Counted
+use Rattle.deck.specs.Laws.Shape.{counted-M}
+use Rattle.charge.specs.Memo.{AcyclicTables, OthersKept, memoSize, Memo, Ready, RulesGive, countsOf}
 
 zeros : (n i : ℕ) → getD {A = ℕ} (replicate n 0) i 0 ≡ 0
 zeros zero i = refl
@@ -53,7 +54,7 @@ field-of rules r i few low fits = record {
   inside = omega arith;
 }
 
-pub field : {rules parts : List ℕ} {R M N : ℕ} → AcyclicTables rules parts R M N → (r i : ℕ) → r < M → i < 8 → Field rules r i
+pub field : {rules parts : List ℕ} {k : Counted.Deck} → AcyclicTables rules parts k → (r i : ℕ) → r < k .rules → i < 8 → Field rules r i
 field {rules} h r i l low = field-of rules r i (omega (arith, h .few-rules)) low (omega (arith, h .rules-room))
 
 -- what it computes to read the row of rule r in a memo
@@ -66,8 +67,8 @@ entry-of : (m : List ℕ) (r : ℕ) → r < 64 → 16 * r + 16 ≤ length m → 
 entry-of m r few room = record { start = record { fits = omega arith }; bytes = record { fits = omega arith }; inside = omega arith }
 
 -- the length of a memo, by the count of rules that the tables are read with
-pub memo-long : (rules parts : List ℕ) (R M′ N : ℕ) {m : List ℕ} → Memo (shapeOf rules parts R M′ N) m → length m ≡ memoSize M′
-memo-long rules parts R M′ N h = h .long ∙ ap memoSize (shape-M rules parts R M′ N)
+pub memo-long : (rules parts : List ℕ) (k : Counted.Deck) {m : List ℕ} → Memo (shape rules parts k) m → length m ≡ memoSize (k .rules)
+memo-long rules parts k h = h .long ∙ ap memoSize (counted-M rules parts k)
 
 -- column 7 plays no role for the shape
 module _ {rules₀ rules : List ℕ} (h : OthersKept rules₀ rules) where
@@ -84,7 +85,30 @@ module _ {rules₀ rules : List ℕ} (h : OthersKept rules₀ rules) where
       ap (λ (f : ℕ → Rule). record { labels = replicate R 0; rules = map f (below M); parts = map (partShape parts) (below N) })
       (fun-ext rule-kept)
 
-pub entry : {rules parts : List ℕ} {R M N : ℕ} {m : List ℕ} → AcyclicTables rules parts R M N → Memo (shapeOf rules parts R M N) m
-    → (r : ℕ) → r < M → Entry m r
-entry {rules} {parts} {R} {M} {N} {m} h memo r l =
-    entry-of m r (omega (arith, h .few-rules)) (omega (arith, memo-long rules parts R M N memo, memo-room M r l (h .few-rules)))
+pub entry : {rules parts : List ℕ} {k : Counted.Deck} {m : List ℕ} → AcyclicTables rules parts k → Memo (shape rules parts k) m
+    → (r : ℕ) → r < k .rules → Entry m r
+entry {rules} {parts} {k} {m} h memo r l =
+    entry-of m r (omega (arith, h .few-rules)) (omega (arith, memo-long rules parts k memo, memo-room (k .rules) r l (h .few-rules)))
+
+-- only the three counts play a role: the offsets beside them do not
+pub ready-counted : {rules parts m : List ℕ} {k : Counted.Deck} → Ready rules parts k m
+    → Ready rules parts (countsOf (k .channels) (k .rules) (k .parts)) m
+ready-counted h =
+    let t = h .tables in
+    record {
+      tables = record {
+        rules-long = t .rules-long;
+        rules-room = t .rules-room;
+        parts-long = t .parts-long;
+        few-rules = t .few-rules;
+        few-parts = t .few-parts;
+        acyclic = t .acyclic;
+        known = t .known;
+        noted = t .noted;
+      };
+      memo = h .memo;
+    }
+
+pub counted-gives : {rules parts m₀ m : List ℕ} {k : Counted.Deck} {r : ℕ}
+    → RulesGive rules parts (countsOf (k .channels) (k .rules) (k .parts)) r m₀ m → RulesGive rules parts k r m₀ m
+counted-gives g = record { memo = g .memo; keeps = g .keeps; known = g .known }

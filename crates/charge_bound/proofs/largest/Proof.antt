@@ -5,7 +5,7 @@ use mathlib.Core.Path.{sym, _∙_}
 use native.Mathlib.Omega.{arith}
 use Rattle.lists.specs.Laws.Through.{Through, through-next, through-here, through-all}
 use Rattle.lists.specs.Laws.Walks.{Walk, walk-first, walk-on, walk-next}
-use Rattle.deck.specs.Shape.{shapeOf}
+use Rattle.deck.specs.Shape.{shape}
 use Rattle.charge.specs.Memo.{Memo}
 use Rattle.charge.specs.Answer.{LargestOfRules}
 use Rattle.charge_tables.specs.Laws.Entries.{row-room}
@@ -14,12 +14,22 @@ use Rattle.charge_bound.proofs.largest.Statement.{statement}
 use Rattle.charge_bound.proofs.largest.Tie as tie
 
 abbrev Inv-loop : tie.InvT-loop
-Inv-loop rules parts memo₀ channels count parts-count carried most₀ left₀ r₀ memo most left r =
-    let d = shapeOf rules parts channels count parts-count in
-    Walk carried left r × Memo d memo × Through carried count (λ k. LargestOfRules d k most) r
+Inv-loop rules parts memo₀ counts count carried most₀ left₀ r₀ memo most left r =
+    let d = shape rules parts counts in
+    Walk carried left r × Memo d memo × Through carried (counts .rules) (λ k. LargestOfRules d k most) r
 
 abbrev μ-loop : tie.MeasureT-loop
-μ-loop rules parts memo₀ channels count parts-count carried most₀ left₀ r₀ memo most left r = 64 - r
+μ-loop rules parts memo₀ counts count carried most₀ left₀ r₀ memo most left r = 64 - r
+
+-- back from the loop to the start, and within a turn to its call and its test
+abbrev start-of : tie.At-loop Inv-loop μ-loop → tie.Start Inv-loop μ-loop
+start-of c = c .before .before .before .before .before .before
+
+abbrev turn-of : tie.After-known-charges Inv-loop μ-loop → tie.In-loop Inv-loop μ-loop
+turn-of c = c .before .before
+
+abbrev call-of : tie.After-row-largest-arg Inv-loop μ-loop → tie.After-known-charges Inv-loop μ-loop
+call-of c = c .before .before .before
 
 loop-holds : tie.Need-loop-holds Inv-loop μ-loop
 loop-holds c =
@@ -34,7 +44,7 @@ loop-holds c =
 
 known-charges-requires : tie.Need-known-charges-requires Inv-loop μ-loop
 known-charges-requires c κs =
-    let s = c .before .before .before .before .before .before .before .before in
+    let s = start-of (c .before .before) in
     let i = c .before .before .loop in
     let k = c .before .loop-test .taken in (
       record { tables = s .pre .tables; memo = i .inv .1 },
@@ -44,25 +54,27 @@ known-charges-requires c κs =
 
 row-largest-requires : tie.Need-row-largest-requires Inv-loop μ-loop
 row-largest-requires c κs =
-    let s = c .before .before .before .before .before .before .before .before .before .before .before .before in
-    let g = c .before .before .before .known-charges .ensures in
-    let room = row-room (s .pre .tables) (g .memo) _ (c .before .before .before .before .before .loop-test .taken) in
+    let t = turn-of (call-of c) in
+    let s = start-of (t .before) in
+    let g = call-of c .known-charges .ensures in
+    let room = row-room (s .pre .tables) (g .memo) _ (t .loop-test .taken) in
     (s .pre .tables .parts-long, room, s .pre .tables .few-parts, omega arith, g .known)
 
 loop-less : tie.Need-loop-less Inv-loop μ-loop
 loop-less c =
-    let w = c .before .before .before .before .before .before .before .before .before .loop .inv .0 in
+    let w = turn-of (call-of (c .before .before .before)) .before .loop .inv .0 in
     let n = walk-on w (c .before .rest .ensures) (c .lowest2 .ensures) in
     omega (arith, n .on (omega arith), n .most)
 
 loop-again : tie.Need-loop-again Inv-loop μ-loop
 loop-again c =
-    let s = c .before .before .before .before .before .before .before .before .before .before .before .before .before .before .before in
-    let h = s .pre .tables in
-    let all = c .before .before .before .before .before .before .before .before .before .before .before .carried-by-some .ensures in
-    let i = c .before .before .before .before .before .before .before .before .before .loop in
-    let k = c .before .before .before .before .before .before .before .before .loop-test .taken in
-    let g = c .before .before .before .before .before .before .known-charges .ensures in
+    let call = call-of (c .before .before .before) in
+    let t = turn-of call in
+    let h = start-of (t .before) .pre .tables in
+    let all = t .before .before .before .carried-by-some .ensures in
+    let i = t .before .loop in
+    let k = t .loop-test .taken in
+    let g = call .known-charges .ensures in
     let left = c .before .rest .ensures in
     let low = c .lowest2 .ensures in (
       walk-next (i .inv .0) left low,
@@ -87,5 +99,5 @@ largest-spec =
     (λ c κs. tt)
     loop-less
     loop-again
-    (λ c. c .before .loop .inv .1 .long ∙ sym (c .before .before .before .before .before .before .before .pre .memo .long))
+    (λ c. c .before .loop .inv .1 .long ∙ sym (start-of (c .before) .pre .memo .long))
     (λ c. (through-all (c .before .loop .inv .2) (c .loop-test .left), c .before .loop .inv .1)))

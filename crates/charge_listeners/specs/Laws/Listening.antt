@@ -14,6 +14,7 @@ use Rattle.lists.specs.Laws.Below.{anyOf-below, select-below}
 use Rattle.lists.specs.Laws.Agreement.{anyOf-agree}
 use Rattle.lists.specs.Laws.Bits.{bit-and}
 use Rattle.deck.specs.Shape.{bitsOf}
+use Rattle.deck.specs.declared.Deck as Counted
 use Rattle.deck.specs.Laws.Shape.{bits-member}
 use Rattle.graph.specs.Masks.{carriedAt}
 use Rattle.charge.specs.Memo.{ListenersAre, AcyclicTables, hearing, listening}
@@ -23,7 +24,11 @@ pub carried-by : (parts : List ℕ) (N′ r p : ℕ) → p < N′ → bit (getD 
 unfolding carriedAt
 carried-by parts N′ r p l t = anyOf-below (λ q. bit (getD parts (4 * q) 0) r) N′ .1 (p, l, t)
 
-module _ {rules parts : List ℕ} {R′ M′ N′ : ℕ} (h : AcyclicTables rules parts R′ M′ N′) (r : ℕ) (k : r < M′) (mask : ℕ) where
+module _ {rules parts : List ℕ} {counts : Counted.Deck} (h : AcyclicTables rules parts counts) (r : ℕ) (k : r < counts .rules)
+    (mask : ℕ) where
+  abbrev N′ : ℕ
+  N′ = counts .parts
+
   abbrev u : List ℕ
   u = bitsOf 32 mask
 
@@ -41,7 +46,7 @@ module _ {rules parts : List ℕ} {R′ M′ N′ : ℕ} (h : AcyclicTables rule
       (λ c m.
       let l = select-below (bit mask) 32 c .0 m .0 in
       h .noted .each c r l (omega (arith, h .few-rules))
-      ∙ ap₂ (λ a b. a && (carriedAt parts N′ r && b)) (lt-ltb r M′ k) (sym (bits-member 32 (getD rules (8 * r) 0) c l)))
+      ∙ ap₂ (λ a b. a && (carriedAt parts N′ r && b)) (lt-ltb r (counts .rules) k) (sym (bits-member 32 (getD rules (8 * r) 0) c l)))
       ∙ go (carriedAt parts N′ r)
     where
       heard-by : ℕ → Bool

@@ -18,7 +18,7 @@ use Rattle.lists.specs.Laws.Walks.{Walk, walk-first, walk-on, walk-next}
 use Rattle.lists.proofs.lowest.Reads as lowest-reads
 use Rattle.lists.proofs.rest.Reads as rest-reads
 use Rattle.deck.specs.Shape.{bitsOf, shapeOf}
-use Rattle.charge.specs.Memo.{Memo, Keeps, listening}
+use Rattle.charge.specs.Memo.{Memo, Keeps, listening, countsOf}
 use Rattle.charge.specs.Laws.Tables.{Field, field, Entry, entry}
 use Rattle.charge_listeners.specs.Laws.Listening.{is-listener}
 use Rattle.charge_tables.specs.Laws.Entries.{row-room}
@@ -95,6 +95,16 @@ nearer : {r r′ : ℕ} → r < 64 → r + 1 ≤ r′ → 64 - r′ < 64 - r
 nearer l n = omega arith
 
 module _ (t : ℕ) where
+  -- back to the start from behind the test of the memo and from behind the first rows, and from the last call to where both are known
+  abbrev start-of : R.Else1 (R-claims t) (R-at t) rule.Post → R.Start (R-claims t) (R-at t) rule.Post
+  start-of c = c .before .before .before .before .before
+
+  abbrev begun-of : R.After-begin2 (R-claims t) (R-at t) rule.Post → R.Start (R-claims t) (R-at t) rule.Post
+  begun-of c = start-of (c .before .before .before .before)
+
+  abbrev both-of : R.After-second3 (R-claims t) (R-at t) rule.Post → R.Joined3 (R-claims t) (R-at t) rule.Post
+  both-of c = c .before .before .before .before
+
   -- what is read in the memo, and in the row of the rule
   memo-at : (s : R.Start (R-claims t) (R-at t) rule.Post) → Entry (s .args .memo .now) (s .args .r)
   memo-at s = entry (s .pre .1 .0 .tables) (s .pre .1 .0 .memo) (s .args .r) (s .pre .1 .1)
@@ -123,28 +133,28 @@ module _ (t : ℕ) where
       gives-known (s .pre .1 .0 .tables) (s .pre .1 .0 .memo) (c .if1 .taken)
 
   R-mul-default : R.Need-mul-default (R-claims t) (R-at t) rule.Post
-  R-mul-default c = default-at (c .before .before .before .before .before) .row
+  R-mul-default c = default-at (start-of c) .row
 
   R-add-default : R.Need-add-default (R-claims t) (R-at t) rule.Post
-  R-add-default c = default-at (c .before .before .before .before .before) .place
+  R-add-default c = default-at (start-of c) .place
 
   R-mul-default-2 : R.Need-mul-default-2 (R-claims t) (R-at t) rule.Post
-  R-mul-default-2 c = default-at (c .before .before .before .before .before) .bytes
+  R-mul-default-2 c = default-at (start-of c) .bytes
 
   R-shared-slice-read-default : R.Need-shared-slice-read-default (R-claims t) (R-at t) rule.Post
-  R-shared-slice-read-default c = default-at (c .before .before .before .before .before .before) .inside
+  R-shared-slice-read-default c = default-at (start-of (c .before)) .inside
 
   R-mul-action : R.Need-mul-action (R-claims t) (R-at t) rule.Post
-  R-mul-action c = action-at (c .before .before .before .before .before .before) .row
+  R-mul-action c = action-at (start-of (c .before)) .row
 
   R-add-action : R.Need-add-action (R-claims t) (R-at t) rule.Post
-  R-add-action c = action-at (c .before .before .before .before .before .before) .place
+  R-add-action c = action-at (start-of (c .before)) .place
 
   R-mul-action-2 : R.Need-mul-action-2 (R-claims t) (R-at t) rule.Post
-  R-mul-action-2 c = action-at (c .before .before .before .before .before .before) .bytes
+  R-mul-action-2 c = action-at (start-of (c .before)) .bytes
 
   R-shared-slice-read-action : R.Need-shared-slice-read-action (R-claims t) (R-at t) rule.Post
-  R-shared-slice-read-action c = action-at (c .before .before .before .before .before .before .before) .inside
+  R-shared-slice-read-action c = action-at (start-of (c .before .before)) .inside
 
   R-begin-requires : R.Need-begin-requires (R-claims t) (R-at t) rule.Post
   R-begin-requires c κs = tt
@@ -155,24 +165,24 @@ module _ (t : ℕ) where
   -- what is known where the arms of a test for an empty action meet
   abbrev Given : R.Start (R-claims t) (R-at t) rule.Post → ℕ → List ℕ → List ℕ → List ℕ → Type 0
   Given s k m₀ m sums =
-      ActionGives (s .args .rules .now) (s .args .parts .now) (s .args .channels) (s .args .count) (s .args .parts-count)
+      ActionGives (s .args .rules .now) (s .args .parts .now) (countsOf (s .args .channels) (s .args .count) (s .args .parts-count))
       (getD (s .args .rules .now) (8 * s .args .r + k) 0) m₀ m sums
 
   first-given : (c : R.Joined2 (R-claims t) (R-at t) rule.Post)
-      → let s = c .before .before .before .before .before .before .before .before .before .before in
+      → let s = begun-of (c .before) in
       Given s 1 (s .args .memo .now) (c .if2 .memo) (c .if2 .first)
   first-given c =
-      let s = c .before .before .before .before .before .before .before .before .before .before in
+      let s = begun-of (c .before) in
       ⊎-elim
       (λ w. rw (w .7, w .8) (action-some (s .pre .1 .0 .tables) (w .0 .taken) (w .3 .ensures)))
       (λ w. rw (w .1, w .2) (action-none (s .pre .1 .0 .tables) (w .0 .left) (c .before .before .begin .ensures) (s .pre .1 .0 .memo)))
       (c .if2 .came)
 
   second-given : (c : R.Joined3 (R-claims t) (R-at t) rule.Post)
-      → let s = c .before .before .before .before .before .before .before .before .before .before .before in
+      → let s = begun-of (c .before .before) in
       Given s 2 (c .before .if2 .memo) (c .if3 .memo) (c .if3 .second)
   second-given c =
-      let s = c .before .before .before .before .before .before .before .before .before .before .before in
+      let s = begun-of (c .before .before) in
       ⊎-elim
       (λ w. rw (w .7, w .8) (action-some (s .pre .1 .0 .tables) (w .0 .taken) (w .3 .ensures)))
       (λ w. rw (
@@ -187,7 +197,7 @@ module _ (t : ℕ) where
 
   R-update-charges-requires : R.Need-update-charges-requires (R-claims t) (R-at t) rule.Post
   R-update-charges-requires c κs =
-      let s = c .before .before .before .before .before .before .before .before .before .before .before .before in
+      let s = begun-of (c .before .before .before) in
       let f = first-falls (s .pre .1 .0 .tables) (s .args .r) (s .pre .1 .1) in
       (lower f (s .pre .0), (s .pre .1 .0, c .before .before .before .before .begin .ensures .some (c .before .before .if2 .taken)))
 
@@ -197,7 +207,7 @@ module _ (t : ℕ) where
 
   R-update-charges-requires-2 : R.Need-update-charges-requires-2 (R-claims t) (R-at t) rule.Post
   R-update-charges-requires-2 c κs =
-      let s = c .before .before .before .before .before .before .before .before .before .before .before .before .before in
+      let s = begun-of (c .before .before .before .before) in
       let f = second-falls (s .pre .1 .0 .tables) (s .args .r) (s .pre .1 .1) in (
         lower f (s .pre .0),
         (
@@ -207,44 +217,44 @@ module _ (t : ℕ) where
       )
 
   R-mul-put-row : R.Need-mul-put-row (R-claims t) (R-at t) rule.Post
-  R-mul-put-row c = kind-at (c .before .before .before .before .before .before .before .before .before .before .before .before) .row
+  R-mul-put-row c = kind-at (begun-of (c .before .before .before)) .row
 
   R-add-put-row : R.Need-add-put-row (R-claims t) (R-at t) rule.Post
-  R-add-put-row c = kind-at (c .before .before .before .before .before .before .before .before .before .before .before .before) .place
+  R-add-put-row c = kind-at (begun-of (c .before .before .before)) .place
 
   R-mul-put-row-2 : R.Need-mul-put-row-2 (R-claims t) (R-at t) rule.Post
-  R-mul-put-row-2 c = kind-at (c .before .before .before .before .before .before .before .before .before .before .before .before) .bytes
+  R-mul-put-row-2 c = kind-at (begun-of (c .before .before .before)) .bytes
 
   R-shared-slice-read-put-row : R.Need-shared-slice-read-put-row (R-claims t) (R-at t) rule.Post
-  R-shared-slice-read-put-row c =
-      kind-at (c .before .before .before .before .before .before .before .before .before .before .before .before .before) .inside
+  R-shared-slice-read-put-row c = kind-at (begun-of (c .before .before .before .before)) .inside
 
   R-slice-aggregate-put-row : R.Need-slice-aggregate-put-row (R-claims t) (R-at t) rule.Post
   R-slice-aggregate-put-row c = sym (first-given (c .before .before .before .before) .row .small .long)
 
   R-slice-aggregate-put-row-2 : R.Need-slice-aggregate-put-row-2 (R-claims t) (R-at t) rule.Post
-  R-slice-aggregate-put-row-2 c = sym (second-given (c .before .before .before .before) .row .small .long)
+  R-slice-aggregate-put-row-2 c = sym (second-given (both-of c) .row .small .long)
 
   R-put-row-requires : R.Need-put-row-requires (R-claims t) (R-at t) rule.Post
   R-put-row-requires c κs =
-      let s = c .before .before .before .before .before .before .before .before .before .before .before .before .before .before .before in
-      let one = first-given (c .before .before .before .before .before) in
-      let two = second-given (c .before .before .before .before) in
+      let j = both-of c in
+      let s = begun-of (j .before .before) in
+      let one = first-given (j .before) in
+      let two = second-given j in
       let room = row-room (s .pre .1 .0 .tables) (two .memo) (s .args .r) (s .pre .1 .1) in
       (room, s .pre .1 .0 .tables .few-parts, omega arith, one .row .small, two .row .small)
 
   R-same-length : R.Need-same-length (R-claims t) (R-at t) rule.Post
   R-same-length c =
-      let s = c .before .before .before .before .before .before .before .before .before .before .before .before .before .before .before .before .before .before in
-      c .before .before .put-row .ensures .long ∙ second-given (c .before .before .before .before .before .before .before) .memo .long
-      ∙ sym (s .pre .1 .0 .memo .long)
+      let j = both-of (c .before .before .before) in
+      c .before .before .put-row .ensures .long ∙ second-given j .memo .long ∙ sym (begun-of (j .before .before) .pre .1 .0 .memo .long)
 
   R-returns-2 : R.Need-returns-2 (R-claims t) (R-at t) rule.Post
   R-returns-2 c =
-      let s = c .before .before .before .before .before .before .before .before .before .before .before .before .before .before .before .before .before .before in
+      let j = both-of (c .before .before .before) in
+      let s = begun-of (j .before .before) in
       let h = s .pre .1 .0 .tables in
-      let one = first-given (c .before .before .before .before .before .before .before .before) in
-      let two = second-given (c .before .before .before .before .before .before .before) in
+      let one = first-given (j .before) in
+      let two = second-given j in
       gives-written h (two .memo) (keeps-trans (one .keeps) (two .keeps))
       (row-written h (s .pre .1 .1)
       (row-same (one .row) (own-is h (s .args .r) (s .pre .1 .1)))
@@ -252,6 +262,22 @@ module _ (t : ℕ) where
       (c .before .before .put-row .ensures))
 
 module _ (t : ℕ) where
+  -- back from the loop to the start, and within a turn to its two calls and its test
+  abbrev origin-of : U.At-loop (U-claims t) (U-at t) update.Post U-Inv U-μ → U.Start (U-claims t) (U-at t) update.Post U-Inv U-μ
+  origin-of c = c .before .before .before .before .before .before .before
+
+  abbrev turn-of : U.After-rule-charges (U-claims t) (U-at t) update.Post U-Inv U-μ
+      → U.In-loop (U-claims t) (U-at t) update.Post U-Inv U-μ
+  turn-of c = c .before .before
+
+  abbrev rule-of : U.After-add-row-arg2 (U-claims t) (U-at t) update.Post U-Inv U-μ
+      → U.After-rule-charges (U-claims t) (U-at t) update.Post U-Inv U-μ
+  rule-of c = c .before .before .before .before
+
+  abbrev added-of : U.After-lowest2 (U-claims t) (U-at t) update.Post U-Inv U-μ
+      → U.After-add-row (U-claims t) (U-at t) update.Post U-Inv U-μ
+  added-of c = c .before .before .before .before
+
   U-listeners-requires : U.Need-listeners-requires (U-claims t) (U-at t) update.Post U-Inv U-μ
   U-listeners-requires c κs = c .before .before .before .before .pre .1 .0 .tables .rules-long
 
@@ -272,18 +298,15 @@ module _ (t : ℕ) where
             (hearing-none h (s .args .mask) (s .pre .1 .1)),
       )
 
-  -- from a turn back to the start
-  abbrev start-of : U.In-loop (U-claims t) (U-at t) update.Post U-Inv U-μ → U.Start (U-claims t) (U-at t) update.Post U-Inv U-μ
-  start-of c = c .before .before .before .before .before .before .before .before
-
   in-range : (c : U.In-loop (U-claims t) (U-at t) update.Post U-Inv U-μ) → c .before .loop .r < 64
-  in-range c = lt-of-lt-of-le (c .loop-test .taken) (start-of c .pre .1 .0 .tables .few-rules)
+  in-range c = lt-of-lt-of-le (c .loop-test .taken) (origin-of (c .before) .pre .1 .0 .tables .few-rules)
 
   -- the rule of the turn listens
   listens : (c : U.In-loop (U-claims t) (U-at t) update.Post U-Inv U-μ)
-      → let a = start-of c .args in listening (a .rules .now) (a .parts .now) (a .parts-count) (c .before .loop .r) (a .mask) ≡ true
+      → let a = origin-of (c .before) .args in
+      listening (a .rules .now) (a .parts .now) (a .parts-count) (c .before .loop .r) (a .mask) ≡ true
   listens c =
-      let s = start-of c in
+      let s = origin-of (c .before) in
       let i = c .before .loop in
       sym (is-listener (s .pre .1 .0 .tables) (i .r) (c .loop-test .taken) (s .args .mask) (c .before .before .before .listeners .ensures))
       ∙ i .inv .3 .found (in-range c)
@@ -291,7 +314,7 @@ module _ (t : ℕ) where
   U-rule-charges-requires : U.Need-rule-charges-requires (U-claims t) (U-at t) update.Post U-Inv U-μ
   U-rule-charges-requires c κs =
       let n = c .before in
-      let s = start-of n in
+      let s = origin-of (n .before) in
       let h = s .pre .1 .0 .tables in
       let i = n .before .loop in
       let k = n .loop-test .taken in
@@ -302,14 +325,15 @@ module _ (t : ℕ) where
 
   U-add-row-requires : U.Need-add-row-requires (U-claims t) (U-at t) update.Post U-Inv U-μ
   U-add-row-requires c κs =
-      let s = c .before .before .before .before .before .before .before .before .before .before .before .before .before .before in
-      let g = c .before .before .before .before .rule-charges .ensures in
-      let k = c .before .before .before .before .before .before .loop-test .taken in (
+      let n = turn-of (rule-of c) in
+      let s = origin-of (n .before) in
+      let g = rule-of c .rule-charges .ensures in
+      let k = n .loop-test .taken in (
         s .pre .1 .0 .tables .parts-long,
         row-room (s .pre .1 .0 .tables) (g .memo) _ k,
         s .pre .1 .0 .tables .few-parts,
         omega arith,
-        through-here (c .before .before .before .before .before .before .before .loop .inv .3) k .row .small,
+        through-here (n .before .loop .inv .3) k .row .small,
         g .known,
       )
 
@@ -321,19 +345,19 @@ module _ (t : ℕ) where
 
   U-loop-less : U.Need-loop-less (U-claims t) (U-at t) update.Post U-Inv U-μ
   U-loop-less c =
-      let n = c .before .before .before .before .before .before .before .before .before .before .before in
+      let n = turn-of (rule-of (added-of c .before)) in
       let l = in-range n in
       nearer l (walk-on (n .before .loop .inv .0) (c .before .rest .ensures) (c .lowest2 .ensures) .on (add-one-le l))
 
   U-loop-again : U.Need-loop-again (U-claims t) (U-at t) update.Post U-Inv U-μ
   U-loop-again c =
-      let n = c .before .before .before .before .before .before .before .before .before .before .before in
-      let s = start-of n in
+      let n = turn-of (rule-of (added-of c .before)) in
+      let s = origin-of (n .before) in
       let h = s .pre .1 .0 .tables in
       let i = n .before .loop in
       let k = n .loop-test .taken in
       let set = n .before .before .before .listeners .ensures in
-      let g = c .before .before .before .before .before .before .before .before .before .rule-charges .ensures in
+      let g = rule-of (added-of c .before) .rule-charges .ensures in
       let left = c .before .rest .ensures in
       let low = c .lowest2 .ensures in (
         walk-next (i .inv .0) left low,
@@ -341,23 +365,20 @@ module _ (t : ℕ) where
         keeps-trans (i .inv .2) (g .keeps),
         through-next (walk-on (i .inv .0) left low) (add-one-le k) (h .few-rules)
             (λ i a b f w. hearing-skip h w b (sym (is-listener h i b (s .args .mask) set) ∙ f))
-            (hearing-more h (through-here (i .inv .3) k) k (listens n) (g .memo) (g .known)
-            (c .before .before .before .before .add-row .ensures)),
+            (hearing-more h (through-here (i .inv .3) k) k (listens n) (g .memo) (g .known) (added-of c .add-row .ensures)),
       )
 
   U-same-length : U.Need-same-length (U-claims t) (U-at t) update.Post U-Inv U-μ
   U-same-length c =
-      let s = c .before .before .before .before .before .before .before .before in
-      c .before .loop .inv .1 .long ∙ sym (s .pre .1 .0 .memo .long)
+      c .before .loop .inv .1 .long ∙ sym (origin-of (c .before) .pre .1 .0 .memo .long)
 
   U-same-length-2 : U.Need-same-length-2 (U-claims t) (U-at t) update.Post U-Inv U-μ
   U-same-length-2 c =
-      let s = c .before .before .before .before .before .before .before .before in
-      c .before .loop .inv .3 .done .row .small .long ∙ sym (ones-long (s .pre .1 .1))
+      c .before .loop .inv .3 .done .row .small .long ∙ sym (ones-long (origin-of (c .before) .pre .1 .1))
 
   U-returns : U.Need-returns (U-claims t) (U-at t) update.Post U-Inv U-μ
   U-returns c =
-      let s = c .before .before .before .before .before .before .before .before in
+      let s = origin-of (c .before) in
       let i = c .before .loop .inv in
       gives-heard (s .pre .1 .0 .tables) (i .1) (i .2) (through-all (i .3) (c .loop-test .left)) refl
 

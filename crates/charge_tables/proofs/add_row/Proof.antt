@@ -16,10 +16,17 @@ Inv-loop sums₀ parts memo parts-count r q₀ sums q =
 abbrev μ-loop : tie.MeasureT-loop
 μ-loop sums₀ parts memo parts-count r q₀ sums q = parts-count - q
 
+-- back from the loop to the start, and from a carried rule to the test of its turn
+abbrev start-of : tie.At-loop Inv-loop μ-loop → tie.Start Inv-loop μ-loop
+start-of c = c .before .before .before .before
+
+abbrev turn-of : tie.Then1 Inv-loop μ-loop → tie.In-loop Inv-loop μ-loop
+turn-of c = c .before .before
+
 -- the part of the turn
-column : (c : tie.In-loop Inv-loop μ-loop) → let s = c .before .before .before .before .before in
+column : (c : tie.In-loop Inv-loop μ-loop) → let s = start-of (c .before) in
     Column (s .args .memo .now) (s .args .r) (c .before .loop .q)
-column c = let s = c .before .before .before .before .before in column-of _ _ _ _ (c .loop-test .taken) (s .pre .2) (s .pre .3) (s .pre .1)
+column c = let s = start-of (c .before) in column-of _ _ _ _ (c .loop-test .taken) (s .pre .2) (s .pre .3) (s .pre .1)
 
 loop-holds : tie.Need-loop-holds Inv-loop μ-loop
 loop-holds c =
@@ -30,42 +37,44 @@ carries-requires : tie.Need-carries-requires Inv-loop μ-loop
 carries-requires c κs = omega arith
 
 mul-sums : tie.Need-mul-sums Inv-loop μ-loop
-mul-sums c = column (c .before .before) .here
+mul-sums c = column (turn-of c) .here
 
 slice-read-sums : tie.Need-slice-read-sums Inv-loop μ-loop
-slice-read-sums c = omega (arith, c .before .before .before .before .loop .inv .1 .filled .long)
+slice-read-sums c = omega (arith, turn-of (c .before) .before .loop .inv .1 .filled .long)
 
 mul-sums-2 : tie.Need-mul-sums-2 Inv-loop μ-loop
-mul-sums-2 c = column (c .before .before .before) .start
+mul-sums-2 c = column (turn-of (c .before)) .start
 
 add-sums : tie.Need-add-sums Inv-loop μ-loop
-add-sums c = column (c .before .before .before) .place
+add-sums c = column (turn-of (c .before)) .place
 
 mul-sums-3 : tie.Need-mul-sums-3 Inv-loop μ-loop
-mul-sums-3 c = column (c .before .before .before) .bytes
+mul-sums-3 c = column (turn-of (c .before)) .bytes
 
 shared-slice-read-sums : tie.Need-shared-slice-read-sums Inv-loop μ-loop
-shared-slice-read-sums c = column (c .before .before .before .before) .inside
+shared-slice-read-sums c = column (turn-of (c .before .before)) .inside
 
 sub-sums : tie.Need-sub-sums Inv-loop μ-loop
 sub-sums c =
-    let s = c .before .before .before .before .before .before .before .before .before in
-    let i = c .before .before .before .before .before .loop in
+    let t = turn-of (c .before .before) .before in
+    let s = start-of t in
+    let i = t .loop in
     let w = s .pre .5 .known (i .q) (omega arith) in
     omega arith
 
 add-sums-2 : tie.Need-add-sums-2 Inv-loop μ-loop
 add-sums-2 c =
-    let s = c .before .before .before .before .before .before .before .before .before in
-    let i = c .before .before .before .before .before .loop in
+    let t = turn-of (c .before .before) .before in
+    let s = start-of t in
+    let i = t .loop in
     let b = as-before (i .inv .1) in
     omega (arith, b, s .pre .4 .each (i .q), s .pre .5 .low (i .q) (omega arith))
 
 mul-sums-4 : tie.Need-mul-sums-4 Inv-loop μ-loop
-mul-sums-4 c = column (c .before .before .before .before) .here
+mul-sums-4 c = column (turn-of (c .before .before)) .here
 
 slice-write-sums : tie.Need-slice-write-sums Inv-loop μ-loop
-slice-write-sums c = omega (arith, c .before .before .before .before .before .loop .inv .1 .filled .long)
+slice-write-sums c = omega (arith, turn-of (c .before .before) .before .loop .inv .1 .filled .long)
 
 add-q : tie.Need-add-q Inv-loop μ-loop
 add-q c = column (c .before .before) .next
@@ -75,7 +84,6 @@ loop-less c = add-one-dec _ _ (c .before .before .loop-test .taken)
 
 loop-again : tie.Need-loop-again Inv-loop μ-loop
 loop-again c =
-    let s = c .before .before .before .before .before .before .before in
     let i = c .before .before .before .loop .inv .1 in
     ⊎-elim
     (λ w. (
@@ -96,9 +104,7 @@ same-length : tie.Need-same-length Inv-loop μ-loop
 same-length c = c .before .loop .inv .1 .filled .long
 
 returns : tie.Need-returns Inv-loop μ-loop
-returns c =
-    let s = c .before .before .before .before .before in
-    adding-all (c .before .loop .inv .1) (omega arith)
+returns c = adding-all (c .before .loop .inv .1) (omega arith)
 
 pub add-row-spec : {M : Type 1} → statement M
 add-row-spec =

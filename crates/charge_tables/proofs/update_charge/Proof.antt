@@ -6,7 +6,7 @@ use native.Mathlib.Nat.{lt-of-lt-of-le}
 use native.Mathlib.Omega.{arith}
 use Rattle.lists.specs.Laws.Through.{Through, through-next, through-here, through-all}
 use Rattle.lists.specs.Laws.Walks.{Walk, walk-first, walk-on, walk-next}
-use Rattle.deck.specs.Shape.{bitsOf, shapeOf}
+use Rattle.deck.specs.Shape.{bitsOf, shape}
 use Rattle.charge_tables.proofs.Terms.{heard}
 use Rattle.charge_tables.proofs.Sums.{Summing, same, small, none-yet, skip, more}
 use Rattle.charge_tables.proofs.Tabled.{update-all, heard-yes, heard-no, hears-carried}
@@ -15,12 +15,22 @@ use Rattle.charge_tables.proofs.update_charge.Statement.{statement}
 use Rattle.charge_tables.proofs.update_charge.Tie as tie
 
 abbrev Inv-loop : tie.InvT-loop
-Inv-loop rules parts memo₀ channels count parts-count p mask set total₀ left₀ r₀ memo total left r =
-    let d = shapeOf rules parts channels count parts-count in
-    Walk set left r × Through set count (Summing d 1 (heard d p (bitsOf 32 mask)) memo total) r
+Inv-loop rules parts memo₀ counts p mask count set total₀ left₀ r₀ memo total left r =
+    let d = shape rules parts counts in
+    Walk set left r × Through set (counts .rules) (Summing d 1 (heard d p (bitsOf 32 mask)) memo total) r
 
 abbrev μ-loop : tie.MeasureT-loop
-μ-loop rules parts memo₀ channels count parts-count p mask set total₀ left₀ r₀ memo total left r = 64 - r
+μ-loop rules parts memo₀ counts p mask count set total₀ left₀ r₀ memo total left r = 64 - r
+
+-- back from the loop to the start, and within a turn to its call and its test
+abbrev start-of : tie.At-loop Inv-loop μ-loop → tie.Start Inv-loop μ-loop
+start-of c = c .before .before .before .before .before .before
+
+abbrev turn-of : tie.After-known-charges Inv-loop μ-loop → tie.In-loop Inv-loop μ-loop
+turn-of c = c .before .before
+
+abbrev call-of : tie.After-slice-known3 Inv-loop μ-loop → tie.After-known-charges Inv-loop μ-loop
+call-of c = c .before .before .before
 
 loop-holds : tie.Need-loop-holds Inv-loop μ-loop
 loop-holds c =
@@ -35,10 +45,11 @@ loop-holds c =
 
 known-charges-requires : tie.Need-known-charges-requires Inv-loop μ-loop
 known-charges-requires c κs =
-    let s = c .before .before .before .before .before .before .before .before in
-    let i = c .before .before .loop in
+    let t = c .before .before in
+    let s = start-of t in
+    let i = t .loop in
     let k = c .before .loop-test .taken in
-    let y = sym (c .before .before .before .before .active .ensures .each (i .r) k) ∙ i .inv .1 .found (omega arith) in (
+    let y = sym (t .before .before .active .ensures .each (i .r) k) ∙ i .inv .1 .found (omega arith) in (
       record { tables = s .pre .0 .tables; memo = i .inv .1 .done .soFar .memo },
       k,
       hears-carried (s .pre .0 .tables) (i .r) k (s .args .mask) (s .args .p) (s .pre .1) y,
@@ -46,40 +57,44 @@ known-charges-requires c κs =
 
 -- the entry that is read
 column : (k : tie.After-known-charges Inv-loop μ-loop)
-    → let t = k .before .before in
-    Column (k .known-charges .last .1 .1 .0) (t .before .loop .r) (t .before .before .before .before .before .before .before .args .p)
+    → let t = turn-of k .before in
+    Column (k .known-charges .last .1 .1 .0) (t .loop .r) (start-of t .args .p)
 column k =
-    let t = k .before .before in
-    let s = t .before .before .before .before .before .before .before in
+    let s = start-of (turn-of k .before) in
     let h = s .pre .0 .tables in
-    let l = t .loop-test .taken in
+    let l = turn-of k .loop-test .taken in
     column-of _ _ _ _ (s .pre .1) (h .few-parts) (lt-of-lt-of-le l (h .few-rules)) (row-room h (k .known-charges .ensures .memo) _ l)
 
 sub-capped-sum : tie.Need-sub-capped-sum Inv-loop μ-loop
 sub-capped-sum c =
-    let s = c .before .before .before .before .before .before .before .before .before .before .before .before in
-    let w = c .before .before .before .known-charges .ensures .known .known (s .args .p) (s .pre .1) in
+    let k = call-of c in
+    let s = start-of (turn-of k .before) in
+    let w = k .known-charges .ensures .known .known (s .args .p) (s .pre .1) in
     omega arith
 
 capped-sum-requires : tie.Need-capped-sum-requires Inv-loop μ-loop
 capped-sum-requires c κs =
-    let s = c .before .before .before .before .before .before .before .before .before .before .before .before in
-    let g = gives-charge (s .pre .0 .tables) (c .before .before .before .known-charges .ensures) (s .args .p) (s .pre .1) in
-    omega (arith, small (c .before .before .before .before .before .before .loop .inv .1 .done .soFar), small g)
+    let k = call-of c in
+    let t = turn-of k .before in
+    let s = start-of t in
+    let g = gives-charge (s .pre .0 .tables) (k .known-charges .ensures) (s .args .p) (s .pre .1) in
+    omega (arith, small (t .loop .inv .1 .done .soFar), small g)
 
 loop-less : tie.Need-loop-less Inv-loop μ-loop
 loop-less c =
-    let w = c .before .before .before .before .before .before .before .before .before .loop .inv .0 in
+    let w = turn-of (call-of (c .before .before .before)) .before .loop .inv .0 in
     let n = walk-on w (c .before .rest .ensures) (c .lowest2 .ensures) in
     omega (arith, n .on (omega arith), n .most)
 
 loop-again : tie.Need-loop-again Inv-loop μ-loop
 loop-again c =
-    let s = c .before .before .before .before .before .before .before .before .before .before .before .before .before .before .before in
+    let g = call-of (c .before .before .before) in
+    let t = turn-of g .before in
+    let s = start-of t in
     let h = s .pre .0 .tables in
-    let i = c .before .before .before .before .before .before .before .before .before .loop in
-    let k = c .before .before .before .before .before .before .before .before .loop-test .taken in
-    let set = c .before .before .before .before .before .before .before .before .before .before .before .active .ensures in
+    let i = t .loop in
+    let k = turn-of g .loop-test .taken in
+    let set = t .before .before .active .ensures in
     let left = c .before .rest .ensures in
     let low = c .lowest2 .ensures in (
       walk-next (i .inv .0) left low,
@@ -88,17 +103,16 @@ loop-again c =
           (more (through-here (i .inv .1) k)
           (heard-yes h (i .r) k (s .args .mask) (s .args .p) (s .pre .1)
           (sym (set .each (i .r) k) ∙ i .inv .1 .found (omega arith)))
-          (gives-charge h (c .before .before .before .before .before .before .known-charges .ensures) (s .args .p) (s .pre .1))
+          (gives-charge h (g .known-charges .ensures) (s .args .p) (s .pre .1))
           (c .before .before .capped-sum .ensures)),
     )
 
 same-length : tie.Need-same-length Inv-loop μ-loop
-same-length c = c .before .loop .inv .1 .done .soFar .memo .long
-    ∙ sym (c .before .before .before .before .before .before .before .pre .0 .memo .long)
+same-length c = c .before .loop .inv .1 .done .soFar .memo .long ∙ sym (start-of (c .before) .pre .0 .memo .long)
 
 returns : tie.Need-returns Inv-loop μ-loop
 returns c =
-    let s = c .before .before .before .before .before .before .before in
+    let s = start-of (c .before) in
     same (through-all (c .before .loop .inv .1) (c .loop-test .left) .soFar)
     (update-all (s .pre .0 .tables) (s .args .p) (s .pre .1) (bitsOf 32 (s .args .mask)))
 

@@ -7,8 +7,9 @@ use lib.ListN.{length, getD}
 use mir.Syntax.{w64}
 use mir.Val.{Fits}
 use Rattle.deck.specs.Deck.{Deck, N}
-use Rattle.deck.specs.Shape.{shapeOf}
-use Rattle.deck.specs.Laws.Shape.{shape-N}
+use Rattle.deck.specs.Shape.{shape}
+use Rattle.deck.specs.declared.Deck as Counted
+use Rattle.deck.specs.Laws.Shape.{counted-N}
 use Rattle.charge.specs.Charge.{ruleCharge}
 use Rattle.charge.specs.Memo.{AcyclicTables, Memo, Answered, RowKnown, RulesGive, capped}
 use Rattle.charge.specs.Laws.Tables.{memo-long, memo-room}
@@ -40,23 +41,30 @@ module _ {d : Deck} {m : List ℕ} (h : Memo d m) (few : N d ≤ 16) where
       let b : (16 * r + q) / 16 ≡ r = omega arith in
       h .right (16 * r + q) w ∙ ap₂ (λ q s. suc (capped (ruleCharge d q s))) a b
 
-module _ {rules parts : List ℕ} {R′ M′ N′ : ℕ} (h : AcyclicTables rules parts R′ M′ N′) where
+module _ {rules parts : List ℕ} {counts : Counted.Deck} (h : AcyclicTables rules parts counts) where
+  -- the counts
+  abbrev M′ : ℕ
+  M′ = counts .rules
+
+  abbrev N′ : ℕ
+  N′ = counts .parts
+
   abbrev d : Deck
-  d = shapeOf rules parts R′ M′ N′
+  d = shape rules parts counts
 
   pub few-parts : N d ≤ 16
-  few-parts = omega (arith, shape-N rules parts R′ M′ N′, h .few-parts)
+  few-parts = omega (arith, counted-N rules parts counts, h .few-parts)
 
   -- the row of a rule is within the memo
   pub row-room : {m : List ℕ} → Memo d m → (r : ℕ) → r < M′ → 16 * r + 16 ≤ length m
-  row-room memo r l = omega (arith, memo-long rules parts R′ M′ N′ memo, memo-room M′ r l (h .few-rules))
+  row-room memo r l = omega (arith, memo-long rules parts counts memo, memo-room M′ r l (h .few-rules))
 
   -- the charges in a known row of the memo
   pub known-at : {m : List ℕ} {r : ℕ} → Memo d m → RowKnown N′ r m → (q : ℕ) → q < N′
       → getD m (16 * r + q) 0 ≡ suc (capped (ruleCharge d q r))
   known-at {m} {r} memo known q l =
-      row-at memo few-parts r q (omega (arith, shape-N rules parts R′ M′ N′)) (known .known q l)
+      row-at memo few-parts r q (omega (arith, counted-N rules parts counts)) (known .known q l)
 
-  pub gives-charge : {r : ℕ} {m₀ m : List ℕ} → RulesGive rules parts R′ M′ N′ r m₀ m → (q : ℕ) → q < N′
+  pub gives-charge : {r : ℕ} {m₀ m : List ℕ} → RulesGive rules parts counts r m₀ m → (q : ℕ) → q < N′
       → Answered d (ruleCharge d q r) m (getD m (16 * r + q) 0 - 1)
   gives-charge g q l = record { value = omega (arith, known-at (g .memo) (g .known) q l); memo = g .memo }

@@ -13,7 +13,8 @@ use Rattle.lists.specs.Laws.Booleans.{contradiction, not-true→false}
 use Rattle.lists.specs.Laws.Filters.{select-member}
 use Rattle.lists.specs.Laws.Below.{below-length, below-member}
 use Rattle.deck.specs.Deck.{Deck, R, M, N, ruleAt, partAt, carries, targets}
-use Rattle.deck.specs.Shape.{bitsOf, setting, ruleShape, partShape, shapeOf, shapes}
+use Rattle.deck.specs.Shape.{bitsOf, setting, ruleShape, partShape, shapeOf, shape, shapes}
+use Rattle.deck.specs.declared.Deck as Counted
 
 -- the element at a place of f over the numbers below n
 at-from : {A : Type 0} (f : ℕ → A) (a n k : ℕ) (x : A) → k < n → getD (map f (from a n)) k x ≡ f (a + k)
@@ -89,3 +90,14 @@ module _ (rules parts : List ℕ) (R′ M′ N′ : ℕ) where
   pub shape-kind : (r : ℕ) → r < M′ → ruleAt d r .everywhere ≡ eqb (getD rules (8 * r + 3) 0) 1
   unfolding ruleShape
   shape-kind r h = ap (λ x. x .everywhere) (shape-rule r h)
+
+-- the three counts, of a deck that was read
+module _ (rules parts : List ℕ) (k : Counted.Deck) where
+  pub counted-R : R (shape rules parts k) ≡ k .channels
+  counted-R = shape-R rules parts (k .channels) (k .rules) (k .parts)
+
+  pub counted-M : M (shape rules parts k) ≡ k .rules
+  counted-M = shape-M rules parts (k .channels) (k .rules) (k .parts)
+
+  pub counted-N : N (shape rules parts k) ≡ k .parts
+  counted-N = shape-N rules parts (k .channels) (k .rules) (k .parts)

@@ -65,7 +65,7 @@ pub record Finishing (s : List ℕ) (k : Counted.Deck) (rules parts memo : List 
     (part mask used total : ℕ) : Type 0 where
   pub tabled : Tabled s k rules parts
   pub none : NoDefaults (deckOf s)
-  pub ready : Ready rules parts (k .channels) (k .rules) (k .parts) memo
+  pub ready : Ready rules parts k memo
   pub acyclic : Acyclic (deckOf s)
   pub assignable : Assignable back
   pub number : ℕ

@@ -16,6 +16,16 @@ Inv-loop rules parts count parts-count edges₀ carried left₀ r₀ edges left 
 abbrev μ-loop : tie.MeasureT-loop
 μ-loop rules parts count parts-count edges₀ carried left₀ r₀ edges left r = 64 - r
 
+-- back from the end of a turn to its call and its test, and from the loop to the start
+abbrev call-of : tie.After-lowest2 Inv-loop μ-loop → tie.After-add-edges Inv-loop μ-loop
+call-of c = c .before .before .before .before
+
+abbrev turn-of : tie.After-lowest2 Inv-loop μ-loop → tie.In-loop Inv-loop μ-loop
+turn-of c = call-of c .before .before .before .before .before
+
+abbrev start-of : tie.At-loop Inv-loop μ-loop → tie.Start Inv-loop μ-loop
+start-of c = c .before .before .before .before .before .before
+
 loop-holds : tie.Need-loop-holds Inv-loop μ-loop
 loop-holds c =
     let n = c .lowest .ensures in
@@ -27,14 +37,13 @@ loop-holds c =
 
 loop-less : tie.Need-loop-less Inv-loop μ-loop
 loop-less c =
-    let n = walk-on (c .before .before .before .before .before .before .before .before .before .before .loop .inv .0)
-    (c .before .rest .ensures) (c .lowest2 .ensures) in
+    let n = walk-on (turn-of c .before .loop .inv .0) (c .before .rest .ensures) (c .lowest2 .ensures) in
     omega (arith, n .on (omega arith), n .most)
 
 loop-again : tie.Need-loop-again Inv-loop μ-loop
 loop-again c =
-    let w = c .before .before .before .before .add-edges .ensures in
-    let t = c .before .before .before .before .before .before .before .before .before in
+    let w = call-of c .add-edges .ensures in
+    let t = turn-of c in
     let i = t .before .loop in
     let all = t .before .before .before .carried-by-some .ensures in
     let n = walk-on (i .inv .0) (c .before .rest .ensures) (c .lowest2 .ensures) in (
@@ -44,7 +53,7 @@ loop-again c =
     )
 
 same-length : tie.Need-same-length Inv-loop μ-loop
-same-length c = c .before .loop .inv .1 .done .long ∙ sym (c .before .before .before .before .before .before .before .pre .1 .long)
+same-length c = c .before .loop .inv .1 .done .long ∙ sym (start-of (c .before) .pre .1 .long)
 
 pub draw-spec : {M : Type 1} → statement M
 draw-spec =

@@ -25,7 +25,7 @@ use Rattle.deck.specs.Marks.{RulesFit, markedSections, unmarked, Loads}
 use Rattle.deck.specs.declared.Deck as Counted
 use Rattle.deck.specs.declared.Loaded.the-variants.{Whole}
 use Rattle.deck.specs.Laws.Marks.{mapGot, read-marked}
-use Rattle.deck.specs.Laws.Shape.{shape-R, shape-M, shape-N}
+use Rattle.deck.specs.Laws.Shape.{counted-R, counted-M, counted-N}
 use Rattle.deck.specs.Laws.Tables.{SameTests, shape-tests}
 use Rattle.deck.specs.Laws.TablesRead.{Zeros}
 use Rattle.graph.specs.Graph.{edge, reachesItself, cyclic}
@@ -118,15 +118,15 @@ module _ (rules parts : List ℕ) (k : Counted.Deck) (w : RulesKnown rules parts
   pub above-place : (p : ℕ) → boundOf d ≡ Above p → p ≤ 65536
   unfolding boundOf
   above-place p e =
-      let f = first-above d (omega (arith, shape-M rules parts (k .channels) (k .rules) (k .parts), w .sized .fewRules)) p _
+      let f = first-above d (omega (arith, counted-M rules parts k, w .sized .fewRules)) p _
       (above-bound (aboveBound (carriedCharges d)) (largestCharge d) p e .1) in
       omega (
         arith,
         f .place,
         f .part-known,
         f .rule-known,
-        shape-M rules parts (k .channels) (k .rules) (k .parts),
-        shape-N rules parts (k .channels) (k .rules) (k .parts),
+        counted-M rules parts k,
+        counted-N rules parts k,
         w .sized .fewRules,
         w .sized .fewParts,
       )
@@ -135,10 +135,10 @@ module _ (rules parts : List ℕ) (k : Counted.Deck) (w : RulesKnown rules parts
   pub cycle-none : (c : ℕ) → c ≡ firstCycle d → k .channels ≤ c → firstCycle d ≡ k .channels
   unfolding firstCycle cyclic
   cycle-none c e h =
-      first-whole (reachesItself (R d) (edge d)) (R d) c e (omega (arith, h, shape-R rules parts (k .channels) (k .rules) (k .parts)))
-      ∙ shape-R rules parts (k .channels) (k .rules) (k .parts)
+      first-whole (reachesItself (R d) (edge d)) (R d) c e (omega (arith, h, counted-R rules parts k))
+      ∙ counted-R rules parts k
 
-  pub acyclic-tables : firstCycle d ≡ k .channels → AcyclicTables rules parts (k .channels) (k .rules) (k .parts)
+  pub acyclic-tables : firstCycle d ≡ k .channels → AcyclicTables rules parts k
   unfolding firstCycle
   acyclic-tables e =
       record {
@@ -147,7 +147,7 @@ module _ (rules parts : List ℕ) (k : Counted.Deck) (w : RulesKnown rules parts
         parts-long = w .sized .longParts;
         few-rules = w .sized .fewRules;
         few-parts = w .sized .fewParts;
-        acyclic = first-acyclic (w .known) .0 (e ∙ sym (shape-R rules parts (k .channels) (k .rules) (k .parts)));
+        acyclic = first-acyclic (w .known) .0 (e ∙ sym (counted-R rules parts k));
         known = w .known;
         noted = w .noted;
       }
@@ -157,13 +157,13 @@ module _ (rules parts : List ℕ) (k : Counted.Deck) {m₀ : List ℕ} (e : m₀
   pub memo-zeros : Memo (shape rules parts k) m₀
   memo-zeros =
       subst (Memo (shape rules parts k))
-      (ap (λ n. replicate (memoSize n) 0) (shape-M rules parts (k .channels) (k .rules) (k .parts)) ∙ sym e)
+      (ap (λ n. replicate (memoSize n) 0) (counted-M rules parts k) ∙ sym e)
       (memo-new (shape rules parts k))
 
   pub memo-length : {m : List ℕ} → Memo (shape rules parts k) m → length m ≡ length m₀
   memo-length w =
       let none : ℕ = 0 in
-      memo-long rules parts (k .channels) (k .rules) (k .parts) w ∙ sym (ap length e ∙ length-replicate (memoSize (k .rules)) none)
+      memo-long rules parts k w ∙ sym (ap length e ∙ length-replicate (memoSize (k .rules)) none)
 
 -- ---- the deck and the shape of its tables
 

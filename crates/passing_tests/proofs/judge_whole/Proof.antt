@@ -7,15 +7,25 @@ use Rattle.passing.specs.Laws.Judged.{parts-known, rules-sized, rules-known, ou
 use Rattle.passing_tests.proofs.judge_whole.Statement.{statement}
 use Rattle.passing_tests.proofs.judge_whole.Tie as tie
 
+-- back from the first test to the start, from the noting to that test, and from the last tests to the noting
+abbrev start-of : tie.After-first-outside → tie.Start
+start-of c = c .before .before .before .before .before
+
+abbrev outside-of : tie.After-note-listeners → tie.After-first-outside
+outside-of c = c .before .before .before .before
+
+abbrev noted-of : tie.After-judge-rules → tie.After-note-listeners
+noted-of c = c .before .before .before .before .before
+
 refused-requires : tie.Need-refused-requires
 refused-requires c κs =
-    let s = c .before .before .before .before .before .before .before in
+    let s = start-of (c .before .before) in
     omega (arith, c .if1 .taken, s .pre .0 .tabled .counts .parts, s .pre .0 .tabled .counts .formed .parts)
 
 returns : tie.Need-returns
 returns c form read =
     let f = c .before .before .before in
-    let s = f .before .before .before .before .before in
+    let s = start-of f in
     let a = s .args in
     let p = outside-found (deckOf (a .deck .now)) (f .first-outside .result) (f .first-outside .ensures) in
     rw (c .refused .ensures)
@@ -23,22 +33,22 @@ returns c form read =
 
 note-listeners-requires : tie.Need-note-listeners-requires
 note-listeners-requires c κs =
-    let t = c .before .before .before .before .before .before .before .before .pre .0 .tabled in
+    let t = start-of (c .before .before .before) .pre .0 .tabled in
     let w = rules-sized _ _ _ _ t in
     (t .ruleTable .long, w .longRules, w .longParts, w .fewRules, w .fewParts)
 
 judge-rules-requires : tie.Need-judge-rules-requires
 judge-rules-requires c κs =
     let n = c .before .before .before .before in
-    let s = n .before .before .before .before .before .before .before .before .before in
+    let s = start-of (outside-of n) in
     (rules-known _ _ _ _ (tabled-kept (n .note-listeners .ensures .0) (s .pre .0 .tabled)) (n .note-listeners .ensures .1), s .pre .1)
 
 returns-2 : tie.Need-returns-2
 returns-2 c form read =
     let j = c .before .before in
-    let n = j .before .before .before .before .before in
-    let f = n .before .before .before .before in
-    let s = f .before .before .before .before .before in
+    let n = noted-of j in
+    let f = outside-of n in
+    let s = start-of f in
     let a = s .args in
     let t = tabled-kept (n .note-listeners .ensures .0) (s .pre .0 .tabled) in
     let p = outside-found (deckOf (a .deck .now)) (f .first-outside .result) (f .first-outside .ensures) in
@@ -55,6 +65,6 @@ judge-whole-spec =
     returns
     note-listeners-requires
     judge-rules-requires
-    (λ c. c .before .before .before .before .before .before .before .note-listeners .ensures .0 .long)
+    (λ c. noted-of (c .before .before) .note-listeners .ensures .0 .long)
     (λ c. search needs)
     returns-2)

@@ -5,8 +5,8 @@ use native.Mathlib.Omega.{arith}
 use borrow.Author.Needs.{needs}
 use borrow.Author.Tests.{not-true, not-false}
 use Rattle.deck.specs.Deck.{Deck}
-use Rattle.deck.specs.Shape.{shapeOf}
-use Rattle.deck.specs.Laws.Shape.{shape-R, shape-N}
+use Rattle.deck.specs.Shape.{shape}
+use Rattle.deck.specs.Laws.Shape.{counted-R, counted-N}
 use Rattle.charge.specs.Memo.{capped}
 use Rattle.pool.specs.Updates.{allDifferent, charge}
 use Rattle.pool.specs.Places.{updatesOf}
@@ -20,7 +20,7 @@ use Rattle.pool_states.proofs.good_state.Tie as tie
 
 -- the deck by its tables, and the state and the pool that are lent
 abbrev deckOf : tie.Start → Deck
-deckOf s = shapeOf (s .args .rules .now) (s .args .parts .now) (s .args .channels) (s .args .count) (s .args .parts-count)
+deckOf s = shape (s .args .rules .now) (s .args .parts .now) (s .args .counts)
 
 abbrev lentTo : tie.Start → Memory
 lentTo s = memoryOf (s .args .values .now) (s .args .pending) (s .args .pool .now)
@@ -43,8 +43,8 @@ learnt : (c : tie.After-state-fits) → c .state-fits .result ≡ framed (deckOf
 learnt c =
     let s = start-of c in
     let a = s .args in
-    c .state-fits .ensures (deckOf s) (shape-R (a .rules .now) (a .parts .now) (a .channels) (a .count) (a .parts-count))
-    (shape-N (a .rules .now) (a .parts .now) (a .channels) (a .count) (a .parts-count))
+    c .state-fits .ensures (deckOf s) (counted-R (a .rules .now) (a .parts .now) (a .counts))
+    (counted-N (a .rules .now) (a .parts .now) (a .counts))
 
 in-frame : (c : tie.Else1) → framed (deckOf (start-of (c .before))) (lentTo (start-of (c .before))) ≡ true
 in-frame c = sym (learnt (c .before)) ∙ not-false _ (c .if1 .left)

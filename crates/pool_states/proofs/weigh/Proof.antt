@@ -13,8 +13,8 @@ use mir.Syntax.{w64}
 use mir.Val.{Fits}
 use Rattle.lists.specs.Bits.{maskOf}
 use Rattle.deck.specs.Deck.{Deck, R}
-use Rattle.deck.specs.Shape.{shapeOf, bitsOf}
-use Rattle.deck.specs.Laws.Shape.{shape-R, shape-N}
+use Rattle.deck.specs.Shape.{shape, bitsOf}
+use Rattle.deck.specs.Laws.Shape.{counted-R, counted-N}
 use Rattle.charge.specs.Charge.{updateCharge}
 use Rattle.charge.specs.Memo.{Answered}
 use Rattle.pool.specs.Updates.{channels}
@@ -33,15 +33,15 @@ use Rattle.pool_states.proofs.weigh.Statement.{statement}
 use Rattle.pool_states.proofs.weigh.Tie as tie
 
 abbrev Inv-loop : tie.InvT-loop
-Inv-loop rules parts memo₀ channels count parts-count pool pending index₀ total₀ k₀ memo index total k =
-    Adding (shapeOf rules parts channels count parts-count) pending pool index₀ memo index total k
+Inv-loop rules parts memo₀ counts pool pending index₀ total₀ k₀ memo index total k =
+    Adding (shape rules parts counts) pending pool index₀ memo index total k
 
 abbrev μ-loop : tie.MeasureT-loop
-μ-loop rules parts memo₀ channels count parts-count pool pending index₀ total₀ k₀ memo index total k = pending - k
+μ-loop rules parts memo₀ counts pool pending index₀ total₀ k₀ memo index total k = pending - k
 
 -- the deck by its tables, and the way back to the place at hand and to the start
 abbrev deckOf : tie.Start Inv-loop μ-loop → Deck
-deckOf s = shapeOf (s .args .rules .now) (s .args .parts .now) (s .args .channels) (s .args .count) (s .args .parts-count)
+deckOf s = shape (s .args .rules .now) (s .args .parts .now) (s .args .counts)
 
 abbrev start-of : tie.At-loop Inv-loop μ-loop → tie.Start Inv-loop μ-loop
 start-of c = c .before .before .before .before .before
@@ -72,7 +72,7 @@ placed : (c : tie.In-loop Inv-loop μ-loop) → Place (start-of (c .before) .arg
 placed c =
     let s = start-of (c .before) in
     place-of (s .args .pool .now) (c .before .loop .k) (s .args .pending) (c .loop-test .taken) (s .pre .2)
-    (s .good .1 .1 .1 .1 .1 .1 .0 .1)
+    (s .good .1 .1 .1 .1 .0 .1)
 
 next-fits : (k n : ℕ) → k < n → n ≤ 65535 → Fits w64 (k + 1)
 next-fits k n l few = record { fits = omega arith }
@@ -87,8 +87,8 @@ learnt : (c : tie.After-place-fits Inv-loop μ-loop)
 learnt c =
     let a = start-of (loop-of c) .args in
     c .place-fits .ensures (deckOf (start-of (loop-of c)))
-    (shape-R (a .rules .now) (a .parts .now) (a .channels) (a .count) (a .parts-count))
-    (shape-N (a .rules .now) (a .parts .now) (a .channels) (a .count) (a .parts-count))
+    (counted-R (a .rules .now) (a .parts .now) (a .counts))
+    (counted-N (a .rules .now) (a .parts .now) (a .counts))
 
 -- the place holds a known update, and the set has its channels
 fitting : (c : tie.Else1 Inv-loop μ-loop)
@@ -114,8 +114,8 @@ charged c =
     let s = start-of (loop-of (f .before)) in
     let a = s .args in
     let few : R (deckOf s) ≤ 32 =
-    omega (arith, shape-R (a .rules .now) (a .parts .now) (a .channels) (a .count) (a .parts-count), s .pre .1) in
-    holds-charge (deckOf s) (a .parts-count) (shape-N (a .rules .now) (a .parts .now) (a .channels) (a .count) (a .parts-count)) _ (holds f)
+    omega (arith, counted-R (a .rules .now) (a .parts .now) (a .counts), s .pre .1) in
+    holds-charge (deckOf s) (a .counts .parts) (counted-N (a .rules .now) (a .parts .now) (a .counts)) _ (holds f)
     few (c .before .before .bounded-at .ensures) (fitting f .1)
 
 loop-holds : tie.Need-loop-holds Inv-loop μ-loop
@@ -145,7 +145,7 @@ update-charge-requires c κs =
     let s = start-of t in
     let a = s .args in (
       record { tables = s .pre .0 .tables; memo = t .loop .inv .memo },
-      holds-part (deckOf s) (a .parts-count) (shape-N (a .rules .now) (a .parts .now) (a .channels) (a .count) (a .parts-count)) _ (holds f)
+      holds-part (deckOf s) (a .counts .parts) (counted-N (a .rules .now) (a .parts .now) (a .counts)) _ (holds f)
           (c .before .bounded-at .ensures),
     )
 
