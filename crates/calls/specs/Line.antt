@@ -3,8 +3,7 @@ use Prim.Native.Nat.{ℕ}
 use Prim.Native.Char.{code}
 use Prim.Native.String as Text
 use Prim.Native.String.{String}
-use mathlib.Core.List.{List, [], _∷_, _++_}
-use Rattle.lists.specs.Lists.{flatMap}
+use mathlib.Core.List.{List, [], _∷_, _++_, flatMap}
 use Rattle.refusals.specs.Outcome.{Outcome, refused, accepted}
 use Rattle.decimal.specs.Digits.{digits}
 use Rattle.calls.specs.Calls.{Answer, passed, started, added, applied, discarded, settled, spent}

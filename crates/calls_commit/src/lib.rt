@@ -10,7 +10,7 @@ use calls_turns::Answered;
 use calls_turns::Found;
 use deck::Deck;
 
-// So many commits are made.
+// The commits that a commit makes.
 const ONE: u32 = 1;
 
 // The commit of a place, if it is pending (14).

@@ -10,7 +10,7 @@ use calls_turns::Answered;
 use calls_turns::Found;
 use deck::Deck;
 
-const LARGEST_BUDGET: u32 = 65535;
+const LARGEST_BUDGET: u32 = Deck::CHARGE as u32;
 
 // The settle within a budget of at most 65,535 (16): place 0 is committed until none is pending or the budget is used.
 pub fn settle_tested(

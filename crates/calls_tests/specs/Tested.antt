@@ -17,7 +17,7 @@ use Rattle.pool_index.specs.Index.{Indexed, Roomy}
 use Rattle.pool.specs.Moves.{Laid}
 use Rattle.pool_states.specs.Answer.{Fresh, goodnessOf}
 use Rattle.pool_states.specs.declared.Goodness.the-variants.{Good, Bad}
-use Rattle.passing.specs.Judged.{shape}
+use Rattle.deck.specs.Shape.{shape}
 use Rattle.passing.specs.Tabled.{deckOf}
 use Rattle.firing_queue.specs.Queue.{heldOf}
 use Rattle.firing_queue.specs.Stored.{Stored, Committing}

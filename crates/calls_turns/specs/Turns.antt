@@ -16,7 +16,7 @@ use Rattle.firing_queue.specs.Queue.{heldOf}
 use Rattle.firing_queue.specs.Stored.{Stored, Committing}
 use Rattle.calls_tests.specs.Tested.{Left}
 
--- what is taken: no update was taken out yet, and so many stand before the one that is committed first
+-- what is taken: no update was taken out yet, and `first` stand before the one that is committed first
 pub record Beginning (s : List ℕ) (k : Counted.Deck) (rules parts memo index : List ℕ) (pool : List ℤ) (C : ℕ) (vs : List ℤ)
     (pending total first : ℕ) : Type 0 where
   pub committing : Committing s k rules parts memo (heldOf index pool) C vs pending total

@@ -2,9 +2,9 @@
 -- from each other". An update stands here by its targets. Assumes nothing.
 use Prim.Native.Nat.{ℕ, zero, suc, _+_, _*_}
 use mathlib.Core.Bool.{not, cond}
-use mathlib.Core.List.{List, [], _∷_, map}
+use mathlib.Core.List.{List, [], _∷_, map, flatMap}
 use lib.Dec.{eqb, ltb}
-use Rattle.lists.specs.Lists.{select, flatMap, sumOf, largest, below}
+use Rattle.lists.specs.Lists.{select, sumOf, largest, below}
 use Rattle.deck.specs.Limits.{limits}
 use Rattle.deck.specs.Deck.{Deck, R, M, N, ruleAt, carries, targets, active}
 

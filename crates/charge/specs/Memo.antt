@@ -1,4 +1,5 @@
--- What the functions of this crate take and keep: tables whose deck has no cycle, and a memo of charges. Assumes nothing.
+-- What the functions of charge_listeners, charge_tables and charge_bound take and keep: tables whose deck has no cycle, and a memo of
+-- charges. Assumes nothing.
 use Prim.Native.Nat.{ℕ, suc, _+_, _*_, _-_, _/_, _%_, _≤_, _<_, min}
 use mathlib.Core.Path.{_≡_}
 use mathlib.Core.Logic.{_⊎_}
@@ -56,7 +57,7 @@ pub record AcyclicTables (rules parts : List ℕ) (k : Counted.Deck) : Type 0 wh
 abbrev pub capped : ℕ → ℕ
 capped x = min 65536 x
 
--- the numbers of a memo for so many rules, 16 for each: one table for at most 16 rules, another for at most 64
+-- the numbers of a memo for a number of rules, 16 for each: one table for at most 16 rules, another for at most 64
 unfoldable pub memoSize : ℕ → ℕ
 memoSize n = cond (leb n 16) 256 1024
 

@@ -13,7 +13,7 @@ fn clear_listeners(rules: &mut [u64])
 {
     let mut c: usize = 0;
     while c < Deck::CHANNELS {
-        rules[Deck::RULE_ROW * c + 7] = 0;
+        rules[Deck::RULE_ROW * c + Deck::RULE_LISTENERS] = 0;
         c += 1;
     }
 }
@@ -26,7 +26,8 @@ fn note_rule(rules: &mut [u64], events: u64, r: usize)
     let mut left = events;
     let mut c = lists::lowest(left);
     while c < Deck::CHANNELS {
-        rules[Deck::RULE_ROW * c + 7] = rules[Deck::RULE_ROW * c + 7] | (1u64 << r);
+        let at = Deck::RULE_ROW * c + Deck::RULE_LISTENERS;
+        rules[at] = rules[at] | (1u64 << r);
         left = lists::rest(left);
         c = lists::lowest(left);
     }
@@ -60,7 +61,7 @@ pub fn listeners(rules: &[u64], mask: u64) -> u64
     let mut left = mask;
     let mut c = lists::lowest(left);
     while c < Deck::CHANNELS {
-        set = set | rules[Deck::RULE_ROW * c + 7];
+        set = set | rules[Deck::RULE_ROW * c + Deck::RULE_LISTENERS];
         left = lists::rest(left);
         c = lists::lowest(left);
     }

@@ -12,7 +12,7 @@ ghost use Rattle.charge.specs.Memo.{countsOf};
 use deck::Deck;
 
 // Where a charge stops: above the largest that a deck may have.
-pub const CAP: u32 = 65536;
+pub const CAP: u32 = Deck::CHARGE as u32 + 1;
 
 // All channels as a set: the other bits of a mask play no role.
 const ALL_CHANNELS: u64 = 4294967295;
@@ -146,8 +146,8 @@ fn rule_charges(
     if memo[Deck::PARTS * r] != 0 {
         return;
     }
-    let default = rules[Deck::RULE_ROW * r + 1];
-    let action = rules[Deck::RULE_ROW * r + 2];
+    let default = rules[Deck::RULE_ROW * r + Deck::RULE_DEFAULT_TARGETS];
+    let action = rules[Deck::RULE_ROW * r + Deck::RULE_TARGETS];
     let mut first = begin(default);
     let mut second = begin(action);
     if default & ALL_CHANNELS != 0 {
@@ -178,7 +178,7 @@ fn rule_charges(
         memo,
         parts_count,
         r,
-        rules[Deck::RULE_ROW * r + 3],
+        rules[Deck::RULE_ROW * r + Deck::RULE_KIND],
         &first,
         &second,
     );

@@ -1,11 +1,10 @@
 -- Laws of the line. Assumes nothing.
 use Prim.Native.Nat.{ℕ, _≤_}
 use mathlib.Core.Path.{_≡_, refl, sym}
-use mathlib.Core.List.{List, [], _∷_, _++_, append-assoc, append-nil}
+use mathlib.Core.List.{List, [], _∷_, _++_, append-assoc, append-nil, flatMap}
 use lib.ListN.{length}
 use lib.Seq.{length-take-le}
 use Rattle.io.specs.Counts.{Counts}
-use Rattle.lists.specs.Lists.{flatMap}
 use Rattle.refusals.specs.Outcome.{refused, accepted}
 use Rattle.decimal.specs.Digits.{digits}
 use Rattle.decimal.specs.Put.{Put}

@@ -2,9 +2,9 @@
 -- nothing.
 use Prim.Native.Nat.{ℕ, _-_}
 use mathlib.Core.Path.{_≡_, refl}
-use mathlib.Core.List.{List, [], _∷_, _++_, map}
+use mathlib.Core.List.{List, [], _∷_, _++_, map, flatMap}
 use lib.ListN.{length, replicate, take, getD}
-use Rattle.lists.specs.Lists.{lists, flatMap}
+use Rattle.lists.specs.Lists.{lists}
 use Rattle.refusals.specs.Outcome.{Outcome, refused, accepted, outcomes}
 use Rattle.expression.specs.Reading.{readingExpressions}
 use Rattle.expression.specs.Faults.{faults}

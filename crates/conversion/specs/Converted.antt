@@ -2,9 +2,9 @@
 -- not its action is empty. Labels, opening values and limits stay. Assumes nothing.
 use Prim.Native.Nat.{ℕ}
 use mathlib.Core.Bool.{true, false}
-use mathlib.Core.List.{List, [], _∷_, map}
+use mathlib.Core.List.{List, [], _∷_, map, flatMap}
 use lib.ListN.{length, take}
-use Rattle.lists.specs.Lists.{sumOf, flatMap, from}
+use Rattle.lists.specs.Lists.{sumOf, from}
 use Rattle.expression.specs.Syntax.{constant}
 use Rattle.deck.specs.Deck.{Action, Rule, Part, Deck, ruleAt}
 

@@ -2,9 +2,9 @@
 use Prim.Native.Nat.{ℕ, zero, suc, _+_, _-_, _≤_, _<_}
 use mathlib.Core.Path.{_≡_}
 use mathlib.Core.Bool.{true, false}
-use mathlib.Core.List.{List, [], _∷_, _++_}
+use mathlib.Core.List.{List, [], _∷_, _++_, flatMap}
 use lib.ListN.{length, getD}
-use Rattle.lists.specs.Lists.{flatMap, from}
+use Rattle.lists.specs.Lists.{from}
 use Rattle.expression.specs.Encoding.{encodeValue, constantByte, encodeTruth}
 use Rattle.deck.specs.Deck.{Action, Rule, Part, Deck}
 use Rattle.deck.specs.Encoding.{encodeExpression, encodeAction, kindByte, encodeRule, encodePart}

@@ -1,9 +1,8 @@
 -- What stands at a place of a deck. Assumes nothing.
 use Prim.Native.Nat.{ℕ, _+_, _-_}
 use mathlib.Core.Path.{_≡_}
-use mathlib.Core.List.{List, _++_}
+use mathlib.Core.List.{List, _++_, flatMap}
 use lib.ListN.{length, take, drop}
-use Rattle.lists.specs.Lists.{flatMap}
 
 -- the bytes from one place to another
 abbrev pub stretch : List ℕ → ℕ → ℕ → List ℕ

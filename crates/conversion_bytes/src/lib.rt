@@ -1,9 +1,9 @@
 // Writes the conversion of an old deck into a buffer. The definitions are in `conversion`.
 ghost use mathlib.Core.Path.{_≡_};
-ghost use mathlib.Core.List.{List, _++_};
+ghost use mathlib.Core.List.{List, _++_, flatMap};
 ghost use Prim.Native.Nat.{_+_, _-_, _≤_, _<_};
 ghost use lib.ListN.{length, getD};
-ghost use Rattle.lists.specs.Lists.{flatMap, from};
+ghost use Rattle.lists.specs.Lists.{from};
 ghost use Rattle.deck.specs.Deck.{Action, Rule, Part, Deck};
 ghost use Rattle.deck.specs.Encoding.{encodeAction, encodeRule, encodePart, encode};
 ghost use Rattle.conversion.specs.Converted.{split, converted};

@@ -1,10 +1,10 @@
 -- Document 01, "The deck": a deck's bytes, and which decks have them. Assumes nothing.
 use Prim.Native.Nat.{ℕ, suc}
 use mathlib.Core.Bool.{Bool, true, false, _&&_}
-use mathlib.Core.List.{List, [], _∷_, _++_}
+use mathlib.Core.List.{List, [], _∷_, _++_, flatMap}
 use lib.Dec.{leb, ltb, eqb}
 use lib.ListN.{length}
-use Rattle.lists.specs.Lists.{allOf, flatMap, distinct}
+use Rattle.lists.specs.Lists.{allOf, distinct}
 use Rattle.expression.specs.Syntax.{Truth}
 use Rattle.expression.specs.Reading.{Scope}
 use Rattle.expression.specs.Encoding.{encodeValue, encodeNum, encodeTruth, fits, goodNum, goodTruth}

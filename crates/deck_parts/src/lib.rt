@@ -1,9 +1,8 @@
 // The parts of a deck, read at an offset of its bytes, and the table of their rows. The definitions are in `deck`.
 ghost use mathlib.Core.Path.{_≡_};
-ghost use mathlib.Core.List.{_++_};
+ghost use mathlib.Core.List.{_++_, flatMap};
 ghost use Prim.Native.Nat.{_*_, _≤_};
 ghost use lib.ListN.{length, drop};
-ghost use Rattle.lists.specs.Lists.{flatMap};
 ghost use Rattle.deck.specs.Reader.{repeats, value};
 ghost use Rattle.deck.specs.Marks.{Reads, markedPart, partRow};
 use deck::Advance;

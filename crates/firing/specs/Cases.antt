@@ -2,9 +2,9 @@
 use Prim.Native.Nat.{ℕ}
 use mathlib.Core.Path.{_≡_, refl}
 use mathlib.Core.Bool.{Bool, true, false}
-use mathlib.Core.List.{List, [], _∷_, map}
+use mathlib.Core.List.{List, [], _∷_, map, flatMap}
 use lib.IntN.{ℤ, pos}
-use Rattle.lists.specs.Lists.{flatMap, lists}
+use Rattle.lists.specs.Lists.{lists}
 use Rattle.expression.specs.Syntax.{Num, Truth, literal, own, far, two, constant, compared}
 use Rattle.expression.specs.Values.{evaluation}
 use Rattle.expression.specs.declared.Arith.the-variants.{Difference}

@@ -1,11 +1,11 @@
 -- Document 01, "Calls": the firing, and one commit, on values and pending updates. Assumes nothing.
 use Prim.Native.Nat.{ℕ, suc}
 use mathlib.Core.Bool.{Bool, not, _&&_, cond}
-use mathlib.Core.List.{List, [], _∷_, _++_, map}
+use mathlib.Core.List.{List, [], _∷_, _++_, map, flatMap}
 use lib.Dec.{ltb}
 use lib.ListN.{length, getD, take, drop}
 use lib.IntN.{ℤ}
-use Rattle.lists.specs.Lists.{select, flatMap, below, eqZ}
+use Rattle.lists.specs.Lists.{select, below, eqZ}
 use Rattle.expression.specs.Values.{numValue, truthValue}
 use Rattle.deck.specs.Deck.{Deck, Action, Assignment, Rule, R, ruleAt, active}
 use Rattle.charge.specs.Charge.{others}

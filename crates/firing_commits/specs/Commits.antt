@@ -15,7 +15,7 @@ use Rattle.lists.specs.Bits.{maskOf}
 use Rattle.pool.specs.Updates.{Update, channels, assign, charge}
 use Rattle.pool.specs.Places.{pairsOf}
 use Rattle.pool.specs.States.{Machine, known}
-use Rattle.passing.specs.Judged.{shape}
+use Rattle.deck.specs.Shape.{shape}
 use Rattle.firing.specs.Firing.{changed, committed, mayTake, nextPlace}
 use Rattle.firing.specs.Evaluated.{Assignable}
 use Rattle.pool_holes.specs.Slots.{Slot, hole, holds, standing, whole, before, Spread}
@@ -74,7 +74,7 @@ pub record Commits (d e : Deck) (C p : ℕ) (held₀ : Held) (values₀ : List �
 
 -- ---- which place
 
--- whether a commit may take place k where so many are pending
+-- whether a commit may take place k, by the number of pending updates
 abbrev pub MayTake : ℕ → ℕ → Bool → Type 0
 MayTake pending k r = (us : List Update) → pending ≡ length us → r ≡ mayTake us k
 

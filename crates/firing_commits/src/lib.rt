@@ -3,7 +3,7 @@ ghost use mathlib.Core.Path.{_≡_};
 ghost use Prim.Native.Nat.{_-_};
 ghost use lib.ListN.{length};
 ghost use Rattle.passing.specs.Tabled.{deckOf};
-ghost use Rattle.passing.specs.Judged.{shape};
+ghost use Rattle.deck.specs.Shape.{shape};
 ghost use Rattle.firing_queue.specs.Queue.{heldOf};
 ghost use Rattle.firing_commits.specs.Commits.{Looking, Looks, CommittingAt, Commits, MayTake, NextPlace};
 use deck::Deck;

@@ -11,7 +11,7 @@ use Rattle.charge.specs.Memo.{Memo, Ready}
 use Rattle.pool.specs.Updates.{Update, charge}
 use Rattle.pool_holes.specs.Slots.{Slot, row, standing, holes, whole, Spread}
 use Rattle.pool_index.specs.Index.{Indexed, Roomy}
-use Rattle.passing.specs.Judged.{shape}
+use Rattle.deck.specs.Shape.{shape}
 use Rattle.firing.specs.Firing.{enqueue}
 use Rattle.firing_queue.specs.declared.Queue.{Queue}
 

@@ -4,7 +4,7 @@ ghost use mathlib.Core.Bool.{true};
 ghost use mathlib.Core.List.{[], _∷_};
 ghost use Rattle.pool.specs.Places.{updateOf};
 ghost use Rattle.pool_states.specs.Answer.{HoldsKnown};
-ghost use Rattle.passing.specs.Judged.{shape};
+ghost use Rattle.deck.specs.Shape.{shape};
 ghost use Rattle.firing_queue.specs.Queue.{heldOf, Offering, Offered};
 use deck::Deck;
 

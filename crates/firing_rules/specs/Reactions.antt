@@ -2,10 +2,10 @@
 use Prim.Native.Nat.{ℕ, _≤_, _<_}
 use mathlib.Core.Path.{_≡_}
 use mathlib.Core.Bool.{Bool, true, false, _&&_, cond}
-use mathlib.Core.List.{List, [], _∷_, map}
+use mathlib.Core.List.{List, [], _∷_, map, flatMap}
 use lib.ListN.{length}
 use lib.IntN.{ℤ}
-use Rattle.lists.specs.Lists.{anyOf, flatMap, member}
+use Rattle.lists.specs.Lists.{anyOf, member}
 use Rattle.lists.specs.Bits.{bit, maskOf}
 use Rattle.deck.specs.Deck.{Deck, Rule, M, ruleAt, carries, active}
 use Rattle.deck.specs.declared.Deck as Counted
@@ -16,7 +16,7 @@ use Rattle.pool.specs.Places.{updateOf}
 use Rattle.pool_states.specs.Answer.{HoldsKnown}
 use Rattle.deck.specs.Laws.Forms.{NoDefaults}
 use Rattle.passing.specs.Tabled.{deckOf, Tabled}
-use Rattle.passing.specs.Judged.{shape}
+use Rattle.deck.specs.Shape.{shape}
 use Rattle.firing.specs.Firing.{holds, sent, firedHere, firedThere, fired}
 use Rattle.pool_holes.specs.Slots.{Slot, standing, holes}
 use Rattle.firing_queue.specs.Queue.{Held, Kept, Room, SameSize, Grown, Offered}
@@ -64,7 +64,7 @@ Fires d values p mask e held₀ q₀ m held q =
     (cs : List ℕ) → ((c : ℕ) → member c cs ≡ true → c < 32) → mask ≡ maskOf cs
     → Offered e (fired d values p cs) held₀ q₀ m held q
 
--- tables, memo and room as for the firing, with so many places used and pending updates of so much charge
+-- tables, memo and room as for the firing, with the number of places used and the charge of the pending updates
 pub record Reacting (s : List ℕ) (k : Counted.Deck) (rules parts memo : List ℕ) (held : Held) (q : Queue) : Type 0 where
   pub tabled : Tabled s k rules parts
   pub none : NoDefaults (deckOf s)

@@ -1,14 +1,15 @@
 // The firing: the updates that the active rules add when channels of a part changed. The definitions are in `firing`.
+ghost use mathlib.Core.List.{flatMap};
 ghost use mathlib.Core.Path.{_≡_};
 ghost use mathlib.Core.Bool.{true, not};
 ghost use Prim.Native.Nat.{_<_};
 ghost use lib.ListN.{length};
-ghost use Rattle.lists.specs.Lists.{flatMap, isEmpty};
+ghost use Rattle.lists.specs.Lists.{isEmpty};
 ghost use Rattle.deck.specs.Deck.{ruleAt};
 ghost use Rattle.deck.specs.Laws.Forms.{NoDefaults};
 ghost use Rattle.charge.specs.Charge.{others};
 ghost use Rattle.passing.specs.Tabled.{deckOf, Tabled};
-ghost use Rattle.passing.specs.Judged.{shape};
+ghost use Rattle.deck.specs.Shape.{shape};
 ghost use Rattle.firing_queue.specs.Queue.{heldOf, Offering, Offered};
 ghost use Rattle.firing_rules.specs.Reactions.{adds, firedIn, Tasked, Made, FiresAll, Reacting, Reacts};
 use deck::Deck;
@@ -29,12 +30,12 @@ fn sends(deck: &[u8], counts: Deck, rules: &[u64], values: &[i32], task: Task) -
         (ruleAt (deckOf (now (deck .entry))) (task .rule)))) ⌝ }
 {
     let r = task.rule;
-    let action = rules[Deck::RULE_ROW * r + 6] as usize;
+    let action = rules[Deck::RULE_ROW * r + Deck::RULE_ACTION_AT] as usize;
     if deck[action] == 0 {
         return false;
     }
-    let condition = rules[Deck::RULE_ROW * r + 5] as usize;
-    let kind = rules[Deck::RULE_ROW * r + 3] as usize;
+    let condition = rules[Deck::RULE_ROW * r + Deck::RULE_CONDITION_AT] as usize;
+    let kind = rules[Deck::RULE_ROW * r + Deck::RULE_KIND] as usize;
     let channels = counts.channels;
     let fars = channels * kind;
     let own = Deck::CHANNELS * task.from;
@@ -50,8 +51,8 @@ fn made(deck: &[u8], counts: Deck, rules: &[u64], values: &[i32], task: Task) ->
         (ruleAt (deckOf (now (deck .entry))) (task .rule)) row ⌝ }
 {
     let r = task.rule;
-    let action = rules[Deck::RULE_ROW * r + 6] as usize;
-    let kind = rules[Deck::RULE_ROW * r + 3] as usize;
+    let action = rules[Deck::RULE_ROW * r + Deck::RULE_ACTION_AT] as usize;
+    let kind = rules[Deck::RULE_ROW * r + Deck::RULE_KIND] as usize;
     let channels = counts.channels;
     let fars = channels * kind;
     let from = Deck::CHANNELS * task.from;
@@ -168,7 +169,7 @@ fn fire_rule(
 {
     let rule = turn.rule;
     let from = turn.part;
-    if rules[Deck::RULE_ROW * rule + 3] == 1 {
+    if rules[Deck::RULE_ROW * rule + Deck::RULE_KIND] == 1 {
         if turn.others {
             return fire_others(
                 deck,

@@ -50,7 +50,8 @@ fn draw(rules: &[u64], parts: &[u64], count: usize, parts_count: usize, edges: &
     let mut left = carried;
     let mut r = lists::lowest(left);
     while r < count {
-        let targets = rules[Deck::RULE_ROW * r + 1] | rules[Deck::RULE_ROW * r + 2];
+        let targets = rules[Deck::RULE_ROW * r + Deck::RULE_DEFAULT_TARGETS]
+            | rules[Deck::RULE_ROW * r + Deck::RULE_TARGETS];
         add_edges(edges, rules[Deck::RULE_ROW * r], targets);
         left = lists::rest(left);
         r = lists::lowest(left);

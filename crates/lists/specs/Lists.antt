@@ -1,7 +1,7 @@
 -- Helpers on lists and numbers that the definitions use. Every test is a Bool, so that it computes. Assumes nothing.
 use Prim.Native.Nat.{ℕ, zero, suc, _+_, max}
 use mathlib.Core.Bool.{Bool, true, false, not, _&&_, _||_}
-use mathlib.Core.List.{List, [], _∷_, _++_}
+use mathlib.Core.List.{List, [], _∷_, flatMap}
 use lib.Dec.{eqb}
 use lib.IntN.{ℤ, pos, negsuc}
 
@@ -22,11 +22,6 @@ keep false x xs = xs
 unfoldable pub select : {A : Type 0} → (A → Bool) → List A → List A
 select f [] = []
 select f (x ∷ xs) = keep (f x) x (select f xs)
-
--- the lists that f gives, one behind the other
-unfoldable pub flatMap : {A B : Type 0} → (A → List B) → List A → List B
-flatMap f [] = []
-flatMap f (x ∷ xs) = f x ++ flatMap f xs
 
 -- the sum, and the largest, of f over a list; 0 for the empty one
 unfoldable pub sumOf : {A : Type 0} → (A → ℕ) → List A → ℕ

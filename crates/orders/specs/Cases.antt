@@ -4,11 +4,11 @@ use Prim.Native.Nat.{ℕ, _+_, _*_, _-_}
 use Prim.Native.String.{String}
 use mathlib.Core.Bool.{cond}
 use mathlib.Core.Path.{_≡_, refl}
-use mathlib.Core.List.{List, [], _∷_, _++_}
+use mathlib.Core.List.{List, [], _∷_, _++_, flatMap}
 use lib.Dec.{ltb}
 use lib.ListN.{take, drop, set, replicate}
 use lib.IntN.{ℤ, pos}
-use Rattle.lists.specs.Lists.{flatMap, lists}
+use Rattle.lists.specs.Lists.{lists}
 use Rattle.refusals.specs.Outcome.{Outcome, refused, accepted, outcomes}
 use Rattle.expression.specs.Values.{evaluation}
 use Rattle.expression.specs.Reading.{readingExpressions}

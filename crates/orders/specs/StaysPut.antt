@@ -3,9 +3,9 @@
 use Prim.Native.Nat.{ℕ, _<_}
 use mathlib.Core.Path.{_≡_}
 use mathlib.Core.Bool.{Bool, true, false, not, _||_}
-use mathlib.Core.List.{List, [], _∷_, _++_, map}
+use mathlib.Core.List.{List, [], _∷_, _++_, map, flatMap}
 use lib.IntN.{ℤ}
-use Rattle.lists.specs.Lists.{anyOf, select, flatMap, below, member}
+use Rattle.lists.specs.Lists.{anyOf, select, below, member}
 use Rattle.refusals.specs.Outcome.{Outcome, refused, accepted}
 use Rattle.deck.specs.Deck.{Deck, R, N}
 use Rattle.graph.specs.Graph.{edge, Reaches, reached}

@@ -2,9 +2,9 @@
 -- order. Assumes nothing.
 use Prim.Native.Nat.{ℕ, _-_, _*_}
 use mathlib.Core.Bool.{Bool, not}
-use mathlib.Core.List.{List, _++_}
+use mathlib.Core.List.{List, _++_, flatMap}
 use lib.IntN.{ℤ}
-use Rattle.lists.specs.Lists.{select, flatMap, below}
+use Rattle.lists.specs.Lists.{select, below}
 use Rattle.refusals.specs.Outcome.{Outcome, accepted, _>>=_, _>>_, requireNone}
 use Rattle.refusals.specs.Numbers.{opensOutside, cyclicGraph, overcharged}
 use Rattle.expression.specs.Values.{truthValue}

@@ -10,7 +10,7 @@ use Rattle.expression.specs.Laws.Bytes.{Bytes}
 use Rattle.deck.specs.declared.Form.{Form}
 use Rattle.deck.specs.Deck.{Deck}
 use Rattle.deck.specs.Layout.{read}
-pub use Rattle.deck.specs.Shape.{shape}
+use Rattle.deck.specs.Shape.{shape}
 use Rattle.deck.specs.Marks.{RulesFit, Marked, markedSections}
 use Rattle.deck.specs.declared.Deck as Counted
 use Rattle.graph.specs.Laws.Cycles.{KnownTargets}

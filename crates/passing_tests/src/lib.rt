@@ -49,7 +49,7 @@ pub fn truth_from(
     }
 }
 
-// So many opening values, written to the front of a part's stretch of the table, or of a row of its own.
+// The first opening values of a part, `count` of them, written to the front of a part's stretch of the table, or of a row of its own.
 fn open_part(stretch: &mut [i32], deck: &[u8], at: usize, count: usize)
     requires { ⌜ (count ≤ length (now stretch)) × (at + 4 * count ≤ length (now deck)) ⌝ }
     ensures { λ _. ⌜ now (stretch .exit) ≡ valuesFrom (now (deck .entry)) at count ++ drop count (now (stretch .entry)) ⌝ }
@@ -69,7 +69,7 @@ pub fn within(deck: &[u8], counts: Deck, parts: &[u64], values: &[i32], p: usize
     requires { ⌜ PartsKnown (now deck) counts (now parts) × (length (now values) ≡ 512) × (p < counts .parts) ⌝ }
     ensures { λ r. ⌜ r ≡ Check.within (deckOf (now (deck .entry))) p (now (values .entry)) ⌝ }
 {
-    let at = parts[Deck::PART_ROW * p + 2] as usize;
+    let at = parts[Deck::PART_ROW * p + Deck::PART_LIMIT_AT] as usize;
     truth_from(deck, at, values, Deck::CHANNELS * p, counts.channels, 0, 0)
 }
 
@@ -82,7 +82,7 @@ pub fn open_parts(values: &mut [i32], deck: &[u8], counts: Deck, parts: &[u64])
     let channels = counts.channels;
     let mut p: usize = 0;
     while p < n {
-        let at = parts[Deck::PART_ROW * p + 1] as usize;
+        let at = parts[Deck::PART_ROW * p + Deck::PART_OPENING_AT] as usize;
         let from = Deck::CHANNELS * p;
         open_part(&mut values[from..], deck, at, channels);
         p += 1;
@@ -95,9 +95,9 @@ fn opens_within(deck: &[u8], counts: Deck, parts: &[u64], p: usize) -> bool
     ensures { λ r. ⌜ r ≡ Check.within (deckOf (now (deck .entry))) p (openingValues (deckOf (now (deck .entry)))) ⌝ }
 {
     let mut row = [0i32; Deck::CHANNELS];
-    let at = parts[Deck::PART_ROW * p + 1] as usize;
+    let at = parts[Deck::PART_ROW * p + Deck::PART_OPENING_AT] as usize;
     open_part(&mut row, deck, at, counts.channels);
-    let limit = parts[Deck::PART_ROW * p + 2] as usize;
+    let limit = parts[Deck::PART_ROW * p + Deck::PART_LIMIT_AT] as usize;
     truth_from(deck, limit, &row, 0, counts.channels, 0, 0)
 }
 

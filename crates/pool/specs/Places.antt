@@ -1,10 +1,10 @@
 -- Document 01, "State and pool": the lent pool as places of ten numbers. Assumes nothing.
 use Prim.Native.Nat.{ℕ, zero, suc, _+_, _*_, _-_, _/_}
 use mathlib.Core.Bool.{Bool}
-use mathlib.Core.List.{List, [], _∷_, _++_, map}
+use mathlib.Core.List.{List, [], _∷_, _++_, map, flatMap}
 use lib.ListN.{length, getD, take, drop, replicate}
 use lib.IntN.{ℤ, pos, natAbs}
-use Rattle.lists.specs.Lists.{flatMap, eqZ, eqList}
+use Rattle.lists.specs.Lists.{eqZ, eqList}
 use Rattle.deck.specs.Limits.{limits}
 use Rattle.pool.specs.Updates.{Pair, Update}
 

@@ -10,9 +10,6 @@ ghost use Rattle.pool.specs.States.{goodLength};
 ghost use Rattle.pool.specs.Moves.{written, moved};
 use deck::Deck;
 
-// The places of the longest pool.
-const MOST_PLACES: usize = 65535;
-
 // A value table, channel c of part p at 32 p + c, and the pending number.
 pub struct State {
     pub values: [i32; Deck::VALUES],
@@ -26,7 +23,7 @@ pub fn good_length(n: usize) -> bool
     if n < Deck::PLACE {
         return false;
     }
-    if n > MOST_PLACES * Deck::PLACE {
+    if n > Deck::CHARGE * Deck::PLACE {
         return false;
     }
     n % Deck::PLACE == 0

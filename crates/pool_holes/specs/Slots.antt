@@ -4,10 +4,10 @@ use Prim.Native.Nat.{ℕ, suc, _+_, _*_, _-_, _≤_}
 use mathlib.Core.Path.{_≡_}
 use mathlib.Core.Logic.{_⊎_}
 use mathlib.Core.Bool.{Bool, true, not, _&&_}
-use mathlib.Core.List.{List, [], _∷_, _++_}
+use mathlib.Core.List.{List, [], _∷_, _++_, flatMap}
 use lib.ListN.{length, take, drop, getD}
 use lib.IntN.{ℤ, pos}
-use Rattle.lists.specs.Lists.{allOf, flatMap, isEmpty}
+use Rattle.lists.specs.Lists.{allOf, isEmpty}
 use Rattle.pool.specs.Updates.{Update}
 use Rattle.pool.specs.Places.{zeros, place}
 use Rattle.pool.specs.Moves.{moved, Laid}

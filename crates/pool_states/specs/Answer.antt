@@ -1,4 +1,4 @@
--- What the functions of this crate answer. Assumes nothing.
+-- What the functions of the test for a good state answer. Assumes nothing.
 use Prim.Native.Nat.{ℕ, _*_}
 use mathlib.Core.Path.{_≡_}
 use mathlib.Core.Bool.{Bool, true, false, _&&_, cond}

@@ -124,6 +124,7 @@ pub struct Played {
 }
 
 // Reads some bytes of the text and goes through them. At its end, and where it cannot be read, there are none.
+// Reads some bytes of the text and goes through them. At its end, and where it cannot be read, there are none.
 fn play_some(
     deck: &mut [u8; HELD],
     pool: &mut [i32; LONGEST_POOL],

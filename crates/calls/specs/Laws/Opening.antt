@@ -2,14 +2,14 @@
 use Prim.Native.Nat.{ℕ, zero, suc, _+_, _*_, _-_, _≤_, _<_}
 use mathlib.Core.Path.{_≡_, refl, sym, _∙_, ap}
 use mathlib.Core.Bool.{true, _||_}
-use mathlib.Core.List.{List, [], _∷_, _++_}
+use mathlib.Core.List.{List, [], _∷_, _++_, flatMap}
 use native.Mathlib.Omega.{arith}
 use native.Mathlib.Nat.{add-zero}
 use lib.Dec.{eqb}
 use lib.ListN.{length, replicate, length-append, length-replicate}
 use lib.IntN.{ℤ, pos}
 use borrow.Author.Tests.{eqb-true}
-use Rattle.lists.specs.Lists.{lists, allOf, flatMap}
+use Rattle.lists.specs.Lists.{lists, allOf}
 use Rattle.lists.specs.Laws.Booleans.{and-both, and-left, and-right, or-left, or-right}
 use Rattle.lists.specs.Laws.Alls.{allOf-head, allOf-tail}
 use Rattle.lists.specs.Laws.Equalities.{eqZ-refl}

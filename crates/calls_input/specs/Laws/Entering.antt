@@ -21,7 +21,7 @@ use Rattle.pool.specs.Laws.Good.{count-bounded}
 use Rattle.pool.specs.Laws.Laid.{laid-cleared, cleared-length}
 use Rattle.passing.specs.Check.{within}
 use Rattle.passing.specs.Tabled.{deckOf}
-use Rattle.passing.specs.Judged.{shape}
+use Rattle.deck.specs.Shape.{shape}
 use Rattle.firing.specs.Firing.{fired, changed, enqueue, setAndFire}
 use Rattle.firing.specs.Evaluated.{Assignable, Compared}
 use Rattle.firing.specs.Laws.Commits.{set-grows}

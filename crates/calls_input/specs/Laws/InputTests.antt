@@ -2,7 +2,7 @@
 use Prim.Native.Nat.{ℕ, zero, suc, _+_, _*_, _-_, _/_, _%_, _^_, _<_, _≤_}
 use mathlib.Core.Path.{_≡_, refl, sym, ap, ap₂, _∙_}
 use mathlib.Core.Bool.{Bool, true, false, not, _&&_, false≢true}
-use mathlib.Core.List.{List, [], _∷_, _++_, map}
+use mathlib.Core.List.{List, [], _∷_, _++_, map, flatMap}
 use native.Mathlib.Omega.{arith}
 use lib.Bits.{bitOr}
 use lib.Dec.{leb, ltb, eqb}
@@ -10,7 +10,7 @@ use lib.ListN.{length, getD, take, drop}
 use lib.Seq.{drop-cons}
 use lib.IntN.{ℤ, pos, negsuc, natAbs}
 use borrow.Author.Tests.{le-leb, lt-leb, ltb-true, lt-ltb, le-ltb, eq-eqb, ne-eqb}
-use Rattle.lists.specs.Lists.{lists, allOf, flatMap, distinct}
+use Rattle.lists.specs.Lists.{lists, allOf, distinct}
 use Rattle.lists.specs.Bits.{bit}
 use Rattle.lists.specs.Laws.Booleans.{and-both, and-left, and-right}
 use Rattle.lists.specs.Laws.Statements.{same-test}
@@ -25,7 +25,7 @@ use Rattle.firing.specs.Evaluated.{Assignable}
 use Rattle.calls.specs.Calls.{channelsOf, goodInput}
 use Rattle.calls.specs.Laws.Inputs.{inside, inside-known, input-inside}
 
--- ---- so many pairs
+-- ---- the number of pairs
 
 module _ (r : ℕ) where
   fit-inside : (c : ℤ) → ltb (within r c) r ≡ true → inside r c ≡ true

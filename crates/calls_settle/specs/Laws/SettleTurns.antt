@@ -1,4 +1,4 @@
--- A settle as turns: so many commits of place 0 are made, and what they left is settled with the rest of the budget. Assumes
+-- A settle as turns: the commits of place 0 that were made, and what they left is settled with the rest of the budget. Assumes
 -- nothing.
 use Prim.Native.Nat.{ℕ, zero, suc, _+_, _-_, _<_}
 use mathlib.Core.Path.{_≡_, refl, sym, ap, _∙_, subst}
@@ -25,7 +25,7 @@ use Rattle.calls_settle.specs.Settled.{settledAs, Settles}
 
 -- ---- the definition, turn by turn
 
--- so many commits were made before
+-- the commits that were made before
 abbrev pub afterwards : ℕ → Settling → Settling
 afterwards n s = record { made = n + s .made; machine = s .machine }
 
@@ -68,7 +68,7 @@ one-afterwards n s = ap (λ m. record { made = m; machine = s .machine }) (omega
 none-afterwards : (s : Settling) → s ≡ afterwards 0 s
 none-afterwards s = ap (λ m. record { made = m; machine = s .machine }) (omega arith)
 
--- what is answered when so many were made and nothing more is to be done
+-- what is answered when n were made and nothing more is to be done
 rested-answer : (n : ℕ) (y : Machine) (pending : ℕ) → pending ≡ length (y .pending)
     → settledAs (afterwards n (resting y)) ≡ cond (eqb pending 0) (settled n) (spent n)
 unfolding settledAs

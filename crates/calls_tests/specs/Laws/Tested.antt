@@ -31,7 +31,7 @@ use Rattle.pool_states.specs.Laws.PairsHeld.{known-some}
 use Rattle.passing.specs.Check.{passing}
 use Rattle.passing.specs.Tabled.{layoutOf, deckOf}
 use Rattle.passing.specs.Judged as Judging
-use Rattle.passing.specs.Judged.{shape}
+use Rattle.deck.specs.Shape.{shape}
 use Rattle.passing.specs.Laws.Passing.{passing-clean}
 use Rattle.pool_holes.specs.Slots.{Slot, holes, whole}
 use Rattle.pool_holes.specs.Laws.Standing.{whole-standing, whole-length, whole-holes}

@@ -1,4 +1,4 @@
--- The turns of the code: so many commits of one place are made, and what they left is held in the places used. Assumes nothing.
+-- The turns of the code: the commits of one place that were made, and what they left is held in the places used. Assumes nothing.
 use Prim.Native.Nat.{ℕ, suc, _+_, _-_, _≤_, _<_}
 use mathlib.Core.Path.{_≡_, refl, sym, ap, ap₂, _∙_, subst}
 use mathlib.Core.Logic.{_⊎_, inl, inr}
@@ -18,7 +18,7 @@ use Rattle.pool_holes.specs.Slots.{Slot, hole, standing, holes, whole, before, 
 use Rattle.pool_holes.specs.Laws.Standing.{parted, parted-before, parted-at, parted-emptied, parted-standing, parted-holes, parted-length}
 use Rattle.pool_holes.specs.Laws.Standing.{parted-edges, whole-append, whole-length}
 use Rattle.passing.specs.Tabled.{deckOf}
-use Rattle.passing.specs.Judged.{shape}
+use Rattle.deck.specs.Shape.{shape}
 use Rattle.firing.specs.Firing.{committed}
 use Rattle.pool_index.specs.Index.{Roomy}
 use Rattle.firing_queue.specs.Queue.{Held, heldOf, Room}

@@ -3,12 +3,12 @@ use Prim.Native.Nat.{ℕ, _+_, _*_, _≤_, _<_}
 use mathlib.Core.Path.{_≡_, refl, sym, ap, _∙_, fun-ext}
 use mathlib.Core.Logic.{_↔_, ⊎-elim}
 use mathlib.Core.Bool.{Bool, true, false, _&&_}
-use mathlib.Core.List.{List, [], _∷_, map, map-map, map-eq-nil-iff, nil≢cons, head-eq-of-cons-eq}
+use mathlib.Core.List.{List, [], _∷_, map, map-map, map-eq-nil-iff, nil≢cons, head-eq-of-cons-eq, flatMap}
 use native.Mathlib.Nat.{eq-or-lt-of-le}
 use native.Mathlib.Omega.{arith}
 use lib.Dec.{ltb}
 use borrow.Author.Tests.{ltb-true, ltb-false}
-use Rattle.lists.specs.Lists.{select, flatMap, below, member}
+use Rattle.lists.specs.Lists.{select, below, member}
 use Rattle.lists.specs.Laws.Booleans.{and-left, and-right, not-true→false}
 use Rattle.lists.specs.Laws.Filters.{select-select, select-map}
 use Rattle.lists.specs.Laws.Below.{below-member, none-below, select-first}

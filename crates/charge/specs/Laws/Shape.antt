@@ -3,9 +3,9 @@
 use Prim.Native.Nat.{ℕ, zero, suc, _+_, _*_}
 use mathlib.Core.Path.{_≡_, refl, sym, ap, ap₂, _∙_, fun-ext}
 use mathlib.Core.Bool.{Bool, not, _&&_, cond}
-use mathlib.Core.List.{List, [], _∷_, map}
+use mathlib.Core.List.{List, [], _∷_, map, flatMap}
 use lib.Dec.{eqb}
-use Rattle.lists.specs.Lists.{anyOf, select, flatMap, sumOf, largest, below, member}
+use Rattle.lists.specs.Lists.{anyOf, select, sumOf, largest, below, member}
 use Rattle.lists.specs.Laws.Members.{member-empty, member-head}
 use Rattle.lists.specs.Laws.Sums.{sumOf-cong}
 use Rattle.lists.specs.Laws.Same.{select-cong, SameMembers, anyOf-same}

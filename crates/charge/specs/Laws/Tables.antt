@@ -1,4 +1,4 @@
--- What the functions of this crate take is there at the start: a memo of zeros knows nothing and has a row for each rule, and
+-- What the functions that compute charges take is there at the start: a memo of zeros knows nothing and has a row for each rule, and
 -- the listeners are noted beside what the deck is read from. Assumes nothing.
 use Prim.Native.Nat.{ℕ, zero, suc, _+_, _*_, _≤_, _<_}
 use mathlib.Core.Path.{_≡_, refl, sym, ap, _∙_, fun-ext}

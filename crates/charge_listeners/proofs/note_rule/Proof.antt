@@ -52,8 +52,6 @@ note-rule-spec =
     (λ c. omega (arith, c .before .before .loop .inv .1 .done .kept .long))
     (λ c. omega arith)
     (λ c. omega arith)
-    (λ c. omega arith)
-    (λ c. omega arith)
     (λ c. omega (arith, c .before .before .loop .inv .1 .done .kept .long))
     (λ c κs. tt)
     (λ c κs. tt)

@@ -3,11 +3,11 @@
 use Prim.Native.Nat.{ℕ, zero, suc, _+_, _≤_, _<_}
 use mathlib.Core.Path.{_≡_, refl, sym, ap, ap₂, _∙_, subst}
 use mathlib.Core.Bool.{true, false, _&&_}
-use mathlib.Core.List.{List, [], _∷_, _++_, map}
+use mathlib.Core.List.{List, [], _∷_, _++_, map, flatMap}
 use native.Mathlib.Omega.{arith}
 use lib.ListN.{length, take, length-map}
 use borrow.Author.Tests.{le-leb}
-use Rattle.lists.specs.Lists.{lists, allOf, flatMap, sumOf, from}
+use Rattle.lists.specs.Lists.{lists, allOf, sumOf, from}
 use Rattle.lists.specs.Laws.Booleans.{and-both, and-left, and-right}
 use Rattle.lists.specs.Laws.Alls.{allOf-at, allOf-every, allOf-flatMap, allOf-map, allOf-weaken}
 use Rattle.expression.specs.Syntax.{constant}

@@ -3,14 +3,14 @@ use Prim.Native.Nat.{ℕ, zero, suc, _+_, _≤_, _<_}
 use mathlib.Core.Path.{_≡_, refl, sym, ap, ap₂, _∙_, subst, fun-ext}
 use mathlib.Core.Logic.{⊎-elim}
 use mathlib.Core.Bool.{Bool, true, false, _&&_, cond}
-use mathlib.Core.List.{List, [], _∷_, _++_, map, append-assoc, append-nil, nil≢cons, head-eq-of-cons-eq, tail-eq-of-cons-eq}
+use mathlib.Core.List.{List, [], _∷_, _++_, map, append-assoc, append-nil, nil≢cons, head-eq-of-cons-eq, tail-eq-of-cons-eq, flatMap}
 use native.Mathlib.Omega.{arith}
 use native.Mathlib.Decide.{decLt}
 use lib.Dec.{eqb}
 use lib.ListN.{length, getD, take, length-append, List·getD-map}
 use lib.Seq.{take-suc, take-all, getD-append-add}
 use borrow.Author.Tests.{eq-eqb, eqb-true}
-use Rattle.lists.specs.Lists.{lists, anyOf, keep, select, flatMap, sumOf, from, below, member}
+use Rattle.lists.specs.Lists.{lists, anyOf, keep, select, sumOf, from, below, member}
 use Rattle.lists.specs.Laws.Statements.{same-test}
 use Rattle.lists.specs.Laws.Members.{member-cases, member-empty, member-head, member-tail}
 use Rattle.lists.specs.Laws.Anys.{anyOf-flatMap}

@@ -1,10 +1,10 @@
 -- `conversion_bytes::put_carried` meets its contract. The loop's invariant: the new numbers of i rules are written. Assumes nothing.
+use mathlib.Core.List.{flatMap}
 use Prim.Native.Nat.{_+_, _-_, _≤_, _<_}
 use mathlib.Core.Path.{sym, ap, subst}
 use native.Mathlib.Omega.{arith}
 use borrow.Author.Needs.{needs}
 use lib.ListN.{length, take}
-use Rattle.lists.specs.Lists.{flatMap}
 use Rattle.conversion_bytes.specs.Written.{Written}
 use Rattle.conversion_bytes.specs.Pieces.{renewed}
 use Rattle.conversion_bytes.specs.Laws.Written.{written-length, written-is, written-first, written-next, written-all, room-next}

@@ -1,11 +1,10 @@
 -- `conversion_bytes::put_part` meets its contract: opening values, new numbers behind their count, and limit. Assumes nothing.
 use Prim.Native.Nat.{ℕ, _+_, _-_, _≤_}
 use mathlib.Core.Path.{_≡_, ap}
-use mathlib.Core.List.{List, _∷_, _++_}
+use mathlib.Core.List.{List, _∷_, _++_, flatMap}
 use native.Mathlib.Omega.{arith}
 use borrow.Author.Needs.{needs}
 use lib.ListN.{length, set, length-append}
-use Rattle.lists.specs.Lists.{flatMap}
 use Rattle.conversion_bytes.specs.Written.{Written}
 use Rattle.conversion_bytes.specs.Pieces.{renewed, partBytes}
 use Rattle.conversion_bytes.specs.Laws.Written.{written-length, written-is, written-more, written-count, room-first, room-behind}

@@ -1,10 +1,10 @@
 -- `conversion_bytes::put_parts` meets its contract. The loop's invariant: i parts end at the place, and what becomes of them is written.
 -- Assumes nothing.
+use mathlib.Core.List.{flatMap}
 use Prim.Native.Nat.{_+_, _-_, _≤_, _<_}
 use mathlib.Core.Path.{_≡_, refl, sym, _∙_, subst}
 use native.Mathlib.Omega.{arith}
 use lib.ListN.{length, getD, take}
-use Rattle.lists.specs.Lists.{flatMap}
 use Rattle.deck.specs.Deck.{Part, Deck}
 use Rattle.deck.specs.Encoding.{encodePart}
 use Rattle.deck.specs.Laws.Formed.{formed}

@@ -2,10 +2,9 @@
 -- Assumes nothing.
 use Prim.Native.Nat.{_+_, _-_, _≤_, _<_}
 use mathlib.Core.Path.{_≡_, refl, sym, _∙_, subst}
-use mathlib.Core.List.{List}
+use mathlib.Core.List.{List, flatMap}
 use native.Mathlib.Omega.{arith}
 use lib.ListN.{length, getD, take}
-use Rattle.lists.specs.Lists.{flatMap}
 use Rattle.deck.specs.Deck.{Rule}
 use Rattle.deck.specs.Encoding.{encodeRule}
 use Rattle.conversion.specs.Converted.{split}

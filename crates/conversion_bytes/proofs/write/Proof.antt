@@ -1,11 +1,10 @@
 -- `conversion_bytes::write` meets its contract: one section after the other, each behind its count. Assumes nothing.
 use Prim.Native.Nat.{ℕ, _+_, _≤_}
 use mathlib.Core.Path.{sym, ap, _∙_}
-use mathlib.Core.List.{List, [], _∷_, _++_}
+use mathlib.Core.List.{List, [], _∷_, _++_, flatMap}
 use native.Mathlib.Omega.{arith}
 use borrow.Author.Needs.{needs}
 use lib.ListN.{length}
-use Rattle.lists.specs.Lists.{flatMap}
 use Rattle.deck.specs.Deck.{M, N}
 use Rattle.deck.specs.Encoding.{encodeRule, encodePart, encodeChannels, encode}
 use Rattle.conversion.specs.Converted.{split, converted}

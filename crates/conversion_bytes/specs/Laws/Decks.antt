@@ -1,12 +1,11 @@
 -- Laws of a deck's bytes, and of what becomes of them. Assumes nothing.
 use Prim.Native.Nat.{ℕ, suc, _+_, _*_, _-_, _≤_, _<_}
 use mathlib.Core.Path.{_≡_, refl, sym, ap, _∙_, subst}
-use mathlib.Core.List.{List, [], _∷_, _++_, append-assoc, append-nil}
+use mathlib.Core.List.{List, [], _∷_, _++_, append-assoc, append-nil, flatMap}
 use native.Mathlib.Omega.{arith}
 use native.Mathlib.Nat.{zero-add}
 use lib.ListN.{length, getD, drop, length-append, length-drop, length-map}
 use lib.Seq.{take-all, drop-cons}
-use Rattle.lists.specs.Lists.{flatMap}
 use Rattle.deck.specs.declared.Form.the-variants.{Old}
 use Rattle.deck.specs.Deck.{Deck, M, N, decks}
 use Rattle.deck.specs.Encoding.{encodeRule, encodePart, encodeChannels, encodeRules, encodeParts, encode}

@@ -2,14 +2,14 @@
 use Prim.Native.Nat.{ℕ, suc, _+_, _*_, _-_, _≤_, _<_}
 use mathlib.Core.Path.{_≡_, refl, sym, ap, ap₂, _∙_, subst}
 use mathlib.Core.Bool.{true}
-use mathlib.Core.List.{List, [], _∷_, _++_}
+use mathlib.Core.List.{List, [], _∷_, _++_, flatMap}
 use native.Mathlib.Omega.{arith}
 use native.Mathlib.Numerals.{add-one}
 use lib.Dec.{ltb}
 use lib.IntN.{ℤ}
 use lib.ListN.{length, getD, length-append}
 use borrow.Author.Tests.{leb-true, ltb-true, lt-ltb, eqb-true}
-use Rattle.lists.specs.Lists.{allOf, flatMap, from}
+use Rattle.lists.specs.Lists.{allOf, from}
 use Rattle.lists.specs.Laws.Alls.{allOf-none, allOf-cons, allOf-at}
 use Rattle.lists.specs.Laws.Members.{allOf-member}
 use Rattle.lists.specs.Laws.Below.{from-length}

@@ -1,7 +1,7 @@
 -- Laws of actions and rules that stand in a deck, and of what becomes of a rule. Assumes nothing.
 use Prim.Native.Nat.{ℕ, zero, suc, _+_, _≤_, _<_}
 use mathlib.Core.Path.{_≡_, refl, sym, ap, ap₂, _∙_, subst}
-use mathlib.Core.List.{List, [], _∷_, _++_, append-assoc, append-nil}
+use mathlib.Core.List.{List, [], _∷_, _++_, append-assoc, append-nil, flatMap}
 use native.Mathlib.Omega.{arith}
 use native.Mathlib.Nat.{add-zero}
 use native.Mathlib.Numerals.{add-one}
@@ -9,7 +9,7 @@ use native.Mathlib.Decide.{decLt}
 use lib.ListN.{length, getD, take, set, length-append, length-set}
 use lib.Seq.{take-suc, getD-set-same, getD-set-other}
 use lib.IntN.{pos}
-use Rattle.lists.specs.Lists.{flatMap, sumOf}
+use Rattle.lists.specs.Lists.{sumOf}
 use Rattle.lists.specs.Laws.Sums.{sumOf-append}
 use Rattle.expression.specs.Syntax.{literal}
 use Rattle.expression.specs.Encoding.{encodeNum, encodeTruth, encodingExpressions}

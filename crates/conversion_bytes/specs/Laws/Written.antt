@@ -1,13 +1,12 @@
 -- Laws of bytes written into a buffer. Assumes nothing.
 use Prim.Native.Nat.{ℕ, suc, _+_, _≤_, _<_}
 use mathlib.Core.Path.{_≡_, sym, ap, ap₂, _∙_, subst}
-use mathlib.Core.List.{List, [], _∷_, _++_, append-assoc, append-nil}
+use mathlib.Core.List.{List, [], _∷_, _++_, append-assoc, append-nil, flatMap}
 use native.Mathlib.Omega.{arith}
 use native.Mathlib.Nat.{sub-zero}
 use native.Mathlib.Numerals.{add-one}
 use lib.ListN.{length, take, drop, set, getD, length-append, length-drop, take-append-drop}
 use lib.Seq.{take-at, drop-at, drop-drop, length-take-le, take-suc, take-all, take-append-le, take-take, set-split}
-use Rattle.lists.specs.Lists.{flatMap}
 use Rattle.conversion.specs.Laws.Renumbering.{flatMap-append}
 use Rattle.conversion_bytes.specs.Written.{Written}
 use Rattle.conversion_bytes.specs.Stands.{stretch}

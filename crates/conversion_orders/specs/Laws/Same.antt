@@ -2,13 +2,13 @@
 use Prim.Native.Nat.{ℕ, zero, suc, _+_, _-_, _*_, _%_}
 use mathlib.Core.Path.{_≡_, refl, sym, ap, ap₂, _∙_, fun-ext}
 use mathlib.Core.Bool.{Bool, not, _&&_, cond}
-use mathlib.Core.List.{List, [], _∷_, _++_, map, append-nil}
+use mathlib.Core.List.{List, [], _∷_, _++_, map, append-nil, flatMap}
 use native.Mathlib.Omega.{arith}
 use lib.ListN.{length, List·getD-map}
 use lib.IntN.{ℤ, pos, natAbs}
 use lib.Dec.{leb, ltb, eqb}
 use lib.Signed.{leZ, ltZ}
-use Rattle.lists.specs.Lists.{lists, allOf, distinct, select, isEmpty, eqZ, flatMap, sumOf, below}
+use Rattle.lists.specs.Lists.{lists, allOf, distinct, select, isEmpty, eqZ, sumOf, below}
 use Rattle.lists.specs.Laws.Sums.{sumOf-flatMap, sumOf-map}
 use Rattle.refusals.specs.Outcome.{Outcome, accepted, _>>_, require}
 use Rattle.refusals.specs.Numbers.{unknownPart, badInput, inputOutside, overCapacity, placeNotPending, budgetTooLarge}

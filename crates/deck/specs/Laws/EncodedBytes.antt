@@ -2,12 +2,12 @@
 use Prim.Native.Nat.{ℕ, suc, _≤_, _<_}
 use mathlib.Core.Path.{_≡_}
 use mathlib.Core.Bool.{Bool, true, false, _&&_}
-use mathlib.Core.List.{List, [], _∷_, _++_}
+use mathlib.Core.List.{List, [], _∷_, _++_, flatMap}
 use native.Mathlib.Omega.{arith}
 use lib.Dec.{leb, ltb}
 use lib.ListN.{length}
 use borrow.Author.Tests.{leb-true, ltb-true, lt-ltb}
-use Rattle.lists.specs.Lists.{allOf, flatMap, distinct}
+use Rattle.lists.specs.Lists.{allOf, distinct}
 use Rattle.lists.specs.Laws.Booleans.{and-left, and-right}
 use Rattle.lists.specs.Laws.Alls.{allOf-weaken}
 use Rattle.expression.specs.Syntax.{Truth}

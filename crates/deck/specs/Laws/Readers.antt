@@ -2,11 +2,11 @@
 use Prim.Native.Nat.{ℕ, zero, suc, _<_}
 use mathlib.Core.Path.{_≡_, refl, sym, ap, _∙_}
 use mathlib.Core.Bool.{Bool, true, _&&_}
-use mathlib.Core.List.{List, [], _∷_, _++_, append-nil}
+use mathlib.Core.List.{List, [], _∷_, _++_, append-nil, flatMap}
 use native.Mathlib.Nat.{suc-inj, suc-ne-zero}
 use lib.Dec.{leb, ltb, lit<}
 use lib.ListN.{length, getD}
-use Rattle.lists.specs.Lists.{allOf, flatMap, lists}
+use Rattle.lists.specs.Lists.{allOf, lists}
 use Rattle.lists.specs.Laws.Booleans.{and-both, and-left, and-right}
 use Rattle.lists.specs.Laws.Alls.{allOf-every}
 use Rattle.lists.specs.Laws.FlatMaps.{flatMap-one}

@@ -2,12 +2,12 @@
 use Prim.Native.Nat.{ℕ, zero, suc, _<_}
 use mathlib.Core.Path.{_≡_, refl, sym, _∙_}
 use mathlib.Core.Bool.{Bool, true, false, _&&_}
-use mathlib.Core.List.{[], _∷_, _++_, append-nil, append-assoc}
+use mathlib.Core.List.{[], _∷_, _++_, append-nil, append-assoc, flatMap}
 use native.Mathlib.Omega.{arith}
 use lib.Dec.{leb, ltb, eqb}
 use lib.ListN.{length}
 use borrow.Author.Tests.{ltb-true, eqb-true, eq-eqb}
-use Rattle.lists.specs.Lists.{allOf, flatMap}
+use Rattle.lists.specs.Lists.{allOf}
 use Rattle.lists.specs.Laws.Booleans.{and-both, and-left, and-right, five, from-five}
 use Rattle.expression.specs.Encoding.{encodeValue, encodeTruth, fits, goodTruth}
 use Rattle.expression.specs.Laws.Whole.{whole-truth}

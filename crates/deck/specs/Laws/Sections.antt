@@ -2,11 +2,11 @@
 use Prim.Native.Nat.{ℕ, suc, _+_}
 use mathlib.Core.Path.{_≡_, refl, sym, _∙_}
 use mathlib.Core.Bool.{Bool, true, _&&_}
-use mathlib.Core.List.{List, [], _∷_, _++_, append-nil, append-assoc}
+use mathlib.Core.List.{List, [], _∷_, _++_, append-nil, append-assoc, flatMap}
 use native.Mathlib.Omega.{arith}
 use lib.Dec.{leb}
 use lib.ListN.{length}
-use Rattle.lists.specs.Lists.{allOf, flatMap, lists}
+use Rattle.lists.specs.Lists.{allOf, lists}
 use Rattle.lists.specs.Laws.Booleans.{and-both, and-left, and-right, five, from-five}
 use Rattle.lists.specs.Laws.Alls.{allOf-weaken}
 use Rattle.deck.specs.declared.Form.{Form}

@@ -3,13 +3,13 @@
 use Prim.Native.Nat.{ℕ, zero, suc, _+_, _*_, _<_, _≤_}
 use mathlib.Core.Path.{_≡_, refl, sym, ap, _∙_}
 use mathlib.Core.Bool.{Bool, true, false, not, _&&_}
-use mathlib.Core.List.{List, [], _∷_, _++_, append-assoc}
+use mathlib.Core.List.{List, [], _∷_, _++_, append-assoc, flatMap}
 use native.Mathlib.Omega.{arith}
 use native.Mathlib.Nat.{add-zero, zero-add, suc-add}
 use lib.Dec.{leb, ltb, eqb}
 use lib.ListN.{length, getD, drop, List·getD-append, List·getD-map}
 use borrow.Author.Tests.{ltb-true}
-use Rattle.lists.specs.Lists.{allOf, member, flatMap, lists}
+use Rattle.lists.specs.Lists.{allOf, member, lists}
 use Rattle.lists.specs.Bits.{maskOf, maskFrom}
 use Rattle.lists.specs.Laws.Booleans.{and-both, and-left, and-right}
 use Rattle.lists.specs.Laws.Alls.{allOf-cons, allOf-getD}

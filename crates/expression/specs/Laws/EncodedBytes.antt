@@ -2,12 +2,12 @@
 use Prim.Native.Nat.{ℕ, _%_, _/_, _≤_, _<_}
 use mathlib.Core.Path.{_≡_}
 use mathlib.Core.Bool.{Bool, true, false}
-use mathlib.Core.List.{List, [], _∷_, _++_}
+use mathlib.Core.List.{List, [], _∷_, _++_, flatMap}
 use native.Mathlib.Omega.{arith}
 use lib.Dec.{ltb}
 use lib.IntN.{ℤ}
 use borrow.Author.Tests.{ltb-true, lt-ltb}
-use Rattle.lists.specs.Lists.{allOf, flatMap}
+use Rattle.lists.specs.Lists.{allOf}
 use Rattle.lists.specs.Laws.Booleans.{and-left, and-right}
 use Rattle.lists.specs.Laws.Alls.{allOf-none, allOf-cons, allOf-append, allOf-weaken, allOf-flatMap}
 use Rattle.expression.specs.Syntax.{Num, literal, own, far, two, negation, Truth, constant, opposite, both, compared}

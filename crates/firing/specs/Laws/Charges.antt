@@ -4,12 +4,12 @@ use Prim.Native.Nat.{ℕ, _+_, _≤_, _<_}
 use mathlib.Core.Path.{_≡_, refl, sym, _∙_, ap, subst}
 use mathlib.Core.Logic.{⊎-elim}
 use mathlib.Core.Bool.{Bool, true, false, not, _&&_, cond}
-use mathlib.Core.List.{List, [], _∷_, _++_, map}
+use mathlib.Core.List.{List, [], _∷_, _++_, map, flatMap}
 use native.Mathlib.Omega.{arith}
 use native.Mathlib.Nat.{add-zero}
 use lib.IntN.{ℤ}
 use borrow.Author.Tests.{not-true}
-use Rattle.lists.specs.Lists.{lists, flatMap, sumOf, below, member, eqZ}
+use Rattle.lists.specs.Lists.{lists, sumOf, below, member, eqZ}
 use Rattle.lists.specs.Laws.Booleans.{true-or-false, contradiction}
 use Rattle.lists.specs.Laws.Filters.{select-member}
 use Rattle.lists.specs.Laws.Equalities.{eqZ-refl}

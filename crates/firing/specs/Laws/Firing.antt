@@ -2,12 +2,12 @@
 use Prim.Native.Nat.{ℕ, _<_}
 use mathlib.Core.Path.{_≡_, refl, _∙_, ap}
 use mathlib.Core.Bool.{Bool, true, not, _&&_, cond}
-use mathlib.Core.List.{List, [], _∷_, map, map-map}
+use mathlib.Core.List.{List, [], _∷_, map, map-map, flatMap}
 use lib.Dec.{ltb, leb}
 use lib.ListN.{length, length-map}
 use lib.IntN.{ℤ}
 use borrow.Author.Tests.{lt-ltb, le-leb}
-use Rattle.lists.specs.Lists.{lists, allOf, flatMap, distinct, member}
+use Rattle.lists.specs.Lists.{lists, allOf, distinct, member}
 use Rattle.lists.specs.Laws.Booleans.{and-both}
 use Rattle.lists.specs.Laws.Alls.{allOf-none, allOf-cons, allOf-append, allOf-cond, allOf-map, allOf-flatMap}
 use Rattle.lists.specs.Laws.Members.{allOf-member}

@@ -1,13 +1,13 @@
 -- The place of the update that an action makes, as a loop writes it, pair by pair. Assumes nothing.
 use Prim.Native.Nat.{ℕ, suc, _+_, _*_, _-_, _≤_, _<_}
 use mathlib.Core.Path.{_≡_, refl, sym, ap, ap₂, _∙_}
-use mathlib.Core.List.{List, [], _∷_, _++_, append-assoc, append-nil}
+use mathlib.Core.List.{List, [], _∷_, _++_, append-assoc, append-nil, flatMap}
 use native.Mathlib.Omega.{arith}
 use lib.ListN.{length, getD, set, replicate, length-append}
 use lib.Seq.{set-at, append-snoc}
 use lib.IntN.{ℤ, pos}
 use borrow.Author.Tests.{le-leb}
-use Rattle.lists.specs.Lists.{lists, flatMap}
+use Rattle.lists.specs.Lists.{lists}
 use Rattle.expression.specs.Reading.{wholeNum}
 use Rattle.expression.specs.Answers.{scope, numIn}
 use Rattle.deck.specs.Deck.{Assignment, Action}

@@ -15,7 +15,7 @@ use Rattle.pool_states.specs.Answer.{HoldsKnown}
 use Rattle.pool_states.specs.Laws.Places.{Place}
 use Rattle.pool_states.specs.Laws.PairsHeld.{known-low}
 use Rattle.pool_states.specs.Laws.Charges.{holds-part, holds-charge}
-use Rattle.passing.specs.Judged.{shape}
+use Rattle.deck.specs.Shape.{shape}
 use Rattle.firing.specs.Evaluated.{Assignable}
 use Rattle.firing_commits.specs.Laws.Looking.{looking-holds, looking-part, looking-low, looking-count, looking-pairs, looking-place}
 use Rattle.firing_commits.specs.Laws.Looking.{few-fits, looks}

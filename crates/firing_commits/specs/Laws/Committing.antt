@@ -27,7 +27,7 @@ use Rattle.pool_holes.specs.Laws.Spread.{emptied-length}
 use Rattle.pool_states.specs.Laws.Shape.{same-known, shape-charge}
 use Rattle.passing.specs.Check.{within}
 use Rattle.passing.specs.Tabled.{deckOf, Tabled}
-use Rattle.passing.specs.Judged.{shape}
+use Rattle.deck.specs.Shape.{shape}
 use Rattle.firing.specs.Firing.{fired, changed, enqueue, setAndFire, pick, without, committed}
 use Rattle.firing.specs.Evaluated.{Assignable}
 use Rattle.firing.specs.Laws.Commits.{Known, pick-known, commit-falls, commit-fine, without-charge}

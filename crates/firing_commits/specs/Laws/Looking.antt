@@ -30,7 +30,7 @@ use Rattle.pool_states.specs.Laws.PairsHeld.{held-part, known-part}
 use Rattle.firing.specs.Firing.{pick, without}
 use Rattle.firing.specs.Evaluated.{Assignable, Compared}
 use Rattle.firing.specs.Laws.Commits.{without-charge}
-use Rattle.passing.specs.Judged.{shape}
+use Rattle.deck.specs.Shape.{shape}
 use Rattle.firing_commits.specs.Commits.{At, Looking, Looks}
 use Rattle.firing_commits.specs.Laws.Applying.{held-few, held-assignable, held-long, held-update, held-back, held-undone}
 use Rattle.firing_commits.specs.Laws.Applying.{held-changes}

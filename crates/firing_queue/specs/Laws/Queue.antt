@@ -8,7 +8,7 @@ use Rattle.deck.specs.declared.Deck as Counted
 use Rattle.charge.specs.Memo.{Memo}
 use Rattle.pool.specs.Updates.{Update}
 use Rattle.pool_holes.specs.Slots.{holes}
-use Rattle.passing.specs.Judged.{shape}
+use Rattle.deck.specs.Shape.{shape}
 use Rattle.pool_index.specs.Index.{headsOf}
 use Rattle.firing_queue.specs.Queue.{Held, Room, SameSize, Grown, Offering, Offered}
 use Rattle.firing_queue.specs.declared.Queue.{Queue}

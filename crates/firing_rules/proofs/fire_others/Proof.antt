@@ -7,7 +7,7 @@ use native.Mathlib.Omega.{arith}
 use Rattle.deck.specs.Deck.{ruleAt}
 use Rattle.pool.specs.Updates.{Update}
 use Rattle.passing.specs.Tabled.{deckOf}
-use Rattle.passing.specs.Judged.{shape}
+use Rattle.deck.specs.Shape.{shape}
 use Rattle.firing_queue.specs.Queue.{heldOf, Offered}
 use Rattle.firing_queue.specs.Laws.Queue.{offering-next}
 use Rattle.firing_rules.specs.Reactions.{adds}

@@ -2,23 +2,22 @@
 use Prim.Native.Nat.{ℕ, zero, suc, _+_, _-_, _*_, _≤_, _<_, min}
 use mathlib.Core.Path.{_≡_, refl, sym, ap, ap₂, _∙_, subst}
 use mathlib.Core.Bool.{true, false, _&&_}
-use mathlib.Core.List.{List, [], _∷_, _++_, map}
+use mathlib.Core.List.{List, [], _∷_, _++_, map, flatMap}
 use native.Mathlib.Omega.{arith}
 use lib.ListN.{getD}
 use lib.IntN.{ℤ}
-use Rattle.lists.specs.Lists.{lists, select, flatMap, below, member}
+use Rattle.lists.specs.Lists.{lists, select, below, member}
 use Rattle.lists.specs.Bits.{bit, maskOf, NextIn}
 use Rattle.lists.specs.Laws.Same.{anyOf-same}
 use Rattle.lists.specs.Laws.Bits.{maskOf-bit, bit-zero}
 use Rattle.deck.specs.Deck.{Deck, Rule, M, ruleAt, partAt, carries, active}
-use Rattle.deck.specs.Shape.{bitsOf}
+use Rattle.deck.specs.Shape.{bitsOf, shape}
 use Rattle.deck.specs.Tables.{TablesOf, Ranged}
 use Rattle.deck.specs.declared.Deck as Counted
 use Rattle.deck.specs.Laws.Tables.{bits-of-mask}
 use Rattle.charge.specs.Charge.{others}
 use Rattle.charge.specs.Memo.{hearing, ActiveIs}
 use Rattle.pool.specs.Updates.{Update}
-use Rattle.passing.specs.Judged.{shape}
 use Rattle.firing.specs.Firing.{firedHere, firedThere, fired}
 use Rattle.firing_queue.specs.Queue.{Held, SameSize, Offering, Offered}
 use Rattle.firing_rules.specs.Reactions.{heard, ActiveSet, FiresAll, Fires}

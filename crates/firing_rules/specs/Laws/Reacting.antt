@@ -13,7 +13,7 @@ use Rattle.deck.specs.Deck.{Deck, R}
 use Rattle.deck.specs.declared.Deck as Counted
 use Rattle.pool.specs.Updates.{charge, valueAt}
 use Rattle.passing.specs.Tabled.{deckOf}
-use Rattle.passing.specs.Judged.{shape}
+use Rattle.deck.specs.Shape.{shape}
 use Rattle.firing.specs.Firing.{changed}
 use Rattle.firing.specs.Laws.Enqueue.{enqueue-none}
 use Rattle.pool_holes.specs.Slots.{Slot, standing, whole}

@@ -3,7 +3,7 @@
 use Prim.Native.Nat.{ℕ, _+_, _*_, _-_, _≤_, _<_}
 use mathlib.Core.Path.{_≡_, refl, sym, ap, ap₂, _∙_, subst}
 use mathlib.Core.Bool.{Bool, true, false, not, _&&_, cond, false≢true}
-use mathlib.Core.List.{List, [], _∷_, _++_, map}
+use mathlib.Core.List.{List, [], _∷_, _++_, map, flatMap}
 use native.Mathlib.Omega.{arith}
 use lib.Dec.{ltb}
 use lib.ListN.{length, getD, take, drop}
@@ -11,7 +11,7 @@ use lib.IntN.{ℤ}
 use mir.Syntax.{w64}
 use mir.Val.{Fits}
 use borrow.Author.Tests.{lt-ltb}
-use Rattle.lists.specs.Lists.{lists, allOf, flatMap, distinct, isEmpty}
+use Rattle.lists.specs.Lists.{lists, allOf, distinct, isEmpty}
 use Rattle.lists.specs.Laws.Booleans.{and-left, and-right, from-four, contradiction}
 use Rattle.expression.specs.Syntax.{Truth}
 use Rattle.expression.specs.Values.{truthValue}
@@ -37,7 +37,7 @@ use Rattle.pool_states.specs.Answer.{HoldsKnown}
 use Rattle.pool_states.specs.Laws.Shape.{same-holds}
 use Rattle.passing.specs.Stands.{Stands, HasTruth, TruthIs}
 use Rattle.passing.specs.Tabled.{deckOf, Tabled}
-use Rattle.passing.specs.Judged.{shape}
+use Rattle.deck.specs.Shape.{shape}
 use Rattle.passing.specs.Laws.Limits.{stretchOf, stretch-length, stretch-value}
 use Rattle.passing.specs.Laws.Stands.{stands}
 use Rattle.firing.specs.Firing.{evaluated, sent, holds, firedHere, firedThere}

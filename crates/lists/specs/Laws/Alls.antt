@@ -2,12 +2,12 @@
 use mathlib.Core.Path.{_≡_, refl, ap}
 use mathlib.Core.Logic.{_↔_}
 use mathlib.Core.Bool.{Bool, true, false, not, _&&_, cond}
-use mathlib.Core.List.{List, [], _∷_, _++_, map}
+use mathlib.Core.List.{List, [], _∷_, _++_, map, flatMap}
 use Prim.Native.Nat.{ℕ, zero, suc, _<_}
 use native.Mathlib.Nat.{not-suc-le-zero, le-of-suc-le-suc}
 use lib.ListN.{length, getD, take, drop, replicate}
 use borrow.Author.Tests.{not-true}
-use Rattle.lists.specs.Lists.{lists, allOf, anyOf, flatMap}
+use Rattle.lists.specs.Lists.{lists, allOf, anyOf}
 use Rattle.lists.specs.Laws.Booleans.{and-both, and-left, and-right, or-false-both, or-false-left, or-false-right}
 
 module _ {A : Type 0} (f : A → Bool) where

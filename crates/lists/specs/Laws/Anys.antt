@@ -2,10 +2,10 @@
 use Prim.Native.Nat.{ℕ}
 use mathlib.Core.Path.{_≡_, refl, sym, ap, ap₂, _∙_}
 use mathlib.Core.Bool.{Bool, true, false, _&&_, _||_, cond, or-assoc}
-use mathlib.Core.List.{List, [], _∷_, _++_, map}
+use mathlib.Core.List.{List, [], _∷_, _++_, map, flatMap}
 use lib.Dec.{eqb}
 use borrow.Author.Tests.{eqb-true, eqb-false}
-use Rattle.lists.specs.Lists.{lists, anyOf, keep, select, flatMap, member}
+use Rattle.lists.specs.Lists.{lists, anyOf, keep, select, member}
 use Rattle.lists.specs.Laws.Booleans.{not-true→false, contradiction}
 use Rattle.lists.specs.Laws.Members.{anyOf-found, anyOf-intro}
 

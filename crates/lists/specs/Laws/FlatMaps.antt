@@ -3,10 +3,10 @@ use Prim.Native.Nat.{ℕ, zero, suc, _+_, _≤_, _<_}
 use mathlib.Core.Path.{_≡_, refl, sym, ap, ap₂, _∙_}
 use mathlib.Core.Logic.{_↔_, ⊎-elim}
 use mathlib.Core.Bool.{Bool, true, false}
-use mathlib.Core.List.{List, [], _∷_, _++_, map, nil≢cons, head-eq-of-cons-eq, map-append, append-eq-nil-iff}
+use mathlib.Core.List.{List, [], _∷_, _++_, map, nil≢cons, head-eq-of-cons-eq, map-append, append-eq-nil-iff, flatMap}
 use native.Mathlib.Nat.{eq-or-lt-of-le}
 use native.Mathlib.Omega.{arith}
-use Rattle.lists.specs.Lists.{lists, keep, select, flatMap, from, below, member}
+use Rattle.lists.specs.Lists.{lists, keep, select, from, below, member}
 use Rattle.lists.specs.Laws.Members.{member-empty, member-head, member-tail, member-cases}
 
 filter-append : {A : Type 0} (f : A → Bool) (l m : List A) → select f (l ++ m) ≡ select f l ++ select f m

@@ -3,11 +3,11 @@ use Prim.Native.Nat.{ℕ, _+_, _≤_, max, zero-le}
 use mathlib.Core.Path.{_≡_, refl, sym, ap, ap₂, _∙_}
 use mathlib.Core.Logic.{_↔_, _⊎_, inl, inr, ⊎-elim}
 use mathlib.Core.Bool.{Bool, true, false}
-use mathlib.Core.List.{List, [], _∷_, _++_, map}
+use mathlib.Core.List.{List, [], _∷_, _++_, map, flatMap}
 use native.Mathlib.Nat.{add-le-add, zero-add, add-assoc}
 use native.Mathlib.Omega.{arith}
 use native.Mathlib.Decide.{decLe}
-use Rattle.lists.specs.Lists.{lists, keep, select, flatMap, sumOf, largest, member}
+use Rattle.lists.specs.Lists.{lists, keep, select, sumOf, largest, member}
 use Rattle.lists.specs.Laws.Booleans.{contradiction}
 use Rattle.lists.specs.Laws.Members.{member-empty, member-head, member-tail, member-cases}
 use Rattle.lists.specs.Laws.Lengths.{Implies, implies-tail}

@@ -2,11 +2,11 @@
 use Prim.Native.Nat.{ℕ, _<_}
 use mathlib.Core.Path.{_≡_, refl, sym, _∙_, ap, ap₂, fun-ext}
 use mathlib.Core.Bool.{Bool, true, false, not, _&&_, _||_, cond, and-false, or-false}
-use mathlib.Core.List.{List, [], _∷_, _++_, map}
+use mathlib.Core.List.{List, [], _∷_, _++_, map, flatMap}
 use lib.Dec.{eqb}
 use lib.IntN.{ℤ}
 use borrow.Author.Tests.{eq-eqb, ne-eqb, eqb-false, not-true}
-use Rattle.lists.specs.Lists.{lists, anyOf, select, flatMap, below, member, isEmpty, eqList}
+use Rattle.lists.specs.Lists.{lists, anyOf, select, below, member, isEmpty, eqList}
 use Rattle.lists.specs.Laws.Anys.{anyOf-append, anyOf-select, anyOf-cond, anyOf-or, anyOf-none, anyOf-map, anyOf-flatMap, anyOf-fails}
 use Rattle.lists.specs.Laws.Filters.{select-member}
 use Rattle.lists.specs.Laws.Below.{below-member}

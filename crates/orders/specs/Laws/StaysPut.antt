@@ -2,13 +2,13 @@
 use Prim.Native.Nat.{ℕ, zero, suc, _<_}
 use mathlib.Core.Path.{_≡_, refl, sym, _∙_, ap, subst}
 use mathlib.Core.Bool.{Bool, true, false}
-use mathlib.Core.List.{List, [], _∷_, _++_, map}
+use mathlib.Core.List.{List, [], _∷_, _++_, map, flatMap}
 use native.Mathlib.Omega.{arith}
 use lib.Dec.{leb, ltb, eqb}
 use lib.ListN.{length}
 use lib.IntN.{ℤ}
 use borrow.Author.Tests.{ltb-true, eqb-true, eqb-false}
-use Rattle.lists.specs.Lists.{lists, allOf, flatMap, member, isEmpty}
+use Rattle.lists.specs.Lists.{lists, allOf, member, isEmpty}
 use Rattle.lists.specs.Laws.Booleans.{or-left, or-right, not-true→false, contradiction}
 use Rattle.lists.specs.Laws.Alls.{allOf-none, allOf-cons, allOf-left, allOf-right, allOf-at, allOf-flatMap, flatMap-all}
 use Rattle.lists.specs.Laws.Members.{allOf-member}

@@ -43,7 +43,7 @@ use Rattle.charge.specs.Laws.Shape.{shape-bound}
 use Rattle.charge.specs.Laws.Tables.{memo-new, memo-long}
 use Rattle.passing.specs.Check.{within, openingValues, outside, passing}
 use Rattle.passing.specs.Tabled.{layoutOf, deckOf, Tabled, PartsKnown}
-use Rattle.passing.specs.Judged.{shape, RulesKnown, JudgesRules, ZeroRules, ZeroMemo, WholeKnown, Passed, Judges}
+use Rattle.passing.specs.Judged.{RulesKnown, JudgesRules, ZeroRules, ZeroMemo, WholeKnown, Passed, Judges}
 use Rattle.passing.specs.declared.Judged.{Judged}
 use Rattle.passing.specs.declared.Judged.the-variants.{Passing, Refused}
 use Rattle.passing.specs.Laws.CheckSteps.{firstOutside, above-bound, passing-6, passing-7, passing-8, passing-whole}

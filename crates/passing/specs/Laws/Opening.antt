@@ -1,7 +1,7 @@
 -- A table of zeros that is filled with the opening values part by part, and a row of them alone. Assumes nothing.
 use Prim.Native.Nat.{ℕ, zero, suc, _+_, _*_, _-_, _≤_, _<_}
 use mathlib.Core.Path.{_≡_, refl, sym, ap, ap₂, _∙_}
-use mathlib.Core.List.{List, [], _∷_, _++_, append-assoc, append-nil}
+use mathlib.Core.List.{List, [], _∷_, _++_, append-assoc, append-nil, flatMap}
 use native.Mathlib.Omega.{arith}
 use native.Mathlib.Numerals.{add-one}
 use lib.Dec.{eqb}
@@ -10,7 +10,7 @@ use lib.ListN.{drop-of-length-le}
 use lib.Seq.{take-suc, take-at, take-all, take-length, drop-at, split-at}
 use lib.IntN.{ℤ, pos}
 use borrow.Author.Tests.{eqb-true}
-use Rattle.lists.specs.Lists.{flatMap, lists}
+use Rattle.lists.specs.Lists.{lists}
 use Rattle.lists.specs.Laws.Alls.{allOf-at}
 use Rattle.deck.specs.Deck.{Deck, Part, R, N, partAt}
 use Rattle.deck.specs.Laws.Formed.{Formed}

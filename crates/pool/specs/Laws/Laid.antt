@@ -2,14 +2,14 @@
 use Prim.Native.Nat.{ℕ, _+_, _*_, _-_, _/_, _≤_}
 use mathlib.Core.Path.{_≡_, refl, sym, _∙_, ap}
 use mathlib.Core.Bool.{true}
-use mathlib.Core.List.{List, [], _∷_, _++_, map, append-assoc}
+use mathlib.Core.List.{List, [], _∷_, _++_, map, append-assoc, flatMap}
 use native.Mathlib.Omega.{arith}
 use lib.ListN.{length, take, drop, take-append-drop, replicate-append-replicate}
 use lib.ListN.{length-append, length-take, length-replicate}
 use lib.Seq.{take-at, drop-at}
 use lib.IntN.{ℤ, pos}
 use borrow.Author.Tests.{leb-true}
-use Rattle.lists.specs.Lists.{lists, allOf, flatMap}
+use Rattle.lists.specs.Lists.{lists, allOf}
 use Rattle.lists.specs.Laws.Alls.{allOf-left, allOf-take}
 use Rattle.deck.specs.Deck.{Deck}
 use Rattle.pool.specs.Updates.{Update}

@@ -3,13 +3,13 @@ use Prim.Native.Nat.{ℕ, suc, _+_, _*_, _-_, _≤_, _<_}
 use mathlib.Core.Path.{_≡_, refl, sym, ap, ap₂, subst, _∙_}
 use mathlib.Core.Logic.{_⊎_, ⊎-elim}
 use mathlib.Core.Bool.{true}
-use mathlib.Core.List.{List, [], _∷_, _++_, append-nil, append-assoc}
+use mathlib.Core.List.{List, [], _∷_, _++_, append-nil, append-assoc, flatMap}
 use native.Mathlib.Omega.{arith}
 use native.Mathlib.Numerals.{add-one}
 use lib.ListN.{length, getD, take, drop, take-append-drop, length-append, length-take, length-drop, List·getD-append}
 use lib.Seq.{take-at, drop-at, take-length, drop-drop, take-suc, getD-drop, take-paste, drop-paste, length-paste}
 use lib.IntN.{ℤ, pos}
-use Rattle.lists.specs.Lists.{lists, allOf, flatMap}
+use Rattle.lists.specs.Lists.{lists, allOf}
 use Rattle.lists.specs.Laws.Alls.{allOf-head, allOf-tail, allOf-drop, allOf-at}
 use Rattle.lists.specs.Laws.Booleans.{and-both}
 use Rattle.pool.specs.Updates.{Update}

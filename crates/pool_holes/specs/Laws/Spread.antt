@@ -3,13 +3,13 @@
 use Prim.Native.Nat.{ℕ, suc, _+_, _*_, _-_, _≤_, _<_}
 use mathlib.Core.Path.{_≡_, refl, sym, ap, ap₂, _∙_}
 use mathlib.Core.Bool.{Bool, true, false, not, _||_}
-use mathlib.Core.List.{List, [], _∷_, _++_, map, append-nil, append-assoc}
+use mathlib.Core.List.{List, [], _∷_, _++_, map, append-nil, append-assoc, flatMap}
 use native.Mathlib.Omega.{arith}
 use lib.ListN.{length, getD, take, drop, set, take-append-drop}
 use lib.ListN.{length-append, length-take, length-set}
 use lib.Seq.{take-at, drop-at, drop-drop, drop-cons, set-split}
 use lib.IntN.{ℤ, pos, natAbs}
-use Rattle.lists.specs.Lists.{lists, allOf, anyOf, flatMap, isEmpty, eqZ, eqList}
+use Rattle.lists.specs.Lists.{lists, allOf, anyOf, isEmpty, eqZ, eqList}
 use Rattle.lists.specs.Laws.Booleans.{and-both, and-left, and-right, not-true→false, contradiction}
 use Rattle.lists.specs.Laws.Equalities.{eqZ-true, eqList-true}
 use Rattle.lists.specs.Laws.Alls.{allOf-head, allOf-tail, allOf-cons, allOf-none, allOf-append, allOf-take, allOf-drop, allOf-at}

@@ -2,14 +2,14 @@
 use Prim.Native.Nat.{ℕ, zero, suc, _*_, _^_, _<_, _≤_}
 use mathlib.Core.Path.{_≡_, refl, sym, ap, ap₂, _∙_}
 use mathlib.Core.Bool.{Bool, true, false, not, _&&_, _||_, false≢true}
-use mathlib.Core.List.{List, [], _∷_, _++_}
+use mathlib.Core.List.{List, [], _∷_, _++_, flatMap}
 use native.Mathlib.Omega.{arith}
 use lib.Bits.{bitOr}
 use lib.Dec.{ltb, eqb}
 use lib.ListN.{length, take, drop}
 use lib.IntN.{ℤ, pos, negsuc, natAbs}
 use borrow.Author.Tests.{ltb-true, lt-ltb, eq-eqb, eqb-true, not-true}
-use Rattle.lists.specs.Lists.{lists, allOf, flatMap, distinct, member}
+use Rattle.lists.specs.Lists.{lists, allOf, distinct, member}
 use Rattle.lists.specs.Bits.{bit}
 use Rattle.lists.specs.Laws.Booleans.{and-both, and-left, and-right, or-false-both, or-false-left, or-right, contradiction, not-true→false}
 use Rattle.lists.specs.Laws.Alls.{allOf-head, allOf-tail, allOf-weaken}

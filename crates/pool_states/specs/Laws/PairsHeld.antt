@@ -2,13 +2,13 @@
 use Prim.Native.Nat.{ℕ, zero, suc, _*_, _-_, _<_, _≤_}
 use mathlib.Core.Path.{_≡_, refl, sym, ap, _∙_}
 use mathlib.Core.Bool.{true, not}
-use mathlib.Core.List.{List, [], _∷_, _++_, map}
+use mathlib.Core.List.{List, [], _∷_, _++_, map, flatMap}
 use native.Mathlib.Omega.{arith}
 use lib.Dec.{ltb}
 use lib.ListN.{length, getD, take, drop}
 use lib.IntN.{ℤ, pos, natAbs}
 use borrow.Author.Tests.{ltb-true, lt-ltb}
-use Rattle.lists.specs.Lists.{lists, allOf, flatMap, distinct, isEmpty}
+use Rattle.lists.specs.Lists.{lists, allOf, distinct, isEmpty}
 use Rattle.lists.specs.Laws.Booleans.{and-both, four}
 use Rattle.lists.specs.Laws.Alls.{allOf-head, allOf-tail, allOf-weaken}
 use Rattle.deck.specs.Deck.{Deck, R, N}
