@@ -204,7 +204,7 @@ pub fn known_charges(rules: &[u64], parts: &[u64], memo: &mut [u32], counts: Dec
     );
 }
 
-// The charge at part p of an update of the channels in the mask, up to 65,536.
+// The charge at part p of an update of the channels in the mask, up to 65,536. Often no rule listens to it.
 pub fn update_charge(
     rules: &[u64],
     parts: &[u64],
@@ -218,6 +218,9 @@ pub fn update_charge(
 {
     let count = counts.rules;
     let set = charge_listeners::active(rules, parts, counts, p, mask);
+    if set == 0 {
+        return 1;
+    }
     let mut total: u32 = 1;
     let mut left = set;
     let mut r = lists::lowest(left);

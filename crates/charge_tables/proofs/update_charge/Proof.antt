@@ -1,9 +1,11 @@
 -- `charge_tables::update_charge` meets its contract: the charges of the rules passed are added, up to the cap, and the memo is
 -- right. Assumes nothing.
-use Prim.Native.Nat.{_-_}
-use mathlib.Core.Path.{refl, sym, _∙_}
+use Prim.Native.Nat.{ℕ, _-_}
+use mathlib.Core.Path.{_≡_, refl, sym, ap, _∙_}
 use native.Mathlib.Nat.{lt-of-lt-of-le}
 use native.Mathlib.Omega.{arith}
+use Rattle.lists.specs.Bits.{bit, NextIn}
+use Rattle.lists.specs.Laws.Bits.{bit-zero}
 use Rattle.lists.specs.Laws.Through.{Through, through-next, through-here, through-all}
 use Rattle.lists.specs.Laws.Walks.{Walk, walk-first, walk-on, walk-next}
 use Rattle.deck.specs.Shape.{bitsOf, shape}
@@ -24,7 +26,7 @@ abbrev μ-loop : tie.MeasureT-loop
 
 -- back from the loop to the start, and within a turn to its call and its test
 abbrev start-of : tie.At-loop Inv-loop μ-loop → tie.Start Inv-loop μ-loop
-start-of c = c .before .before .before .before .before .before
+start-of c = c .before .before .before .before .before .before .before
 
 abbrev turn-of : tie.After-known-charges Inv-loop μ-loop → tie.In-loop Inv-loop μ-loop
 turn-of c = c .before .before
@@ -32,11 +34,36 @@ turn-of c = c .before .before
 abbrev call-of : tie.After-slice-known3 Inv-loop μ-loop → tie.After-known-charges Inv-loop μ-loop
 call-of c = c .before .before .before
 
+-- a set without numbers has none from 0 on
+none-in : {set : ℕ} → set ≡ 0 → NextIn set 0 64
+none-in e =
+    record {
+      most = omega arith;
+      on = λ l. omega arith;
+      found = λ l. absurd (omega arith);
+      passed = λ i l m. ap (λ s. bit s i) e ∙ bit-zero i;
+    }
+
+-- no rule listens to the update
+returns : tie.Need-returns Inv-loop μ-loop
+returns c =
+    let s = c .before .before .before .before .before in
+    let h = s .pre .0 .tables in
+    let set = c .before .active .ensures in
+    let n = none-in (c .if1 .taken) in
+    let f = heard (shape (s .args .rules .now) (s .args .parts .now) (s .args .counts)) (s .args .p) (bitsOf 32 (s .args .mask)) in
+    let t : Through (c .before .active .result) (s .args .counts .rules)
+    (Summing (shape (s .args .rules .now) (s .args .parts .now) (s .args .counts)) 1 f (s .args .memo .now) 1) 64
+    = through-next n (omega arith) (h .few-rules)
+    (λ i a b e w. skip w (heard-no h i b (s .args .mask) (s .args .p) (s .pre .1) (sym (set .each i b) ∙ e)))
+    (none-yet (record { value = refl; memo = s .pre .0 .memo })) in
+    same (through-all t (h .few-rules) .soFar) (update-all h (s .args .p) (s .pre .1) (bitsOf 32 (s .args .mask)))
+
 loop-holds : tie.Need-loop-holds Inv-loop μ-loop
 loop-holds c =
-    let s = c .before .before .before .before .before in
+    let s = c .before .before .before .before .before .before in
     let n = c .lowest .ensures in
-    let set = c .before .active .ensures in (
+    let set = c .before .before .active .ensures in (
       walk-first n,
       through-next n (omega arith) (s .pre .0 .tables .few-rules)
           (λ i a b f w. skip w (heard-no (s .pre .0 .tables) i b (s .args .mask) (s .args .p) (s .pre .1) (sym (set .each i b) ∙ f)))
@@ -49,7 +76,7 @@ known-charges-requires c κs =
     let s = start-of t in
     let i = t .loop in
     let k = c .before .loop-test .taken in
-    let y = sym (t .before .before .active .ensures .each (i .r) k) ∙ i .inv .1 .found (omega arith) in (
+    let y = sym (t .before .before .before .active .ensures .each (i .r) k) ∙ i .inv .1 .found (omega arith) in (
       record { tables = s .pre .0 .tables; memo = i .inv .1 .done .soFar .memo },
       k,
       hears-carried (s .pre .0 .tables) (i .r) k (s .args .mask) (s .args .p) (s .pre .1) y,
@@ -94,7 +121,7 @@ loop-again c =
     let h = s .pre .0 .tables in
     let i = t .loop in
     let k = turn-of g .loop-test .taken in
-    let set = t .before .before .active .ensures in
+    let set = t .before .before .before .active .ensures in
     let left = c .before .rest .ensures in
     let low = c .lowest2 .ensures in (
       walk-next (i .inv .0) left low,
@@ -110,8 +137,8 @@ loop-again c =
 same-length : tie.Need-same-length Inv-loop μ-loop
 same-length c = c .before .loop .inv .1 .done .soFar .memo .long ∙ sym (start-of (c .before) .pre .0 .memo .long)
 
-returns : tie.Need-returns Inv-loop μ-loop
-returns c =
+returns-2 : tie.Need-returns-2 Inv-loop μ-loop
+returns-2 c =
     let s = start-of (c .before) in
     same (through-all (c .before .loop .inv .1) (c .loop-test .left) .soFar)
     (update-all (s .pre .0 .tables) (s .args .p) (s .pre .1) (bitsOf 32 (s .args .mask)))
@@ -123,6 +150,7 @@ update-charge-spec =
     Inv-loop
     μ-loop
     (λ c κs. (c .before .before .before .pre .0 .tables, c .before .before .before .pre .1))
+    returns
     (λ c κs. tt)
     loop-holds
     known-charges-requires
@@ -137,4 +165,4 @@ update-charge-spec =
     loop-less
     loop-again
     same-length
-    returns)
+    returns-2)
