@@ -2,12 +2,13 @@
 ghost use mathlib.Core.List.{flatMap};
 ghost use mathlib.Core.Path.{_≡_};
 ghost use mathlib.Core.Bool.{true, not};
-ghost use Prim.Native.Nat.{_<_};
+ghost use Prim.Native.Nat.{ℕ, _<_};
 ghost use lib.ListN.{length};
 ghost use Rattle.lists.specs.Lists.{isEmpty};
 ghost use Rattle.deck.specs.Deck.{ruleAt};
 ghost use Rattle.deck.specs.Laws.Forms.{NoDefaults};
 ghost use Rattle.charge.specs.Charge.{others};
+ghost use Rattle.charge.specs.Memo.{ActiveIs};
 ghost use Rattle.passing.specs.Tabled.{deckOf, Tabled};
 ghost use Rattle.deck.specs.Shape.{shape};
 ghost use Rattle.firing_queue.specs.Queue.{heldOf, Offering, Offered};
@@ -264,14 +265,14 @@ fn fire_all(
     out
 }
 
-// The channels of a part that changed, as a set.
-pub struct Change {
-    pub part: usize,
-    pub channels: u64,
+// The rules that are active at a part, as a set.
+struct Firing {
+    part: usize,
+    set: u64,
 }
 
-// The firing that follows a change, reading the new values, with the pending updates that the pool holds.
-pub fn react(
+// The firing of these rules: its two halves, one behind the other.
+fn fire_set(
     deck: &[u8],
     counts: Deck,
     rules: &[u64],
@@ -281,19 +282,18 @@ pub fn react(
     pool: &mut [i32],
     queue: Queue,
     values: &[i32],
-    change: Change,
+    firing: Firing,
 ) -> Queue
     requires { ⌜ Reacting (now deck) counts (now rules) (now parts) (now memo) (heldOf (now index) (now pool)) queue
-        × (length (now values) ≡ 512) × (change .part < counts .parts) ⌝ }
-    ensures { λ r. ⌜ Reacts (deckOf (now (deck .entry))) (shape (now (rules .entry)) (now (parts .entry)) counts) (now (values .entry))
-        (change .part) (change .channels) (heldOf (now (index .entry)) (now (pool .entry))) queue (now (memo .exit))
-        (heldOf (now (index .exit)) (now (pool .exit))) r ⌝ }
+        × (length (now values) ≡ 512) × (firing .part < counts .parts) ⌝ }
+    ensures { λ r. ⌜ ((mask : ℕ)
+        → ActiveIs (now (rules .entry)) (now (parts .entry)) (counts .rules) (firing .part) mask (firing .set)
+        → Reacts (deckOf (now (deck .entry))) (shape (now (rules .entry)) (now (parts .entry)) counts) (now (values .entry))
+        (firing .part) mask (heldOf (now (index .entry)) (now (pool .entry))) queue (now (memo .exit))
+        (heldOf (now (index .exit)) (now (pool .exit))) r) ⌝ }
 {
-    let part = change.part;
-    let set = charge_listeners::active(rules, parts, counts, part, change.channels);
-    if set == 0 {
-        return queue;
-    }
+    let part = firing.part;
+    let set = firing.set;
     let mut others = false;
     let first = fire_all(
         deck,
@@ -319,5 +319,50 @@ pub fn react(
         first,
         values,
         Half { part, set, others },
+    )
+}
+
+// The channels of a part that changed, as a set.
+pub struct Change {
+    pub part: usize,
+    pub channels: u64,
+}
+
+// The firing that follows a change, reading the new values, with the pending updates that the pool holds. Often no rule is active: that is
+// found in a function that is small enough to be put into its callers.
+pub fn react(
+    deck: &[u8],
+    counts: Deck,
+    rules: &[u64],
+    parts: &[u64],
+    memo: &mut [u32],
+    index: &mut [u16],
+    pool: &mut [i32],
+    queue: Queue,
+    values: &[i32],
+    change: Change,
+) -> Queue
+    requires { ⌜ Reacting (now deck) counts (now rules) (now parts) (now memo) (heldOf (now index) (now pool)) queue
+        × (length (now values) ≡ 512) × (change .part < counts .parts) ⌝ }
+    ensures { λ r. ⌜ Reacts (deckOf (now (deck .entry))) (shape (now (rules .entry)) (now (parts .entry)) counts) (now (values .entry))
+        (change .part) (change .channels) (heldOf (now (index .entry)) (now (pool .entry))) queue (now (memo .exit))
+        (heldOf (now (index .exit)) (now (pool .exit))) r ⌝ }
+{
+    let part = change.part;
+    let set = charge_listeners::active(rules, parts, counts, part, change.channels);
+    if set == 0 {
+        return queue;
+    }
+    fire_set(
+        deck,
+        counts,
+        rules,
+        parts,
+        memo,
+        index,
+        pool,
+        queue,
+        values,
+        Firing { part, set },
     )
 }

@@ -1,4 +1,4 @@
--- `firing_rules::react` meets its contract: the two halves, one behind the other. Assumes nothing.
+-- `firing_rules::react` meets its contract: nothing where no rule is active, and else the firing of the active ones. Assumes nothing.
 use mathlib.Core.Path.{subst}
 use mathlib.Core.Bool.{true, false}
 use borrow.Author.Needs.{needs}
@@ -13,10 +13,6 @@ use Rattle.firing_rules.proofs.react.Tie as tie
 
 abbrev start-of : tie.After-active → tie.Start
 start-of c = c .before .before .before .before .before .before
-
--- behind the first half
-abbrev active-of : tie.After-fire-all → tie.After-active
-active-of c = c .before .before .before .before .before
 
 -- the set, by the deck's own number of rules
 found : (c : tie.After-active)
@@ -43,16 +39,9 @@ returns c =
 
 returns-2 : tie.Need-returns-2
 returns-2 c =
-    let o = c .before .before .before .before .before in
-    let w = o .before .before .before .before in
-    let f = w .before .before .before .before .before in
-    let e = active-of f in
-    let s = start-of e in
-    let a = s .args in
-    let p = a .change .part in
-    reacted (a .deck .now) (a .counts) (a .rules .now) (a .parts .now) (s .pre .0) (a .values .now) p (a .change .channels)
-    (both-halves (s .pre .0 .tabled .sets) (s .pre .0 .tabled .ranged) (a .values .now) p (a .change .channels) _ (found e)
-    (f .fire-all .ensures .0) (o .fire-all2 .ensures .0))
+    let f = c .before .before .before .before .before in
+    let e = f .before .before .before .before .before in
+    f .fire-set .ensures (start-of e .args .change .channels) (e .active .ensures)
 
 pub react-spec : {M : Type 1} → statement M
 react-spec =
@@ -60,14 +49,7 @@ react-spec =
     (tie.spec
     (λ c κs. let s = c .before .before .before .before .before in (s .pre .0 .ready .tables, s .pre .2))
     returns
-    (λ c κs.
-    let s = start-of (c .before .before .before .before) in
-    (s .pre .0 .tabled, offering-first (s .pre .0), s .pre .1, s .pre .2, s .pre .0 .none))
-    (λ c κs.
-    let w = c .before .before .before in
-    let f = w .before .before .before .before .before in
-    let s = start-of (active-of f) in
-    (s .pre .0 .tabled, f .fire-all .ensures .1, s .pre .1, s .pre .2, s .pre .0 .none))
+    (λ c κs. let s = start-of (c .before .before .before .before) in (s .pre .0, s .pre .1, s .pre .2))
     (λ c. search needs)
     (λ c. search needs)
     (λ c. search needs)
