@@ -6,8 +6,8 @@ ghost use Rattle.calls.specs.Requests.{outcomeTo};
 ghost use Rattle.calls.specs.declared.Request.the-variants as Asked;
 ghost use Rattle.calls_tests.specs.Tested.{TestsPassed};
 use calls::Response;
-use calls_turns::Answered;
-use calls_turns::Found;
+use calls_turns::AfterCall;
+use calls_turns::TestsFound;
 use deck::Deck;
 
 // The commits that a commit makes.
@@ -16,7 +16,7 @@ const ONE: u32 = 1;
 // The commit of a place, if it is pending (14).
 pub fn commit_tested(
     deck: &[u8],
-    found: Found,
+    found: TestsFound,
     rules: &[u64],
     parts: &[u64],
     memo: &mut [u32],
@@ -24,7 +24,7 @@ pub fn commit_tested(
     pool: &mut [i32],
     values: &mut [i32; Deck::VALUES],
     place: u32,
-) -> Answered
+) -> AfterCall
     requires { ⌜ TestsPassed (now deck) (now rules) (now parts) (now memo) (now index)
         (memoryAt (now values) (found .pending) (now pool)) (found .counts) (found .charge) ⌝ }
     ensures { λ r. ⌜ replyAt (outcomeTo (Asked.Commit place) (r .response)) (now (values .exit)) (r .pending) (now (pool .exit))
@@ -33,7 +33,7 @@ pub fn commit_tested(
     let k = place as usize;
     let n = found.pending as usize;
     if !firing_commits::may_take(n, k) {
-        return Answered {
+        return AfterCall {
             response: Response::Refused {
                 number: refusals::PLACE_NOT_PENDING,
                 place: 0,
@@ -53,7 +53,7 @@ pub fn commit_tested(
         k,
         ONE,
     );
-    Answered {
+    AfterCall {
         response: Response::Done {
             flag: turn.applied,
             number: turn.charge,

@@ -15,8 +15,8 @@ ghost use Rattle.calls.specs.declared.Response.the-variants as Told;
 ghost use Rattle.calls_tests.specs.Tested.{TestsPassed};
 ghost use Rattle.calls_input.specs.Entered.{GoodInput};
 use calls::Response;
-use calls_turns::Answered;
-use calls_turns::Found;
+use calls_turns::AfterCall;
+use calls_turns::TestsFound;
 use deck::Deck;
 use firing_queue::Queue;
 use firing_rules::Change;
@@ -54,10 +54,10 @@ fn good_input(pairs: &[i32], channels: usize) -> bool
 }
 
 // A refusal leaves as many updates pending as were.
-fn refused(found: Found, number: u32) -> Answered
+fn refused(found: TestsFound, number: u32) -> AfterCall
     ensures { λ r. ⌜ (r .response ≡ Told.Refused number 0) × (r .pending ≡ found .pending) ⌝ }
 {
-    Answered {
+    AfterCall {
         response: Response::Refused {
             number: number,
             place: 0,
@@ -67,10 +67,10 @@ fn refused(found: Found, number: u32) -> Answered
 }
 
 // An input that is taken: the updates pending then, and the charge that it added.
-fn entered(pending: u32, added: u32) -> Answered
+fn entered(pending: u32, added: u32) -> AfterCall
     ensures { λ r. ⌜ (r .response ≡ Told.Done true added) × (r .pending ≡ pending) ⌝ }
 {
-    Answered {
+    AfterCall {
         response: Response::Done {
             flag: true,
             number: added,
@@ -92,7 +92,7 @@ fn take_back(pool: &mut [i32], pending: usize)
 // they are stored unless that is too much (17, 13).
 fn enter(
     deck: &[u8],
-    found: Found,
+    found: TestsFound,
     rules: &[u64],
     parts: &[u64],
     memo: &mut [u32],
@@ -101,7 +101,7 @@ fn enter(
     values: &mut [i32; Deck::VALUES],
     part: usize,
     pairs: &[i32],
-) -> Answered
+) -> AfterCall
     requires { ⌜ TestsPassed (now deck) (now rules) (now parts) (now memo) (now index)
         (memoryAt (now values) (found .pending) (now pool)) (found .counts) (found .charge)
         × (part < found .counts .parts) × (goodInput (deckOf (now deck)) (now pairs) ≡ true) ⌝ }
@@ -148,7 +148,7 @@ fn enter(
 // The input to a part, if the part is known and the input list is good (11, 12).
 pub fn input_tested(
     deck: &[u8],
-    found: Found,
+    found: TestsFound,
     rules: &[u64],
     parts: &[u64],
     memo: &mut [u32],
@@ -157,7 +157,7 @@ pub fn input_tested(
     values: &mut [i32; Deck::VALUES],
     part: u32,
     pairs: &[i32],
-) -> Answered
+) -> AfterCall
     requires { ⌜ TestsPassed (now deck) (now rules) (now parts) (now memo) (now index)
         (memoryAt (now values) (found .pending) (now pool)) (found .counts) (found .charge) ⌝ }
     ensures { λ r. ⌜ replyAt (outcomeTo (Asked.Input part) (r .response)) (now (values .exit)) (r .pending) (now (pool .exit))

@@ -11,14 +11,14 @@ ghost use Rattle.passing.specs.Judged.{ZeroRules, ZeroMemo};
 use calls::Request;
 use calls::Response;
 use calls_tests::Tested;
-use calls_turns::Answered;
-use calls_turns::Found;
+use calls_turns::AfterCall;
+use calls_turns::TestsFound;
 use deck::Deck;
 
 // What is asked for, on what was tested.
 fn call_tested(
     deck: &[u8],
-    found: Found,
+    found: TestsFound,
     rules: &[u64],
     parts: &[u64],
     memo: &mut [u32],
@@ -27,7 +27,7 @@ fn call_tested(
     values: &mut [i32; Deck::VALUES],
     request: Request,
     pairs: &[i32],
-) -> Answered
+) -> AfterCall
     requires { ⌜ TestsPassed (now deck) (now rules) (now parts) (now memo) (now index)
         (memoryAt (now values) (found .pending) (now pool)) (found .counts) (found .charge) ⌝ }
     ensures { λ r. ⌜ replyAt (outcomeTo request (r .response)) (now (values .exit)) (r .pending) (now (pool .exit))
@@ -103,7 +103,7 @@ fn call_on(
     match tested {
         Tested::Refused { number, place } => Response::Refused { number, place },
         Tested::Ready { counts, charge } => {
-            let found = Found {
+            let found = TestsFound {
                 counts,
                 pending: *pending,
                 charge,

@@ -6,8 +6,8 @@ ghost use Rattle.calls.specs.Requests.{outcomeTo};
 ghost use Rattle.calls.specs.declared.Request.the-variants as Asked;
 ghost use Rattle.calls_tests.specs.Tested.{TestsPassed};
 use calls::Response;
-use calls_turns::Answered;
-use calls_turns::Found;
+use calls_turns::AfterCall;
+use calls_turns::TestsFound;
 use deck::Deck;
 
 const LARGEST_BUDGET: u32 = Deck::CHARGE as u32;
@@ -15,7 +15,7 @@ const LARGEST_BUDGET: u32 = Deck::CHARGE as u32;
 // The settle within a budget of at most 65,535 (16): place 0 is committed until none is pending or the budget is used.
 pub fn settle_tested(
     deck: &[u8],
-    found: Found,
+    found: TestsFound,
     rules: &[u64],
     parts: &[u64],
     memo: &mut [u32],
@@ -23,14 +23,14 @@ pub fn settle_tested(
     pool: &mut [i32],
     values: &mut [i32; Deck::VALUES],
     budget: u32,
-) -> Answered
+) -> AfterCall
     requires { ⌜ TestsPassed (now deck) (now rules) (now parts) (now memo) (now index)
         (memoryAt (now values) (found .pending) (now pool)) (found .counts) (found .charge) ⌝ }
     ensures { λ r. ⌜ replyAt (outcomeTo (Asked.Settle budget) (r .response)) (now (values .exit)) (r .pending) (now (pool .exit))
         ≡ Calls.settle (now (deck .entry)) (memoryAt (now (values .entry)) (found .pending) (now (pool .entry))) budget ⌝ }
 {
     if budget > LARGEST_BUDGET {
-        return Answered {
+        return AfterCall {
             response: Response::Refused {
                 number: refusals::BUDGET_TOO_LARGE,
                 place: 0,
@@ -50,7 +50,7 @@ pub fn settle_tested(
         firing_commits::next_place(),
         budget,
     );
-    Answered {
+    AfterCall {
         response: Response::Done {
             flag: turns.pending == 0,
             number: turns.made,

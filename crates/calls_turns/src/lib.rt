@@ -8,14 +8,14 @@ use deck::Deck;
 use firing_queue::Queue;
 
 // What the tests of a call found: the counts of the deck, the updates pending and their charge.
-pub struct Found {
+pub struct TestsFound {
     pub counts: Deck,
     pub pending: u32,
     pub charge: u32,
 }
 
 // What a call answers behind the tests, and the updates pending then.
-pub struct Answered {
+pub struct AfterCall {
     pub response: Response,
     pub pending: u32,
 }
@@ -32,7 +32,7 @@ pub struct Turns {
 // again. The places that were taken out follow one another from `first` on.
 pub fn take_turns(
     deck: &[u8],
-    found: Found,
+    found: TestsFound,
     rules: &[u64],
     parts: &[u64],
     memo: &mut [u32],

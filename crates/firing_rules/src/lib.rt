@@ -17,7 +17,7 @@ use deck::Deck;
 use firing_queue::Queue;
 
 // A rule at part `from` whose action goes to part `to`.
-struct Task {
+struct Sending {
     rule: usize,
     from: usize,
     to: usize,
@@ -25,7 +25,7 @@ struct Task {
 
 // Whether the rule adds an update there: its action is not empty and its condition is true. A rule of kind 0 reads no far channels,
 // one of kind 1 as many as there are.
-fn sends(deck: &[u8], counts: Deck, rules: &[u64], values: &[i32], task: Task) -> bool
+fn sends(deck: &[u8], counts: Deck, rules: &[u64], values: &[i32], task: Sending) -> bool
     requires { ⌜ Tasked (now deck) counts (now rules) (now values) (task .from) (task .to) (task .rule) ⌝ }
     ensures { λ b. ⌜ b ≡ not (isEmpty (adds (now (values .entry)) (task .from) (task .to)
         (ruleAt (deckOf (now (deck .entry))) (task .rule)))) ⌝ }
@@ -45,7 +45,13 @@ fn sends(deck: &[u8], counts: Deck, rules: &[u64], values: &[i32], task: Task) -
 }
 
 // The update that it adds there.
-fn made(deck: &[u8], counts: Deck, rules: &[u64], values: &[i32], task: Task) -> [i32; Deck::PLACE]
+fn made(
+    deck: &[u8],
+    counts: Deck,
+    rules: &[u64],
+    values: &[i32],
+    task: Sending,
+) -> [i32; Deck::PLACE]
     requires { ⌜ Tasked (now deck) counts (now rules) (now values) (task .from) (task .to) (task .rule)
         × (not (isEmpty (adds (now values) (task .from) (task .to) (ruleAt (deckOf (now deck)) (task .rule)))) ≡ true) ⌝ }
     ensures { λ row. ⌜ Made (deckOf (now (deck .entry))) (now (values .entry)) (task .from) (task .to)
@@ -76,7 +82,7 @@ fn fire_to(
     pool: &mut [i32],
     queue: Queue,
     values: &[i32],
-    task: Task,
+    task: Sending,
 ) -> Queue
     requires { ⌜ Tabled (now deck) counts (now rules) (now parts)
         × Offering (now rules) (now parts) counts (now memo) (heldOf (now index) (now pool)) queue
@@ -93,7 +99,7 @@ fn fire_to(
 }
 
 // A rule's turn at a part: in the first half of the firing it adds to the part itself, in the second half to the others.
-struct Turn {
+struct RuleTurn {
     rule: usize,
     part: usize,
     others: bool,
@@ -110,7 +116,7 @@ fn fire_others(
     pool: &mut [i32],
     queue: Queue,
     values: &[i32],
-    turn: Turn,
+    turn: RuleTurn,
 ) -> Queue
     requires { ⌜ Tabled (now deck) counts (now rules) (now parts)
         × Offering (now rules) (now parts) counts (now memo) (heldOf (now index) (now pool)) queue
@@ -127,7 +133,7 @@ fn fire_others(
     let mut to: usize = 0;
     while to < n {
         if to != from {
-            let task = Task { rule, from, to };
+            let task = Sending { rule, from, to };
             out = fire_to(
                 deck,
                 counts,
@@ -158,7 +164,7 @@ fn fire_rule(
     pool: &mut [i32],
     queue: Queue,
     values: &[i32],
-    turn: Turn,
+    turn: RuleTurn,
 ) -> Queue
     requires { ⌜ Tabled (now deck) counts (now rules) (now parts)
         × Offering (now rules) (now parts) counts (now memo) (heldOf (now index) (now pool)) queue
@@ -190,7 +196,7 @@ fn fire_rule(
     if turn.others {
         return queue;
     }
-    let task = Task {
+    let task = Sending {
         rule,
         from,
         to: from,
@@ -210,7 +216,7 @@ fn fire_rule(
 }
 
 // The rules that have a turn at a part, in one half of the firing.
-struct Half {
+struct FiringHalf {
     part: usize,
     set: u64,
     others: bool,
@@ -227,7 +233,7 @@ fn fire_all(
     pool: &mut [i32],
     queue: Queue,
     values: &[i32],
-    half: Half,
+    half: FiringHalf,
 ) -> Queue
     requires { ⌜ Tabled (now deck) counts (now rules) (now parts)
         × Offering (now rules) (now parts) counts (now memo) (heldOf (now index) (now pool)) queue
@@ -246,7 +252,7 @@ fn fire_all(
     let mut left = half.set;
     let mut rule = lists::lowest(left);
     while rule < n {
-        let turn = Turn { rule, part, others };
+        let turn = RuleTurn { rule, part, others };
         out = fire_rule(
             deck,
             counts,
@@ -305,7 +311,7 @@ fn fire_set(
         pool,
         queue,
         values,
-        Half { part, set, others },
+        FiringHalf { part, set, others },
     );
     others = true;
     fire_all(
@@ -318,7 +324,7 @@ fn fire_set(
         pool,
         first,
         values,
-        Half { part, set, others },
+        FiringHalf { part, set, others },
     )
 }
 

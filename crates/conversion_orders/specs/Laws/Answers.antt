@@ -22,7 +22,7 @@ use Rattle.deck.specs.Laws.Prefix.{encode-length}
 use Rattle.deck.specs.Laws.Faults.{OfReading, read-fault}
 use Rattle.passing.specs.Check.{passing}
 use Rattle.passing.specs.Laws.Passes.{passes-exactly}
-use Rattle.passing.specs.Laws.Passing.{laterTests, Finds, clean, found-6, found-7, found-8, later-find, passing-reads, passing-judges}
+use Rattle.passing.specs.Laws.Passing.{laterTests, TestsFind, clean, found-6, found-7, found-8, later-find, passing-reads, passing-judges}
 use Rattle.conversion.specs.Converted.{converted}
 use Rattle.conversion.specs.Conversion.{conversion, reply, convert}
 use Rattle.conversion.specs.Laws.Formed.{converted-formed, converted-suits}
@@ -68,7 +68,7 @@ of-reading n (inr (inr (inr e))) = omega arith
 pub old-check-numbers : (bytes : List ℕ) (n p : ℕ) → passing Old bytes ≡ refused n p → n ≤ wrongEnd
 old-check-numbers bytes n p h = go (read Old bytes) refl
   where
-    behind : (l : Layout) → laterTests l ≡ refused n p → (o : Outcome Layout) → o ≡ laterTests l → Finds l o → n ≤ wrongEnd
+    behind : (l : Layout) → laterTests l ≡ refused n p → (o : Outcome Layout) → o ≡ laterTests l → TestsFind l o → n ≤ wrongEnd
     behind l e o i (clean a b c d) = refused≢accepted (sym e ∙ sym i ∙ d)
     behind l e o i (found-6 q qs a d) = omega (arith, number-inj (sym e ∙ sym i ∙ d))
     behind l e o i (found-7 q qs a b d) = omega (arith, number-inj (sym e ∙ sym i ∙ d))

@@ -24,27 +24,27 @@ laterTests l =
     >> (requireNone (cyclic (l .deck)) cyclicGraph >> (requireNone (aboveBound (carriedCharges (l .deck))) overcharged >> accepted l))
 
 -- what they come to: nothing is found, or the first place that the first of them finds
-pub data Finds (l : Layout) (o : Outcome Layout) : Type 0 where
-  clean : outside (l .deck) ≡ [] → cyclic (l .deck) ≡ [] → aboveBound (carriedCharges (l .deck)) ≡ [] → o ≡ accepted l → Finds l o
-  found-6 : (p : ℕ) (ps : List ℕ) → outside (l .deck) ≡ p ∷ ps → o ≡ refused opensOutside p → Finds l o
-  found-7 : (p : ℕ) (ps : List ℕ) → outside (l .deck) ≡ [] → cyclic (l .deck) ≡ p ∷ ps → o ≡ refused cyclicGraph p → Finds l o
+pub data TestsFind (l : Layout) (o : Outcome Layout) : Type 0 where
+  clean : outside (l .deck) ≡ [] → cyclic (l .deck) ≡ [] → aboveBound (carriedCharges (l .deck)) ≡ [] → o ≡ accepted l → TestsFind l o
+  found-6 : (p : ℕ) (ps : List ℕ) → outside (l .deck) ≡ p ∷ ps → o ≡ refused opensOutside p → TestsFind l o
+  found-7 : (p : ℕ) (ps : List ℕ) → outside (l .deck) ≡ [] → cyclic (l .deck) ≡ p ∷ ps → o ≡ refused cyclicGraph p → TestsFind l o
   found-8 : (p : ℕ) (ps : List ℕ) → outside (l .deck) ≡ [] → cyclic (l .deck) ≡ [] → aboveBound (carriedCharges (l .deck)) ≡ p ∷ ps
-      → o ≡ refused overcharged p → Finds l o
+      → o ≡ refused overcharged p → TestsFind l o
 
-pub later-find : (l : Layout) → Finds l (laterTests l)
+pub later-find : (l : Layout) → TestsFind l (laterTests l)
 unfolding laterTests outcomes
 later-find l = six (outside (l .deck)) refl
   where
     eight : outside (l .deck) ≡ [] → cyclic (l .deck) ≡ [] → (c : List ℕ) → aboveBound (carriedCharges (l .deck)) ≡ c
-        → Finds l (laterTests l)
+        → TestsFind l (laterTests l)
     eight e f [] g = clean e f g (rw (e, f, g))
     eight e f (p ∷ ps) g = found-8 p ps e f g (rw (e, f, g))
 
-    seven : outside (l .deck) ≡ [] → (b : List ℕ) → cyclic (l .deck) ≡ b → Finds l (laterTests l)
+    seven : outside (l .deck) ≡ [] → (b : List ℕ) → cyclic (l .deck) ≡ b → TestsFind l (laterTests l)
     seven e [] f = eight e f (aboveBound (carriedCharges (l .deck))) refl
     seven e (p ∷ ps) f = found-7 p ps e f (rw (e, f))
 
-    six : (a : List ℕ) → outside (l .deck) ≡ a → Finds l (laterTests l)
+    six : (a : List ℕ) → outside (l .deck) ≡ a → TestsFind l (laterTests l)
     six [] e = seven e (cyclic (l .deck)) refl
     six (p ∷ ps) e = found-6 p ps e (rw e)
 
@@ -77,7 +77,7 @@ module _ (f : Form) (bytes : List ℕ) where
       Clean k =
           (read f bytes ≡ accepted k) × (outside (k .deck) ≡ []) × (cyclic (k .deck) ≡ []) × (aboveBound (carriedCharges (k .deck)) ≡ [])
 
-      by : (k : Layout) → read f bytes ≡ accepted k → laterTests k ≡ accepted l → Finds k (laterTests k) → Clean l
+      by : (k : Layout) → read f bytes ≡ accepted k → laterTests k ≡ accepted l → TestsFind k (laterTests k) → Clean l
       by k r q (clean a b c h) = subst Clean (accepted-inj (sym h ∙ q)) (r, a, b, c)
       by k r q (found-6 p ps a f) = refused≢accepted (sym f ∙ q)
       by k r q (found-7 p ps a b f) = refused≢accepted (sym f ∙ q)

@@ -23,7 +23,7 @@ use Rattle.graph.specs.Laws.Targets.{known-targets}
 use Rattle.charge.specs.Charge.{carriedCharges, aboveBound}
 use Rattle.charge.specs.Laws.Bound.{FirstAbove, first-above}
 use Rattle.passing.specs.Check.{within, openingValues, outside, passing}
-use Rattle.passing.specs.Laws.Passing.{laterTests, Finds, clean, found-6, found-7, found-8, later-find, passing-judges}
+use Rattle.passing.specs.Laws.Passing.{laterTests, TestsFind, clean, found-6, found-7, found-8, later-find, passing-judges}
 use Rattle.passing.specs.Laws.Passes.{Passes, none-outside, passes-exactly}
 
 -- every part opens within its limit
@@ -120,7 +120,7 @@ module _ (d : Deck) where
 -- bytes that were read
 module _ (f : Form) (bytes : List ℕ) (b : Bytes bytes) (l : Layout) (e : read f bytes ≡ accepted l) where
   -- what the tests come to, in the document's words
-  found : Finds l (laterTests l) → Passes f bytes l ⊎ ((n : ℕ) × (p : ℕ) × (laterTests l ≡ refused n p) × RefusedFor (l .deck) n p)
+  found : TestsFind l (laterTests l) → Passes f bytes l ⊎ ((n : ℕ) × (p : ℕ) × (laterTests l ≡ refused n p) × RefusedFor (l .deck) n p)
   found (clean _ _ _ q) = inl (passes-exactly f bytes b l .0 (passing-judges f bytes l e ∙ q))
   found (found-6 p ps x q) = inr (opensOutside, p, q, for-6 refl (first-outside (l .deck) p ps x))
   found (found-7 p ps x y q) =
