@@ -7,8 +7,7 @@
  *
  * Number  Refusal                                                             Place, answer[0]
  *      1  the deck ends inside a field or expression                          the deck's length
- *      2  a count, label, kind, length, or channel or rule number is out      offset of the byte
- *         of range, or a list does not rise
+ *      2  a number of the deck is out of its range, or a list does not rise   offset of the byte
  *      3  an expression has an unknown operator or channel                    offset of its byte
  *      4  a target stands twice in an action                                  offset of the second
  *      5  bytes follow the last section                                       offset of the first
@@ -31,6 +30,9 @@
  *     20  a default action is not empty                                       offset of its count
  *     21  the conversion would have more than 64 rules                        0
  *     22  the buffer is shorter than the new deck                             0
+ *
+ * The numbers have names, REACTION_DECK_ENDS to REACTION_BUFFER_TOO_SHORT below; reaction_text.h has the words of this table as
+ * texts. The numbers of 2 are counts, labels, kinds, lengths, channel numbers and rule numbers.
  *
  * Where several hold, one of 1, 2, 3, 4, 18, 19 and 20 goes before all others, the first in reading order; the rest go by rising
  * number, but 17 comes after 12 and before 13. An expression is judged when all bytes that its length counts are there: a deck
@@ -57,6 +59,12 @@
 #include <stddef.h>
 #include <stdint.h>
 
+/* The version of the headers, and of the crate and the package beside them. */
+#define REACTION_VERSION_MAJOR 0
+#define REACTION_VERSION_MINOR 1
+#define REACTION_VERSION_PATCH 0
+#define REACTION_VERSION "0.1.0"
+
 #ifdef __cplusplus
 extern "C" {
 #endif
@@ -69,6 +77,32 @@ enum {
     REACTION_ANSWER = 5,              /* numbers of an answer */
     REACTION_LONGEST_DECK = 25987,    /* bytes of the longest new deck that can pass */
     REACTION_LONGEST_OLD_DECK = 42883 /* bytes of the longest old one */
+};
+
+/* The numbers of the refusals, which the table above explains. 0 is none: the call was accepted. */
+enum reaction_refusal {
+    REACTION_DECK_ENDS = 1,
+    REACTION_OUT_OF_RANGE = 2,
+    REACTION_UNKNOWN_BYTE = 3,
+    REACTION_REPEATED_TARGET = 4,
+    REACTION_BYTES_FOLLOW = 5,
+    REACTION_OPENS_OUTSIDE = 6,
+    REACTION_CYCLIC_GRAPH = 7,
+    REACTION_OVERCHARGED = 8,
+    REACTION_BAD_POOL = 9,
+    REACTION_BAD_STATE = 10,
+    REACTION_UNKNOWN_PART = 11,
+    REACTION_BAD_INPUT = 12,
+    REACTION_OVER_CAPACITY = 13,
+    REACTION_PLACE_NOT_PENDING = 14,
+    REACTION_UNKNOWN_SECTION = 15,
+    REACTION_BUDGET_TOO_LARGE = 16,
+    REACTION_INPUT_OUTSIDE = 17,
+    REACTION_WRONG_TYPE = 18,
+    REACTION_WRONG_END = 19,
+    REACTION_DEFAULT_RETIRED = 20,
+    REACTION_TOO_MANY_RULES = 21,
+    REACTION_BUFFER_TOO_SHORT = 22
 };
 
 /* A stretch of a deck: it points into the deck that the call was given. It is lent to the call as it stands, so that it must be
