@@ -17,8 +17,13 @@ use std::fmt;
 /// bytes[69] = 3;
 /// let refusal = Deck::check(bytes).unwrap_err();
 /// assert_eq!(refusal.to_string(), "refused 3 69: an expression has an unknown operator or channel");
+///
+/// // The words are there also where a result that was to be accepted is shown.
+/// let refusal = reaction::Refusal { number: 14, place: 0 };
+/// let shown = r#"Refusal { number: 14, place: 0, name: "the place is not pending" }"#;
+/// assert_eq!(format!("{refusal:?}"), shown);
 /// ```
-#[derive(Clone, Copy, Debug, PartialEq, Eq, Hash)]
+#[derive(Clone, Copy, PartialEq, Eq, Hash)]
 pub struct Refusal {
     /// Which refusal it is.
     pub number: u32,
@@ -73,6 +78,14 @@ impl Refusal {
 impl fmt::Display for Refusal {
     fn fmt(&self, f: &mut fmt::Formatter) -> fmt::Result {
         write!(f, "refused {} {}: {}", self.number, self.place, self.name())
+    }
+}
+
+impl fmt::Debug for Refusal {
+    fn fmt(&self, f: &mut fmt::Formatter) -> fmt::Result {
+        let Refusal { number, place } = self;
+        let mut shown = f.debug_struct("Refusal");
+        shown.field("number", number).field("place", place).field("name", &self.name()).finish()
     }
 }
 
