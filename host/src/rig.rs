@@ -100,6 +100,30 @@ impl Rig {
         Ok(Rig { deck, memory })
     }
 
+    /// Goes on with memory that was saved: the values, the pending number and the pool of [`Rig::memory`]. The engine
+    /// tests it, and refuses it by 9 or 10 where it is not memory for this deck. Values are not held to the limits,
+    /// which a host that writes values itself may break.
+    ///
+    /// ```
+    /// # use reaction::{Deck, Rig};
+    /// let deck = Deck::check(include_bytes!("../../crates/replay/data/d.deck"))?;
+    /// let mut rig = Rig::start(deck.clone(), 2)?;
+    /// rig.input(0, &[(0, 4)])?;
+    /// let mut saved = rig.memory().clone();
+    /// assert_eq!(Rig::resume(deck.clone(), saved.clone())?, rig);
+    /// // The pending update is for a part that the deck does not have.
+    /// saved.pool[0] = 2;
+    /// assert_eq!(Rig::resume(deck.clone(), saved.clone()).unwrap_err().number, 10);
+    /// saved.pool.truncate(19);
+    /// assert_eq!(Rig::resume(deck, saved).unwrap_err().number, 9);
+    /// # Ok::<(), reaction::Refusal>(())
+    /// ```
+    pub fn resume(deck: Deck, mut memory: Memory) -> Result<Rig, Refusal> {
+        // A settle without commits tests deck, pool and state and changes nothing.
+        memory.settle(deck.bytes(), 0).result()?;
+        Ok(Rig { deck, memory })
+    }
+
     /// Sets channels of a part to values; rules fire for those that change. Returns the charge added.
     ///
     /// Values that would leave the part outside its limit are refused by 17, all of them: a control that is dragged
