@@ -93,6 +93,48 @@ impl Deck {
         self.largest_charge
     }
 
+    /// So many places always suffice for one input with nothing pending: the most rules that one part carries times
+    /// [`Deck::largest_charge`], at least 1.
+    ///
+    /// An input at a part makes active only rules that the part carries. Each of them adds updates whose charges sum to
+    /// its own charge at most, and that is at most the largest. An update that is pending already is not added again. With
+    /// nothing pending before, the charge after the input is therefore at most the product, and 13, which is answered where
+    /// it would exceed the places, is not answered. Commits lower the charge.
+    ///
+    /// No pool has more than 65,535 places. Where the product is larger, 65,535 is returned, and an input may still be
+    /// refused by 13.
+    ///
+    /// ```
+    /// use reaction::{Deck, Rig};
+    ///
+    /// // Both parts carry two rules, and the largest charge is 2.
+    /// let deck = Deck::check(include_bytes!("../../crates/replay/data/d.deck"))?;
+    /// let places = deck.places_for_an_input();
+    /// assert_eq!(places, 4);
+    /// let mut rig = Rig::start(deck, places)?;
+    /// assert_eq!(rig.input(0, &[(0, 4), (1, 4)])?, 3);
+    /// # Ok::<(), reaction::Refusal>(())
+    /// ```
+    pub fn places_for_an_input(&self) -> u16 {
+        let product = u32::from(self.most_carried()).saturating_mul(self.largest_charge);
+        u16::try_from(product.max(1)).unwrap_or(u16::MAX)
+    }
+
+    /// The most rules that one part carries.
+    fn most_carried(&self) -> u8 {
+        let mut parts = self.section(Section::Parts).get(1..).unwrap_or_default();
+        let opening = 4 * self.channels as usize;
+        let mut most = 0;
+        // A part is its opening values, a count and so many rule numbers, a length and so many bytes of its limit.
+        while let Some(&carried) = parts.get(opening) {
+            most = most.max(carried);
+            let limit = opening + 1 + usize::from(carried);
+            let length = usize::from(parts.get(limit).copied().unwrap_or(0));
+            parts = parts.get(limit + 1 + length..).unwrap_or_default();
+        }
+        most
+    }
+
     /// The bytes of a section, from its count to its end.
     ///
     /// ```
