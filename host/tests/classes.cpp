@@ -103,6 +103,11 @@ static void saved_memory(const Deck &deck) {
     expect(equal(resumed.memory(), saved), "resumed as it was saved");
     resumed.settle(9);
     expect(resumed.value(1, 2) == 5 && rig.value(1, 2) == 0, "each rig has its own memory");
+    Memory longer = saved, shorter = saved;
+    longer.pool.resize(3 * REACTION_PLACE);
+    expect(Rig::resume(deck, longer).pending() == 1, "a longer pool");
+    shorter.pool.resize(REACTION_PLACE); // a charge of 2 is pending
+    expect_refused(REACTION_BAD_STATE, 0, [&] { Rig::resume(deck, shorter); });
     saved.pool[0] = 2; // the deck has no part 2
     expect_refused(REACTION_BAD_STATE, 0, [&] { Rig::resume(deck, saved); });
     saved.pool.pop_back();
