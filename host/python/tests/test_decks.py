@@ -24,7 +24,7 @@ def answer(data: bytes) -> str:
 
 
 def with_room() -> Iterator[Deck]:
-    """The stored decks that pass, as new ones or as old ones, but for those that the longest pool is short for."""
+    """The stored decks that pass, as new or as old ones, but for those that no pool is long enough for."""
     yield Deck(LEG)
     for name in stored_answers():
         try:
