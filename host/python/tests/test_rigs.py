@@ -7,10 +7,11 @@ import enum
 import gc
 import itertools
 import pickle
+import random
 import struct
 from typing import Any
 
-from reaction import Committed, Deck, Rig, Settled, Update
+from reaction import Committed, Deck, Refusal, Rig, Settled, Update
 from reaction.library import PLACES, VALUES
 
 from .decks import DECK_D, LEG, A, B, C, Case, started
@@ -140,6 +141,15 @@ class Calls(Case):
         rig = Rig(Deck(LEG))
         rig.input(1, {channel.BEND: 10})
         self.assertEqual(rig[1, channel.BEND], 10)
+
+    def test_whole_numbers_of_another_type(self) -> None:
+        class Whole:
+            def __index__(self) -> int:
+                return 1
+
+        rig = started()
+        self.assertEqual(rig.input(Whole(), [(Whole(), Whole())]), 1)
+        self.assertEqual((rig[Whole(), Whole()], rig.part(Whole())[1]), (1, 1))
 
     def test_the_extreme_values(self) -> None:
         for value in (2**31 - 1, -(2**31)):
@@ -276,6 +286,22 @@ class Saving(Case):
                 with self.subTest(at=at, number=number):
                     self.refused((10, 0), Rig.resume, rig.deck, changed(saved, at, number))
         self.refused((10, 0), Rig.resume, Deck(DECK_D), Rig(Deck(LEG)).save())
+
+    def test_whatever_is_resumed_is_refused_or_taken_as_it_is(self) -> None:
+        source, deck = random.Random(1), Deck(LEG)
+        rig = Rig(deck)
+        rig.input(1, {2: 10})
+        saved = rig.save()
+        taken = 0
+        for _ in range(2000):
+            at = 4 * source.choice((source.randrange(VALUES), source.randrange(VALUES, len(saved) // 4)))
+            damaged = changed(saved, at, source.choice((-1, 0, 1, 2, 3, 9, 2**31 - 1, -(2**31))))
+            try:
+                self.assertEqual(Rig.resume(deck, damaged).save(), damaged)
+                taken += 1
+            except Refusal as refusal:
+                self.assertEqual(refusal.number, 10)
+        self.assertIn(taken, range(100, 1900))
 
     def test_other_values_may_be_a_good_state(self) -> None:
         rig = started()
