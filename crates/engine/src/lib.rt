@@ -1,5 +1,5 @@
 // The seven published calls. Types of their answers and definitions are in `calls` and, for convert, in `conversion`; behind check,
-// section and start is `calls_deck`, behind convert `conversion_call`, behind the others `calls_lent`.
+// section and start are `calls_check`, `calls_section` and `calls_start`, behind convert `conversion_call`, behind the others `calls_lent`.
 ghost use Prim.Native.Nat.{ℕ};
 ghost use mathlib.Core.Path.{_≡_};
 ghost use Rattle.deck.specs.Stretch.{LiesAt};
@@ -28,11 +28,11 @@ pub fn check(deck: &[u8]) -> CheckAnswer
     if deck_reading::few_rules(deck) {
         let mut short = [0u64; passing::SHORT_RULE_TABLE];
         let mut small = [0u32; passing::SHORT_MEMO];
-        return calls_deck::check_with(deck, &mut short, &mut small);
+        return calls_check::check_with(deck, &mut short, &mut small);
     }
     let mut rules = [0u64; passing::RULE_TABLE];
     let mut memo = [0u32; passing::MEMO];
-    calls_deck::check_with(deck, &mut rules, &mut memo)
+    calls_check::check_with(deck, &mut rules, &mut memo)
 }
 
 // The stretch of the deck from a section's count to its end, in the lent deck itself; empty where it is refused. The refusal's
@@ -44,11 +44,11 @@ pub fn section<'a>(deck: &'a [u8], number: u32, refusal: &mut u32, place: &mut u
     if deck_reading::few_rules(deck) {
         let mut short = [0u64; passing::SHORT_RULE_TABLE];
         let mut small = [0u32; passing::SHORT_MEMO];
-        return calls_deck::section_with(deck, number, refusal, place, &mut short, &mut small);
+        return calls_section::section_with(deck, number, refusal, place, &mut short, &mut small);
     }
     let mut rules = [0u64; passing::RULE_TABLE];
     let mut memo = [0u32; passing::MEMO];
-    calls_deck::section_with(deck, number, refusal, place, &mut rules, &mut memo)
+    calls_section::section_with(deck, number, refusal, place, &mut rules, &mut memo)
 }
 
 // The opening values, nothing pending, and the pool all 0. A refused start hands back a state of zeros.
@@ -59,11 +59,11 @@ pub fn start(deck: &[u8], pool: &mut [i32]) -> Started
     if deck_reading::few_rules(deck) {
         let mut short = [0u64; passing::SHORT_RULE_TABLE];
         let mut small = [0u32; passing::SHORT_MEMO];
-        return calls_deck::start_with(deck, pool, &mut short, &mut small);
+        return calls_start::start_with(deck, pool, &mut short, &mut small);
     }
     let mut rules = [0u64; passing::RULE_TABLE];
     let mut memo = [0u32; passing::MEMO];
-    calls_deck::start_with(deck, pool, &mut rules, &mut memo)
+    calls_start::start_with(deck, pool, &mut rules, &mut memo)
 }
 
 // What input, commit and settle answer, each in its own words.

@@ -1,6 +1,6 @@
 -- `abi::reaction_check` meets its contract. Assumes nothing.
 use borrow.Author.Needs.{needs}
-use Rattle.abi.specs.Laws.Replies.{written}
+use Rattle.abi_call.specs.Laws.Replies.{written}
 use Rattle.abi.proofs.reaction_check.Statement.{statement}
 use Rattle.abi.proofs.reaction_check.Tie as tie
 

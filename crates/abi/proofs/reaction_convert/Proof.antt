@@ -1,6 +1,6 @@
 -- `abi::reaction_convert` meets its contract. Assumes nothing.
 use borrow.Author.Needs.{needs}
-use Rattle.abi.specs.Laws.Replies.{conversion-written}
+use Rattle.abi_call.specs.Laws.Replies.{conversion-written}
 use Rattle.abi.proofs.reaction_convert.Statement.{statement}
 use Rattle.abi.proofs.reaction_convert.Tie as tie
 

@@ -1,6 +1,6 @@
 -- `abi::reaction_section` meets its contract. Assumes nothing.
 use borrow.Author.Needs.{needs}
-use Rattle.abi.specs.Laws.Replies.{section-written}
+use Rattle.abi_call.specs.Laws.Replies.{section-written}
 use Rattle.abi.proofs.reaction_section.Statement.{statement}
 use Rattle.abi.proofs.reaction_section.Tie as tie
 

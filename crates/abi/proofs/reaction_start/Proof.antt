@@ -1,6 +1,6 @@
 -- `abi::reaction_start` meets its contract. Assumes nothing.
 use borrow.Author.Needs.{needs}
-use Rattle.abi.specs.Laws.Replies.{stored}
+use Rattle.abi_call.specs.Laws.Replies.{stored}
 use Rattle.abi.proofs.reaction_start.Statement.{statement}
 use Rattle.abi.proofs.reaction_start.Tie as tie
 

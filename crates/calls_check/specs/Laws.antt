@@ -1,0 +1,2 @@
+-- Laws of the answers of check.
+pub mod CheckAnswers

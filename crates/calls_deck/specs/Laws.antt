@@ -1,4 +1,0 @@
--- Laws of the answers of check, section and start.
-pub mod CheckAnswers
-pub mod SectionAnswers
-pub mod StartAnswers

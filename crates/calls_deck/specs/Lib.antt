@@ -1,2 +1,0 @@
--- What check, section and start answer.
-pub mod Laws

@@ -1,0 +1,2 @@
+-- Laws of the answers of section.
+pub mod SectionAnswers

@@ -1,0 +1,2 @@
+-- What section answers.
+pub mod Laws

@@ -1,0 +1,2 @@
+-- What start answers.
+pub mod Laws
