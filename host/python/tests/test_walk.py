@@ -22,8 +22,8 @@ class Walk(unittest.TestCase):
     @unittest.skipUnless(shutil.which("cargo"), "no cargo to make the deck from its text")
     def test_the_stored_deck_is_what_the_text_makes(self) -> None:
         command = ["cargo", "run", "--quiet", "--release", "--offline", "--locked"]
-        command += ["--manifest-path", str(ROOT / "reference" / "Cargo.toml"), "--bin", "deck_from_text"]
-        with open(ROOT / "examples" / "leg" / "leg.txt", "rb") as text:
-            done = subprocess.run(command, stdin=text, capture_output=True)
+        command += ["--manifest-path", str(ROOT / "host" / "Cargo.toml"), "-p", "rig"]
+        command += ["--", "make", str(ROOT / "examples" / "leg" / "leg.txt")]
+        done = subprocess.run(command, capture_output=True)
         self.assertEqual((done.stderr, done.returncode), (b"", 0))
         self.assertEqual(done.stdout, LEG)

@@ -1,8 +1,8 @@
 //! The text of calls, with names as well as numbers.
 
-use crate::fault::{Fault, Spot};
+use crate::fault::Fault;
 use crate::names::{position, Names};
-use crate::words::{whole_number, words, Word};
+use crate::words::{spot, whole_number, words, Word};
 use reaction::raw::PLACE;
 
 /// A line of the text that makes a call.
@@ -16,7 +16,7 @@ pub struct Line {
 
 #[derive(Clone, Debug, PartialEq, Eq)]
 pub enum Call {
-    /// Numbers of the pool, ten a place; where none is given, room for any one input.
+    /// Numbers of the pool, ten a place; where none is given, room for many inputs.
     Start { length: Option<usize> },
     Input { part: u32, pairs: Vec<i32> },
     Commit { place: Place },
@@ -172,15 +172,6 @@ impl Reader<'_> {
     }
 
     fn fault(&self, index: usize, sentence: impl Into<String>) -> Fault {
-        let spot = match self.words.get(index) {
-            Some(word) => {
-                Spot { line: self.line, column: word.column, width: word.text.chars().count() }
-            }
-            None => {
-                let column = self.words.last().map_or(0, |word| word.column + word.text.chars().count() + 1);
-                Spot { line: self.line, column, width: 1 }
-            }
-        };
-        Fault { spot, sentence: sentence.into() }
+        Fault { spot: spot(self.line, self.words, index), sentence: sentence.into() }
     }
 }

@@ -6,9 +6,8 @@ use crate::fields::field_at;
 use crate::graph::Graph;
 use crate::loading::{Loaded, Readable, Source};
 use crate::make::{Formula, Role};
-use crate::names::Names;
 use crate::text::formula;
-use crate::words::{FAR, LITERAL, OWN};
+use crate::words::{pieces, spot, words, FAR, LITERAL, OWN};
 use reaction::Refusal;
 use reference::deck::Deck;
 use reference::expression::Expression;
@@ -34,22 +33,12 @@ pub fn refusal_in_words(loaded: &Loaded, refusal: Refusal) -> String {
     if let (Some(fault), Some(source)) = (in_formula, &loaded.source) {
         return fault.shown(&loaded.file, &source.text);
     }
-    match (number, loaded_deck(loaded)) {
+    match (number, loaded.read_deck()) {
         (refusal::OPENS_OUTSIDE_LIMIT, Some(readable)) => opens_outside(loaded, &readable, place),
         (refusal::CYCLE, Some(readable)) => cycle(loaded, &readable, place),
         (refusal::RULE_CHARGE, Some(readable)) => overcharged(loaded, &readable, place),
         _ => bytes_in_words(loaded, refusal),
     }
-}
-
-/// The deck, where its bytes can be read.
-fn loaded_deck(loaded: &Loaded) -> Option<Readable> {
-    let (deck, _) = Deck::read(&loaded.bytes).ok()?;
-    let names = match &loaded.source {
-        Some(source) => source.made.names.clone(),
-        None => Names::of_deck(&deck),
-    };
-    Some(Readable { deck, names })
 }
 
 /// A refusal of bytes: its number, and the field that it is about.
@@ -204,9 +193,8 @@ fn about(loaded: &Loaded, spot: Option<Spot>, sentence: String) -> String {
 /// The word of a text that names a rule or a part, behind the line's first word.
 fn name_spot(loaded: &Loaded, line: Option<usize>) -> Option<Spot> {
     let source = loaded.source.as_ref()?;
-    let words = crate::words::words(source.text.lines().nth(line? - 1)?);
-    let name = words.get(1)?;
-    Some(Spot { line: line?, column: name.column, width: name.text.chars().count() })
+    let words = words(source.text.lines().nth(line? - 1)?);
+    Some(spot(line?, &words, 1))
 }
 
 fn opens_outside(loaded: &Loaded, readable: &Readable, number: usize) -> String {
@@ -226,19 +214,7 @@ fn opens_outside(loaded: &Loaded, readable: &Readable, number: usize) -> String 
 
 /// Whether an expression has this own channel.
 fn names_channel(bytes: &[u8], channel: usize) -> bool {
-    let mut rest = bytes;
-    while let [operator, operands @ ..] = rest {
-        let length = match *operator {
-            LITERAL => 4,
-            OWN | FAR => 1,
-            _ => 0,
-        };
-        if *operator == OWN && operands.first().copied().map(usize::from) == Some(channel) {
-            return true;
-        }
-        rest = operands.get(length..).unwrap_or_default();
-    }
-    false
+    pieces(bytes).into_iter().any(|(operator, operand)| operator == OWN && operand == [channel as u8])
 }
 
 fn cycle(loaded: &Loaded, readable: &Readable, channel: usize) -> String {
@@ -251,14 +227,9 @@ fn cycle(loaded: &Loaded, readable: &Readable, channel: usize) -> String {
             format!("{from} leads to {to} by rule {}{}", names.rules[edge.rule], line_of_rule(loaded, edge.rule))
         })
         .collect();
-    let sentence = format!("{} leads back to itself: {}.", capital_name(&names.channels[channel]), steps.join(", "));
+    let sentence = format!("Channel {} leads back to itself: {}.", names.channels[channel], steps.join(", "));
     let line = path.first().and_then(|edge| loaded.source.as_ref().map(|source| source.made.lines.rules[edge.rule]));
     about(loaded, name_spot(loaded, line), sentence)
-}
-
-/// A name at the head of a sentence keeps its letters.
-fn capital_name(name: &str) -> String {
-    format!("Channel {name}")
 }
 
 fn line_of_rule(loaded: &Loaded, rule: usize) -> String {

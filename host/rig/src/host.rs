@@ -7,6 +7,9 @@ use reaction::raw::{self, Memory, PLACE};
 use reaction::Refusal;
 use reference::deck::Deck;
 
+/// The places that are lent where no length is given and no input needs more.
+const PLACES: usize = 2_048;
+
 /// What a call came to.
 #[derive(Clone, Debug, PartialEq, Eq)]
 pub enum Answer {
@@ -73,7 +76,7 @@ impl<'a> Host<'a> {
     }
 
     fn start(&mut self, length: Option<usize>) -> Result<Answer, Refusal> {
-        let places = usize::from(self.deck.places_for_an_input());
+        let places = usize::from(self.deck.places_for_an_input()).max(PLACES);
         self.memory = Memory::new(length.unwrap_or(PLACE * places));
         self.memory.start(self.deck.bytes()).result().map(|_| Answer::Started)
     }
@@ -104,7 +107,8 @@ impl<'a> Host<'a> {
         let changed = changed(before, &self.memory.values, part);
         let made = fire(self.read, &self.memory.values, part, &changed, waiting);
         events.extend(made.into_iter().map(Event::Made));
-        debug_assert_eq!(*waiting, pending(&self.memory), "the trace is the engine's");
+        // A trace that is not the engine's would be worse than none.
+        assert_eq!(*waiting, pending(&self.memory), "what was traced is not what the engine has");
     }
 
     /// A settle is as many commits, of place 0 or of the places that the order names.

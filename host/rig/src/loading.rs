@@ -74,18 +74,22 @@ impl Loaded {
         Ok(Loaded { file: name.to_string(), bytes: made.bytes.clone(), source: Some(Source { text, made }) })
     }
 
+    /// What the bytes say, where they can be read.
+    pub fn read_deck(&self) -> Option<Readable> {
+        let (deck, _) = Deck::read(&self.bytes).ok()?;
+        let names = match &self.source {
+            Some(source) => source.made.names.clone(),
+            None => Names::of_deck(&deck),
+        };
+        Some(Readable { deck, names })
+    }
+
     /// What the bytes say, or why they cannot be read.
     pub fn readable(&self) -> Result<Readable, Stop> {
-        match Deck::read(&self.bytes) {
-            Ok((deck, _)) => {
-                let names =
-                    self.source.as_ref().map_or_else(|| Names::of_deck(&deck), |source| source.made.names.clone());
-                Ok(Readable { deck, names })
-            }
-            Err(_) => Err(self.checked().err().unwrap_or_else(|| {
-                Stop::Refused(format!("{}: The deck passed, and yet it cannot be read.", self.file))
-            })),
-        }
+        self.read_deck().ok_or_else(|| match self.checked() {
+            Err(stop) => stop,
+            Ok(_) => Stop::Refused(format!("{}: The deck passed, and yet it cannot be read.", self.file)),
+        })
     }
 
     /// The deck that passed, or the refusal in words.

@@ -2,7 +2,7 @@
 
 use crate::fault::{Fault, Spot};
 use crate::names::{position, Names};
-use crate::words::{not_a_name, operator_byte, whole_number, words, Word, FAR, FAR_PREFIX, LITERAL, OWN};
+use crate::words::{not_a_name, operator_byte, spot, whole_number, words, Word, FAR, FAR_PREFIX, LITERAL, OWN};
 use reference::deck::Deck;
 use std::collections::BTreeMap;
 
@@ -95,17 +95,8 @@ struct Line<'a> {
 }
 
 impl Line<'_> {
-    /// A word's spot; behind the last word where there are fewer.
     fn spot(&self, index: usize) -> Spot {
-        match self.words.get(index) {
-            Some(word) => Spot { line: self.number, column: word.column, width: word.text.chars().count() },
-            None => self.end(),
-        }
-    }
-
-    fn end(&self) -> Spot {
-        let column = self.words.last().map_or(0, |word| word.column + word.text.chars().count() + 1);
-        Spot { line: self.number, column, width: 1 }
+        spot(self.number, &self.words, index)
     }
 
     fn fault(&self, index: usize, sentence: impl Into<String>) -> Fault {
@@ -374,7 +365,7 @@ impl Text {
         if pieces.is_empty() {
             return Err(line.fault(from, "There is no formula."));
         }
-        Ok(Expression { words: pieces, end: line.end() })
+        Ok(Expression { words: pieces, end: line.spot(line.words.len()) })
     }
 
     /// The bytes of a word of an expression.

@@ -9,7 +9,7 @@ use crate::order::Order;
 use crate::stop::Stop;
 use crate::text::formula;
 use reaction::raw::CHANNELS;
-use reference::refusal::{BAD_STATE, INPUT_OUTSIDE_LIMIT};
+use reference::refusal::INPUT_OUTSIDE_LIMIT;
 
 /// A deck that passed, with names, and the calls of a text.
 pub struct Script {
@@ -32,7 +32,7 @@ impl Script {
     }
 }
 
-/// A text that does not begin with a start gets one, with room for any one input.
+/// A text that does not begin with a start gets one, with the pool that is lent where no length is given.
 fn started(mut lines: Vec<Line>) -> Vec<Line> {
     if !matches!(lines.first(), Some(Line { call: Call::Start { .. }, .. })) {
         lines.insert(0, Line { number: 0, text: "start".to_string(), call: Call::Start { length: None } });
@@ -95,11 +95,9 @@ fn in_words(script: &Script, call: &Call, answer: &Answer) -> String {
 /// What helps with a refusal: the limit, for an input that would leave its part outside.
 fn hint(script: &Script, call: &Call, number: u32) -> String {
     match (call, number) {
-        (Call::Input { part, .. }, INPUT_OUTSIDE_LIMIT) => match limit(script, *part as usize) {
-            Some(limit) => format!(", `{limit}`"),
-            None => String::new(),
-        },
-        (_, BAD_STATE) => ", since no start was accepted".to_string(),
+        (Call::Input { part, .. }, INPUT_OUTSIDE_LIMIT) => {
+            limit(script, *part as usize).map_or(String::new(), |limit| format!(", `{limit}`"))
+        }
         _ => String::new(),
     }
 }

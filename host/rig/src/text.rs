@@ -1,7 +1,7 @@
 //! A deck as text, so that `make` of it gives the same bytes.
 
 use crate::names::Names;
-use crate::words::{operator_word, FAR, FAR_PREFIX, LITERAL, OWN};
+use crate::words::{operator_word, pieces, FAR, FAR_PREFIX, LITERAL, OWN};
 use reference::deck::{Deck, Kind, Part, Rule};
 use reference::expression::{Expression, Truth};
 use std::fmt::Write;
@@ -9,18 +9,13 @@ use std::fmt::Write;
 /// The words of an expression.
 pub fn formula(expression: &impl Expression, names: &Names) -> String {
     let bytes = expression.encode();
-    let mut words = Vec::new();
-    let mut rest = &bytes[..];
-    while let [operator, operands @ ..] = rest {
-        let (word, length) = match *operator {
-            LITERAL => (literal(operands), 4),
-            OWN => (channel(operands, names), 1),
-            FAR => (format!("{FAR_PREFIX}{}", channel(operands, names)), 1),
-            byte => (operator_word(byte).unwrap_or("?").to_string(), 0),
-        };
-        words.push(word);
-        rest = operands.get(length..).unwrap_or_default();
-    }
+    let word = |(operator, operand): (u8, &[u8])| match operator {
+        LITERAL => literal(operand),
+        OWN => channel(operand, names),
+        FAR => format!("{FAR_PREFIX}{}", channel(operand, names)),
+        byte => operator_word(byte).unwrap_or("?").to_string(),
+    };
+    let words: Vec<String> = pieces(&bytes).into_iter().map(word).collect();
     words.join(" ")
 }
 

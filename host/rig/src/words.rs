@@ -1,5 +1,7 @@
 //! The words of a text: operators, whole numbers and names.
 
+use crate::fault::Spot;
+
 /// The operators by their words and bytes. Literals and channels have no words of their own.
 pub const OPERATORS: [(&str, u8); 11] = [
     ("+", 3),
@@ -36,11 +38,38 @@ pub fn operator_word(byte: u8) -> Option<&'static str> {
     OPERATORS.iter().find(|&&(_, known)| known == byte).map(|&(word, _)| word)
 }
 
+/// The words of an expression's bytes: each operator, and the bytes of its literal or channel.
+pub fn pieces(expression: &[u8]) -> Vec<(u8, &[u8])> {
+    let mut pieces = Vec::new();
+    let mut rest = expression;
+    while let [operator, behind @ ..] = rest {
+        let length = match *operator {
+            LITERAL => 4,
+            OWN | FAR => 1,
+            _ => 0,
+        };
+        let (own, further) = behind.split_at(length.min(behind.len()));
+        pieces.push((*operator, own));
+        rest = further;
+    }
+    pieces
+}
+
 /// A word of a line, with the column of its first character, counted from 0.
 #[derive(Clone, Copy, Debug, PartialEq, Eq)]
 pub struct Word<'a> {
     pub text: &'a str,
     pub column: usize,
+}
+
+/// The spot of a word; behind the last word where there are fewer.
+pub fn spot(line: usize, words: &[Word], index: usize) -> Spot {
+    let width = |word: &Word| word.text.chars().count();
+    match (words.get(index), words.last()) {
+        (Some(word), _) => Spot { line, column: word.column, width: width(word) },
+        (None, Some(last)) => Spot { line, column: last.column + width(last) + 1, width: 1 },
+        (None, None) => Spot { line, column: 0, width: 1 },
+    }
 }
 
 /// The words of a line in front of its comment. `#` stands for itself as the label right behind `channel`.
