@@ -1,8 +1,8 @@
 // The reaction engine for C++11 hosts: classes over the seven calls of reaction.h, which says what the calls do.
 //
-// A Deck is a deck that passed. A Rig is a deck at work and owns the memory that the calls are lent. A call that is refused throws
-// a Refusal and leaves the rig as it was; where a start or a resume is refused, there is no rig. Besides, only exceptions of the
-// standard library come, where memory is short or a value is asked for that the deck does not have.
+// A Deck is a deck that passed. A Rig is a deck at work and owns the memory that the calls are lent. A call that is
+// refused throws a Refusal and leaves the rig as it was; where a start or a resume is refused, there is no rig. Besides,
+// only exceptions of the standard library come, where memory is short or a value is asked for that the deck does not have.
 #ifndef REACTION_HPP
 #define REACTION_HPP
 
@@ -100,8 +100,8 @@ public:
     }
 
     // So many places always suffice for one input with nothing pending: the most rules that one part carries times the
-    // largest charge, at least 1. Where that is above REACTION_PLACES, the longest pool is returned, and an input may still
-    // be refused by REACTION_OVER_CAPACITY. docs/EMBEDDING.md shows why.
+    // largest charge, at least 1; docs/EMBEDDING.md shows why. Where that is above REACTION_PLACES, the longest pool is
+    // returned, and an input may still be refused by REACTION_OVER_CAPACITY.
     std::size_t places_for_an_input() const {
         const std::size_t product = most_carried() * largest_charge_;
         return std::min<std::size_t>(std::max<std::size_t>(product, 1), REACTION_PLACES);
@@ -112,8 +112,8 @@ private:
         : bytes_(std::move(bytes)), channels_(answer[1]), rules_(answer[2]), parts_(answer[3]),
           largest_charge_(answer[4]) {}
 
-    // The most rules that one part carries. A part is its opening values, a count and so many rule numbers, a length and so
-    // many bytes of its limit.
+    // The most rules that one part carries. A part is its opening values, a count and so many rule numbers, a length and
+    // so many bytes of its limit.
     std::size_t most_carried() const {
         const std::vector<std::uint8_t> parts = section(Section::Parts);
         const std::size_t opening = 4 * std::size_t(channels_);
@@ -174,8 +174,8 @@ public:
         return rig;
     }
 
-    // Goes on with memory that was saved. The engine tests it, and refuses it by REACTION_BAD_POOL or REACTION_BAD_STATE where
-    // it is not memory for this deck.
+    // Goes on with memory that was saved. The engine tests it, and refuses it by REACTION_BAD_POOL or REACTION_BAD_STATE
+    // where it is not memory for this deck.
     static Rig resume(Deck deck, Memory memory) {
         Rig rig(std::move(deck), std::move(memory));
         rig.call("resume", reaction_settle, 0u); // without commits it tests all and changes nothing
@@ -188,7 +188,8 @@ public:
         std::array<std::int32_t, 2 * (REACTION_CHANNELS + 1)> numbers;
         const std::size_t count = std::min(pairs.size(), numbers.size() / 2);
         for (std::size_t pair = 0; pair < count; ++pair) {
-            numbers[2 * pair] = static_cast<std::int32_t>(pairs[pair].channel); // beyond 31 bits negative: no channel either
+            // A number beyond 31 bits becomes negative, which is no channel either.
+            numbers[2 * pair] = static_cast<std::int32_t>(pairs[pair].channel);
             numbers[2 * pair + 1] = pairs[pair].value;
         }
         return call("input", reaction_input, part, numbers.data(), 2 * count)[1];

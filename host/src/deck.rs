@@ -97,9 +97,9 @@ impl Deck {
     /// [`Deck::largest_charge`], at least 1.
     ///
     /// An input at a part makes active only rules that the part carries. Each of them adds updates whose charges sum to
-    /// its own charge at most, and that is at most the largest. An update that is pending already is not added again. With
-    /// nothing pending before, the charge after the input is therefore at most the product, and 13, which is answered where
-    /// it would exceed the places, is not answered. Commits lower the charge.
+    /// its own charge at most, and that is at most the largest. An update that is pending already is not added again.
+    /// With nothing pending before, the charge after the input is therefore at most the product, and 13, which is
+    /// answered where it would exceed the places, is not answered. Commits lower the charge.
     ///
     /// No pool has more than 65,535 places. Where the product is larger, 65,535 is returned, and an input may still be
     /// refused by 13.

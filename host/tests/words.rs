@@ -1,7 +1,7 @@
 //! The refusals have the same numbers, names and words wherever they stand, and all that is handed out has one version.
 //!
-//! What the engine's crate `refusals` says is held to the header for C, its texts, this crate, the page of the formats and
-//! the Python package.
+//! What the engine's crate `refusals` says is held to the header for C, its texts, this crate, the page of the formats
+//! and the Python package.
 
 use reaction::Refusal;
 use std::fs;
@@ -109,7 +109,7 @@ fn python_lines() -> Vec<String> {
 #[test]
 fn the_names_are_the_same() {
     let names = names();
-    assert!(names.iter().map(|(number, _)| *number).eq(1..=22), "{names:?}");
+    assert!(names.iter().map(|(number, _)| *number).eq(1..=names.len() as u32), "{names:?}");
     assert_eq!(header_names(), names);
     assert_eq!(format_names(), names);
 }

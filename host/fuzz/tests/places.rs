@@ -29,8 +29,8 @@ fn pairs(random: &mut Random, channels: u32) -> Vec<(u32, i32)> {
     named.into_iter().map(|channel| (channel, value(random))).collect()
 }
 
-/// Enters values at all parts, each time with nothing pending, and settles. The largest charge that was added; none where
-/// the product is larger than the longest pool.
+/// Enters values at all parts, each time with nothing pending, and settles. The largest charge that was added; none
+/// where the product is larger than the longest pool.
 fn largest_added(random: &mut Random, deck: &Deck) -> Option<u32> {
     let places = deck.places_for_an_input();
     if places == u16::MAX {
@@ -102,8 +102,8 @@ fn one_place_is_the_least() {
     }
 }
 
-/// An update of channel 1 has charge 65,535: each channel behind it has two rules that set the next. Channels 0 and 17 both
-/// set it, so that the longest pool has room for an input of one of them, and not of both.
+/// An update of channel 1 has charge 65,535: it and the channels behind it have two rules each that set the next.
+/// Channels 0 and 17 both set it, so that the longest pool has room for an input of one of them, and not of both.
 #[test]
 fn the_longest_pool_may_be_too_short() {
     let chain = (1..16).flat_map(|channel| [copy(channel, channel + 1), copy(channel, channel + 1)]);
