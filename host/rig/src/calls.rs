@@ -17,12 +17,23 @@ pub struct Line {
 #[derive(Clone, Debug, PartialEq, Eq)]
 pub enum Call {
     /// Numbers of the pool, ten a place; where none is given, room for many inputs.
-    Start { length: Option<usize> },
-    Input { part: u32, pairs: Vec<i32> },
-    Commit { place: Place },
+    Start {
+        length: Option<usize>,
+    },
+    Input {
+        part: u32,
+        pairs: Vec<i32>,
+    },
+    Commit {
+        place: Place,
+    },
     /// At most so many commits.
-    Settle { budget: u32 },
-    Section { number: u32 },
+    Settle {
+        budget: u32,
+    },
+    Section {
+        number: u32,
+    },
 }
 
 /// A pending update, by its place or by what it sets.
@@ -30,7 +41,10 @@ pub enum Call {
 pub enum Place {
     Number(u32),
     /// The oldest one that sets this channel of this part.
-    Named { part: u32, channel: u32 },
+    Named {
+        part: u32,
+        channel: u32,
+    },
 }
 
 /// The budget of a `settle` that names none: the largest.
@@ -78,7 +92,8 @@ impl Reader<'_> {
                 Ok(Call::Section { number: self.natural(1)? })
             }
             word @ ("value" | "pool" | "pending" | "convert") => {
-                Err(self.fault(0, format!("`{word}` lines try damaged memory and old decks: `replay` has them.")))
+                Err(self
+                    .fault(0, format!("`{word}` lines try damaged memory and old decks: `replay` has them.")))
             }
             word => Err(self.fault(
                 0,

@@ -53,7 +53,8 @@ fn costliest_receiver(deck: &Deck, charges: &Charges, part: usize, rule: usize) 
 fn costliest_listener(deck: &Deck, charges: &Charges, part: usize, targets: u32) -> Option<usize> {
     let listens = |rule: &usize| deck.rules[*rule].events.iter().any(|event| targets >> event & 1 == 1);
     let carried = deck.parts[part].carried.iter().map(|&rule| usize::from(rule));
-    let listeners: Vec<usize> = carried.filter(listens).filter(|&rule| charges.of_rule(part, rule) > 0).collect();
+    let listeners: Vec<usize> =
+        carried.filter(listens).filter(|&rule| charges.of_rule(part, rule) > 0).collect();
     listeners.into_iter().rev().max_by_key(|&rule| charges.of_rule(part, rule))
 }
 

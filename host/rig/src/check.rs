@@ -207,7 +207,8 @@ fn opens_outside(loaded: &Loaded, readable: &Readable, number: usize) -> String 
         .collect();
     let with = if values.is_empty() { String::new() } else { format!(", where {}", values.join(" and ")) };
     let limit = formula(&part.limit, names);
-    let sentence = format!("Part {} opens outside its limit: `{limit}` does not hold{with}.", names.parts[number]);
+    let sentence =
+        format!("Part {} opens outside its limit: `{limit}` does not hold{with}.", names.parts[number]);
     let line = loaded.source.as_ref().map(|source| source.made.lines.parts[number]);
     about(loaded, name_spot(loaded, line), sentence)
 }
@@ -224,11 +225,16 @@ fn cycle(loaded: &Loaded, readable: &Readable, channel: usize) -> String {
         .iter()
         .map(|edge| {
             let (from, to) = (&names.channels[edge.from], &names.channels[edge.to]);
-            format!("{from} leads to {to} by rule {}{}", names.rules[edge.rule], line_of_rule(loaded, edge.rule))
+            format!(
+                "{from} leads to {to} by rule {}{}",
+                names.rules[edge.rule],
+                line_of_rule(loaded, edge.rule)
+            )
         })
         .collect();
     let sentence = format!("Channel {} leads back to itself: {}.", names.channels[channel], steps.join(", "));
-    let line = path.first().and_then(|edge| loaded.source.as_ref().map(|source| source.made.lines.rules[edge.rule]));
+    let line =
+        path.first().and_then(|edge| loaded.source.as_ref().map(|source| source.made.lines.rules[edge.rule]));
     about(loaded, name_spot(loaded, line), sentence)
 }
 

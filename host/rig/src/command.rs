@@ -44,21 +44,27 @@ const TRIES: usize = 100;
 /// What a command writes to standard output, and whether something was refused on the way.
 pub struct Done {
     pub output: Vec<u8>,
+    /// What is said of it on standard error, behind the output.
+    pub notes: String,
     pub refused: bool,
 }
 
 impl Done {
     pub fn text(output: impl Into<Vec<u8>>) -> Done {
-        Done { output: output.into(), refused: false }
+        Done { output: output.into(), notes: String::new(), refused: false }
     }
 }
 
 pub fn main() -> ExitCode {
-    let arguments: Vec<String> = env::args_os().skip(1).map(|word| word.to_string_lossy().into_owned()).collect();
+    let arguments: Vec<String> =
+        env::args_os().skip(1).map(|word| word.to_string_lossy().into_owned()).collect();
     let words: Vec<&str> = arguments.iter().map(String::as_str).collect();
     match perform(&words) {
         Ok(done) => match io::stdout().write_all(&done.output).and_then(|()| io::stdout().flush()) {
-            Ok(()) => ExitCode::from(if done.refused { Stop::REFUSED } else { 0 }),
+            Ok(()) => {
+                eprint!("{}", done.notes);
+                ExitCode::from(if done.refused { Stop::REFUSED } else { 0 })
+            }
             Err(error) => {
                 eprintln!("rig: The output cannot be written: {error}.");
                 ExitCode::from(Stop::MISUSED)
@@ -116,7 +122,8 @@ fn graph(rest: &[&str]) -> Result<Done, Stop> {
 }
 
 fn run_calls(rest: &[&str]) -> Result<Done, Stop> {
-    let options = Options::read(rest, &["--trace", "--csv"], &["--order", "--plot"]).ok_or_else(|| misused("run"))?;
+    let options =
+        Options::read(rest, &["--trace", "--csv"], &["--order", "--plot"]).ok_or_else(|| misused("run"))?;
     let [deck, calls] = options.files[..] else { return Err(misused("run")) };
     let order = match options.value("--order") {
         Some(word) => Some(Order::named(word).ok_or_else(|| misused("run"))?),
@@ -127,11 +134,25 @@ fn run_calls(rest: &[&str]) -> Result<Done, Stop> {
         let unwritten = |error| Stop::Misused(format!("rig: {file} cannot be written: {error}."));
         fs::write(file, plot(&ran.frames)).map_err(unwritten)?;
     }
-    for refusal in &ran.refusals {
-        eprintln!("{calls}, {refusal}.");
+    let refused = !ran.refusals.is_empty();
+    let (output, notes) = if options.has("--csv") {
+        // The rows do not show what was refused.
+        let notes = ran.refusals.iter().map(|refusal| format!("{calls}, {refusal}.\n")).collect();
+        (ran.frames.csv(), notes)
+    } else if refused {
+        (ran.answers, format!("{calls}: {}.\n", refused_calls(ran.refusals.len())))
+    } else {
+        (ran.answers, String::new())
+    };
+    Ok(Done { output: output.into_bytes(), notes, refused })
+}
+
+/// How many calls were refused.
+fn refused_calls(count: usize) -> String {
+    match count {
+        1 => "One call was refused".to_string(),
+        count => format!("{count} calls were refused"),
     }
-    let output = if options.has("--csv") { ran.frames.csv() } else { ran.answers };
-    Ok(Done { output: output.into_bytes(), refused: !ran.refusals.is_empty() })
 }
 
 fn orders(rest: &[&str]) -> Result<Done, Stop> {
@@ -144,7 +165,7 @@ fn orders(rest: &[&str]) -> Result<Done, Stop> {
     let script = Script::read(deck, calls)?;
     let tried = attempts(&script, tries);
     let refused = tried.iter().any(|tried| !tried.refused.is_empty());
-    Ok(Done { output: report(&script, &tried).into_bytes(), refused })
+    Ok(Done { output: report(&script, &tried).into_bytes(), notes: String::new(), refused })
 }
 
 fn misused(command: &str) -> Stop {

@@ -26,7 +26,11 @@ pub fn pending(memory: &Memory) -> Vec<Update> {
     let places = memory.pool.chunks_exact(PLACE).take(memory.pending as usize);
     let update = |place: &[i32]| Update {
         part: place[0] as usize,
-        pairs: place[2..].chunks_exact(2).take(place[1] as usize).map(|pair| (pair[0] as usize, pair[1])).collect(),
+        pairs: place[2..]
+            .chunks_exact(2)
+            .take(place[1] as usize)
+            .map(|pair| (pair[0] as usize, pair[1]))
+            .collect(),
     };
     places.map(update).collect()
 }
@@ -43,10 +47,17 @@ pub fn changed(before: &[i32], after: &[i32], part: usize) -> Vec<usize> {
 }
 
 /// The firing at a part for changed channels, on the new values. The new updates are written behind the pending ones.
-pub fn fire(deck: &Deck, values: &[i32], part: usize, changed: &[usize], pending: &mut Vec<Update>) -> Vec<Made> {
+pub fn fire(
+    deck: &Deck,
+    values: &[i32],
+    part: usize,
+    changed: &[usize],
+    pending: &mut Vec<Update>,
+) -> Vec<Made> {
     let Some(sender) = deck.parts.get(part) else { return Vec::new() };
     let listens = |rule: &Rule| rule.events.iter().any(|&event| changed.contains(&usize::from(event)));
-    let active = sender.carried.iter().map(|&rule| usize::from(rule)).filter(|&rule| listens(&deck.rules[rule]));
+    let active =
+        sender.carried.iter().map(|&rule| usize::from(rule)).filter(|&rule| listens(&deck.rules[rule]));
     let (here, everywhere): (Vec<usize>, Vec<usize>) =
         active.partition(|&rule| deck.rules[rule].kind == Kind::Here);
     let others: Vec<usize> = (0..deck.parts.len()).filter(|&other| other != part).collect();

@@ -71,7 +71,8 @@ pub fn dot(readable: &Readable, title: &str) -> String {
     let graph = Graph::of(deck);
     let cyclic = graph.edges.iter().any(|edge| graph.cyclic(edge));
     let charges = (!cyclic).then(|| Charges::new(deck));
-    let mut text = format!("digraph {} {{\n  rankdir=LR;\n  node [shape=box, style=rounded];\n", quoted(title));
+    let mut text =
+        format!("digraph {} {{\n  rankdir=LR;\n  node [shape=box, style=rounded];\n", quoted(title));
     for (number, name) in names.channels.iter().enumerate() {
         let on_cycle = if graph.path(number, number).is_some() { ", color=red, fontcolor=red" } else { "" };
         // Writing into a string cannot fail.
@@ -79,7 +80,9 @@ pub fn dot(readable: &Readable, title: &str) -> String {
     }
     for edge in &graph.edges {
         let label = match &charges {
-            Some(charges) => format!("{}\ncharge {}", names.rules[edge.rule], largest(deck, charges, edge.rule)),
+            Some(charges) => {
+                format!("{}\ncharge {}", names.rules[edge.rule], largest(deck, charges, edge.rule))
+            }
             None => names.rules[edge.rule].clone(),
         };
         let dashed = if deck.rules[edge.rule].kind == Kind::Everywhere { ", style=dashed" } else { "" };

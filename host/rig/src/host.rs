@@ -14,10 +14,21 @@ const PLACES: usize = 2_048;
 #[derive(Clone, Debug, PartialEq, Eq)]
 pub enum Answer {
     Started,
-    Added { charge: u32 },
-    Committed { applied: bool, charge: u32 },
-    Settled { commits: u32, settled: bool },
-    Section { from: usize, to: usize },
+    Added {
+        charge: u32,
+    },
+    Committed {
+        applied: bool,
+        charge: u32,
+    },
+    Settled {
+        commits: u32,
+        settled: bool,
+    },
+    Section {
+        from: usize,
+        to: usize,
+    },
     /// The order decides what is committed.
     LeftOut,
     /// No pending update sets that channel.

@@ -52,7 +52,10 @@ pub fn text_of(file: &str) -> Result<String, Stop> {
 
 fn as_text(file: &str, bytes: Vec<u8>) -> Result<String, Stop> {
     String::from_utf8(bytes).map_err(|error| {
-        let line = 1 + error.as_bytes()[..error.utf8_error().valid_up_to()].iter().filter(|&&byte| byte == b'\n').count();
+        let line = 1 + error.as_bytes()[..error.utf8_error().valid_up_to()]
+            .iter()
+            .filter(|&&byte| byte == b'\n')
+            .count();
         Stop::Refused(format!("{file}:{line}: The text is not UTF-8."))
     })
 }

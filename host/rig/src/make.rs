@@ -2,7 +2,9 @@
 
 use crate::fault::{Fault, Spot};
 use crate::names::{position, Names};
-use crate::words::{not_a_name, operator_byte, spot, whole_number, words, Word, FAR, FAR_PREFIX, LITERAL, OWN};
+use crate::words::{
+    not_a_name, operator_byte, spot, whole_number, words, Word, FAR, FAR_PREFIX, LITERAL, OWN,
+};
 use reference::deck::Deck;
 use std::collections::BTreeMap;
 
@@ -107,7 +109,9 @@ impl Line<'_> {
     fn require_words(&self, count: usize, form: &str) -> Result<(), Fault> {
         match self.words.len() {
             length if length == count => Ok(()),
-            length => Err(self.fault(count.min(length), format!("The line is `{form}`, no more and no less."))),
+            length => {
+                Err(self.fault(count.min(length), format!("The line is `{form}`, no more and no less.")))
+            }
         }
     }
 }
@@ -158,10 +162,8 @@ impl Text {
             "part" => self.part_line(line),
             "when" | "here" | "everywhere" | "if" | "set" => self.line_of_rule(line),
             "open" | "carries" | "limit" => self.line_of_part(line),
-            "always" => Err(line.fault(
-                0,
-                "Default actions have retired: write a rule of its own with `set` and no `if`.",
-            )),
+            "always" => Err(line
+                .fault(0, "Default actions have retired: write a rule of its own with `set` and no `if`.")),
             word => Err(line.fault(
                 0,
                 format!(
@@ -176,7 +178,7 @@ impl Text {
         line.require_words(3, "channel LABEL NAME")?;
         let label = line.words[1].text;
         let &[byte @ 33..=126] = label.as_bytes() else {
-            let sentence = format!("The label `{label}` is not one character of ASCII.");
+            let sentence = format!("The label `{label}` is not one character from `!` to `~`.");
             return Err(line.fault(1, sentence));
         };
         require_room(line, self.labels.len(), Deck::CHANNELS, "channels")?;
@@ -214,14 +216,16 @@ impl Text {
     fn line_of_rule(&mut self, line: &Line) -> Result<(), Fault> {
         let word = line.words[0].text;
         if !matches!(self.item, Item::Rule) {
-            return Err(line.fault(0, format!("`{word}` stands outside a rule: it belongs below `rule NAME`.")));
+            return Err(
+                line.fault(0, format!("`{word}` stands outside a rule: it belongs below `rule NAME`."))
+            );
         }
         match word {
             "when" => self.when(line),
             "if" => {
                 let condition = self.expression(line, 1)?;
                 let rule = self.rule(line)?;
-                require_first(line, rule.condition.is_none(), "a condition")?;
+                require_first(line, rule.condition.is_none(), "rule has a condition")?;
                 rule.condition = Some(condition);
                 Ok(())
             }
@@ -229,7 +233,7 @@ impl Text {
             kind => {
                 line.require_words(1, kind)?;
                 let rule = self.rule(line)?;
-                require_first(line, rule.kind.is_none(), "a kind")?;
+                require_first(line, rule.kind.is_none(), "rule has a kind")?;
                 rule.kind = Some((kind == "everywhere").into());
                 Ok(())
             }
@@ -251,7 +255,7 @@ impl Text {
         }
         events.sort_unstable();
         let rule = self.rule(line)?;
-        require_first(line, rule.events.is_empty(), "its events")?;
+        require_first(line, rule.events.is_empty(), "rule has events")?;
         rule.events = events;
         Ok(())
     }
@@ -275,7 +279,9 @@ impl Text {
     fn line_of_part(&mut self, line: &Line) -> Result<(), Fault> {
         let word = line.words[0].text;
         if !matches!(self.item, Item::Part) {
-            return Err(line.fault(0, format!("`{word}` stands outside a part: it belongs below `part NAME`.")));
+            return Err(
+                line.fault(0, format!("`{word}` stands outside a part: it belongs below `part NAME`."))
+            );
         }
         match word {
             "open" => self.open(line),
@@ -283,7 +289,7 @@ impl Text {
             _ => {
                 let limit = self.expression(line, 1)?;
                 let part = self.part(line)?;
-                require_first(line, part.limit.is_none(), "a limit")?;
+                require_first(line, part.limit.is_none(), "part has a limit")?;
                 part.limit = Some(limit);
                 Ok(())
             }
@@ -318,7 +324,7 @@ impl Text {
         }
         carried.sort_unstable();
         let part = self.part(line)?;
-        require_first(line, part.carried.is_none(), "its carried rules")?;
+        require_first(line, part.carried.is_none(), "part carries rules")?;
         part.carried = Some(carried);
         Ok(())
     }
@@ -356,8 +362,7 @@ impl Text {
             let bytes = self.operand(line, index, text)?;
             length += bytes.len();
             if length > Deck::EXPRESSION {
-                let sentence =
-                    format!("The formula is too long: with `{text}` it has more than 64 bytes.");
+                let sentence = format!("The formula is too long: with `{text}` it has more than 64 bytes.");
                 return Err(line.fault(index, sentence));
             }
             pieces.push(Piece { text: text.to_string(), spot: line.spot(index), bytes });
@@ -435,7 +440,7 @@ fn require_first(line: &Line, first: bool, what: &str) -> Result<(), Fault> {
     if first {
         Ok(())
     } else {
-        Err(line.fault(0, format!("A second `{}`: {what} stands above already.", line.words[0].text)))
+        Err(line.fault(0, format!("The {what} already.")))
     }
 }
 

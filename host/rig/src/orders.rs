@@ -110,10 +110,16 @@ pub fn report(script: &Script, tries: &[Try]) -> String {
 fn refusals(script: &Script, tries: &[Try]) -> String {
     let mut text = String::new();
     for line in &script.lines {
-        let refused = tries.iter().filter(|tried| tried.refused.iter().any(|&(number, _)| number == line.number));
+        let refused =
+            tries.iter().filter(|tried| tried.refused.iter().any(|&(number, _)| number == line.number));
         let count = refused.count();
         if count > 0 {
-            text += &format!("line {}, {}: refused in {count} of {} orders.\n", line.number, line.text, tries.len());
+            text += &format!(
+                "line {}, {}: refused in {count} of {} orders.\n",
+                line.number,
+                line.text,
+                tries.len()
+            );
         }
     }
     text

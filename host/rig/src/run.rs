@@ -110,7 +110,8 @@ fn limit(script: &Script, part: usize) -> Option<String> {
 /// An update by names: `left_thigh bulge = 10`.
 pub fn update_in_words(script: &Script, update: &Update) -> String {
     let names = &script.readable.names;
-    let name = |names: &[String], number: usize| names.get(number).cloned().unwrap_or_else(|| number.to_string());
+    let name =
+        |names: &[String], number: usize| names.get(number).cloned().unwrap_or_else(|| number.to_string());
     let pairs: Vec<String> = update
         .pairs
         .iter()
@@ -150,4 +151,3 @@ fn left(script: &Script, host: &Host) -> String {
     }
     text + "\n"
 }
-

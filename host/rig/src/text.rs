@@ -52,7 +52,8 @@ fn line(text: &mut String, line: &str) {
 }
 
 fn listed(numbers: &[u8], names: &[String]) -> String {
-    let names: Vec<&str> = numbers.iter().filter_map(|&number| names.get(usize::from(number))).map(|name| &name[..]).collect();
+    let names: Vec<&str> =
+        numbers.iter().filter_map(|&number| names.get(usize::from(number))).map(|name| &name[..]).collect();
     names.join(" ")
 }
 

@@ -7,7 +7,10 @@ use std::{env, fs};
 
 const FACE: &str = concat!(env!("CARGO_MANIFEST_DIR"), "/../../examples/face/face.txt");
 const CALLS: &str = concat!(env!("CARGO_MANIFEST_DIR"), "/../../examples/face/face.calls");
-const OLD: &str = concat!(env!("CARGO_MANIFEST_DIR"), "/../../crates/check_files/data/e.deck");
+
+/// Channels a and b; a rule with event a, the default action b = a and no other action; a part that carries it.
+const OLD: &[u8] =
+    b"\x02ab\x01\x01\x00\x01\x01\x02\x01\x00\x00\x01\x11\x00\x01\0\0\0\0\0\0\0\0\x01\x00\x01\x11";
 
 fn rig(words: &[&str]) -> Output {
     Command::new(env!("CARGO_BIN_EXE_rig")).args(words).output().expect("rig runs")
@@ -71,7 +74,12 @@ fn wrong_use_has_status_2() {
 #[test]
 fn a_failed_make_writes_no_deck() {
     let folder = folder("failed_make");
-    let ways = ["channel a b\n", "channel a b\nrule r\nwhen b\nset b = b\npart p\ncarries r\n", "nonsense", "\u{e9}"];
+    let ways = [
+        "channel a b\n",
+        "channel a b\nrule r\nwhen b\nset b = b\npart p\ncarries r\n",
+        "nonsense",
+        "\u{e9}",
+    ];
     for (number, way) in ways.iter().enumerate() {
         let output = rig(&["make", &written(&folder, &format!("{number}.txt"), way)]);
         assert_eq!((status(&output), output.stdout.len()), (1, 0), "{way}");
@@ -132,9 +140,7 @@ fn refused_decks_are_told_by_their_fields() {
     };
     assert_eq!(
         told("short", &deck[..12]),
-        "Refused by 1 at 12: the deck ends inside a field or expression. The bytes end in the default action's \
-         count of rule 0.\n"
-            .replace("the default action's count of rule 0", "the count of the default action of rule 0")
+        "Refused by 1 at 12: the deck ends inside a field or expression. The bytes end in the kind of rule 0.\n"
     );
     let mut kind = deck.clone();
     kind[12] = 2;
@@ -157,10 +163,13 @@ fn refused_decks_are_told_by_their_fields() {
 
 #[test]
 fn old_decks_are_converted() {
-    let refused = rig(&["check", OLD]);
+    let old = folder("old").join("old.deck");
+    fs::write(&old, OLD).expect("an old deck");
+    let old = old.to_string_lossy();
+    let refused = rig(&["check", &old]);
     assert_eq!(status(&refused), 1);
     assert!(text(&refused.stderr).contains("`rig convert` makes a new deck"), "{}", text(&refused.stderr));
-    let converted = rig(&["convert", OLD]);
+    let converted = rig(&["convert", &old]);
     assert_eq!(status(&converted), 0);
     assert!(reaction::Deck::check(converted.stdout).is_ok());
     let short = rig(&["convert", FACE]);
@@ -173,7 +182,8 @@ fn a_run_shows_each_answer_and_what_is_left() {
     assert_eq!(status(&run), 1, "an input past the stop is refused");
     let printed = text(&run.stdout);
     assert!(printed.contains("input right_brow raise 60"), "{printed}");
-    assert!(text(&run.stderr).contains("refused 17"), "{}", text(&run.stderr));
+    assert!(printed.contains("refused 17: "), "{printed}");
+    assert!(text(&run.stderr).ends_with(": One call was refused.\n"), "{}", text(&run.stderr));
     // Another order, the same end.
     let newest = rig(&["run", FACE, CALLS, "--order", "newest"]);
     let left = |printed: &str| printed.split_once("left: ").map(|(_, left)| left.to_string());
@@ -198,7 +208,7 @@ fn frames_are_rows_and_lines() {
 fn a_graph_is_text_for_graphviz() {
     let graph = text(&rig(&["graph", FACE]).stdout);
     assert!(graph.starts_with("digraph \"face\" {\n"), "{graph}");
-    assert!(graph.contains("c1 -> c3 [label=\"fold_left\\ncharge 8\", style=dashed];"), "{graph}");
+    assert!(graph.contains("c1 -> c3 [label=\"fold_left\\ncharge 5\", style=dashed];"), "{graph}");
     assert!(!graph.contains("color=red"));
     // A cycle is drawn, though the deck does not pass.
     let face = fs::read_to_string(FACE).expect("the face");

@@ -4,7 +4,8 @@ use rig::loading::Loaded;
 
 /// What `rig check` prints of a text.
 fn printed(text: &str) -> String {
-    let checked = Loaded::of_text("rig.txt", text.to_string()).and_then(|loaded| loaded.checked().map(|_| ()));
+    let checked =
+        Loaded::of_text("rig.txt", text.to_string()).and_then(|loaded| loaded.checked().map(|_| ()));
     checked.map_or_else(|stop| stop.message().to_string(), |()| "passed".to_string())
 }
 
@@ -30,7 +31,8 @@ fn channels_rules_and_parts_are_counted() {
 #[test]
 fn events_and_bytes_are_counted() {
     let channels = lines(9, |number| format!("channel a c{number}"));
-    let rule = |events: &str, value: &str| format!("{channels}rule r\nwhen {events}\nset c8 = {value}\npart p\n");
+    let rule =
+        |events: &str, value: &str| format!("{channels}rule r\nwhen {events}\nset c8 = {value}\npart p\n");
     assert_eq!(printed(&rule("c0 c1 c2 c3 c4 c5 c6 c7", "0")), "passed");
     let message = printed(&rule("c0 c1 c2 c3 c4 c5 c6 c7 c8", "0"));
     assert!(message.starts_with("rig.txt:11:30: A rule has 1 to 8 events, and here are 9."), "{message}");

@@ -2,8 +2,8 @@
 
 use rig::calls::calls;
 use rig::loading::Loaded;
-use rig::orders::{attempt, attempts, report};
 use rig::order::Order;
+use rig::orders::{attempt, attempts, report};
 use rig::run::{run, Script};
 
 /// Two senders of one channel: who is committed last decides.
@@ -29,7 +29,8 @@ part right
 
 fn script(text: &str, lines: &str) -> Script {
     let loaded = Loaded::of_text("rig.txt", text.to_string()).expect("a text");
-    let (deck, readable) = (loaded.checked().expect("a deck that passes"), loaded.readable().expect("a deck"));
+    let (deck, readable) =
+        (loaded.checked().expect("a deck that passes"), loaded.readable().expect("a deck"));
     let lines = calls(lines, &readable.names).expect("calls");
     Script { deck, readable, lines }
 }
@@ -63,7 +64,11 @@ fn the_same_values_are_told_too() {
     let calls = include_str!("../../../examples/face/face.calls");
     let script = script(face, calls);
     let tries = attempts(&script, 50);
-    assert!(report(&script, &tries).ends_with("All orders left the same values.\n"), "{}", report(&script, &tries));
+    assert!(
+        report(&script, &tries).ends_with("All orders left the same values.\n"),
+        "{}",
+        report(&script, &tries)
+    );
     assert!(tries.iter().all(|tried| tried.commits <= tried.added));
 }
 

@@ -33,7 +33,8 @@ fn the_graphs_are_those_of_the_texts() {
 #[test]
 fn the_plot_is_that_of_the_walk() {
     let loaded = loaded("examples/leg/leg.txt");
-    let (deck, readable) = (loaded.checked().expect("a deck that passes"), loaded.readable().expect("a deck"));
+    let (deck, readable) =
+        (loaded.checked().expect("a deck that passes"), loaded.readable().expect("a deck"));
     let lines = calls(&file("examples/leg/walk-oldest-first.calls"), &readable.names).expect("calls");
     let ran = run(&Script { deck, readable, lines }, None, false);
     assert_eq!(plot(&ran.frames), file("docs/pictures/leg-walk.svg"));

@@ -121,7 +121,9 @@ fn the_trace_is_what_the_pool_shows() {
     for number in 0..LISTS {
         list(&mut numbered(24, number), &mut counts);
     }
-    for what in ["made", "made again", "applied", "discarded", "rules alone", "refused", "accepted", "ordered"] {
+    for what in
+        ["made", "made again", "applied", "discarded", "rules alone", "refused", "accepted", "ordered"]
+    {
         assert!(counts.get(what).copied().unwrap_or(0) > 500, "{what}: {counts:?}");
     }
 }
