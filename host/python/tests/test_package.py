@@ -129,6 +129,9 @@ class Page(unittest.TestCase):
 class Header(unittest.TestCase):
     def test_the_numbers_are_those_of_the_header(self) -> None:
         header = (ROOT / "include" / "reaction.h").read_text()
-        constants = dict(re.findall(r"^ +REACTION_(\w+) = (\d+)", header, re.MULTILINE))
+        numbers = dict(re.findall(r"^ +REACTION_(\w+) = (\d+)", header, re.MULTILINE))
+        named = {name: str(number) for number, name, _ in refusals.REFUSALS}
+        self.assertEqual({name: numbers.get(name) for name in named}, named)
+        constants = {name: number for name, number in numbers.items() if name not in named}
         self.assertEqual({name: str(getattr(library, name)) for name in constants}, constants)
         self.assertEqual(len(constants), 7)
