@@ -137,7 +137,7 @@ fn the_versions_are_the_same() {
     let version = env!("CARGO_PKG_VERSION");
     assert_eq!(defined(""), format!("{version:?}"));
     assert_eq!(["_MAJOR", "_MINOR", "_PATCH"].map(defined).join("."), version);
-    for path in ["host/Cargo.toml", "host/bench/Cargo.toml", "host/fuzz/Cargo.toml"] {
+    for path in ["host/Cargo.toml", "host/bench/Cargo.toml", "host/fuzz/Cargo.toml", "host/rig/Cargo.toml"] {
         assert_eq!(between(&file(path), "\nversion = ", "\n"), format!("{version:?}"), "{path}");
     }
     let python = file("host/python/reaction/__init__.py");
