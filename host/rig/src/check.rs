@@ -52,7 +52,12 @@ fn bytes_in_words(loaded: &Loaded, refusal: Refusal) -> String {
         refusal::DEFAULT_ACTION => {
             format!(" Byte {place} is {}. `rig convert` makes a new deck of an old one.", field(place))
         }
-        _ => format!(" Byte {place} is in {}.", field(place)),
+        2..=5 | refusal::WRONG_TYPE => format!(" Byte {place} is in {}.", field(place)),
+        // Of an old deck, which has no names here.
+        refusal::OPENS_OUTSIDE_LIMIT => format!(" It is part {place}."),
+        refusal::CYCLE => format!(" It is channel {place}."),
+        refusal::RULE_CHARGE => format!(" It is rule {} at part {}.", place % Deck::RULES, place / Deck::RULES),
+        _ => String::new(),
     };
     format!("{}: Refused by {} at {place}: {}.{about}", loaded.file, refusal.number, refusal.name())
 }

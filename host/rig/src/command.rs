@@ -65,6 +65,8 @@ pub fn main() -> ExitCode {
                 eprint!("{}", done.notes);
                 ExitCode::from(if done.refused { Stop::REFUSED } else { 0 })
             }
+            // Whoever reads it may have read enough.
+            Err(error) if error.kind() == io::ErrorKind::BrokenPipe => ExitCode::SUCCESS,
             Err(error) => {
                 eprintln!("rig: The output cannot be written: {error}.");
                 ExitCode::from(Stop::MISUSED)

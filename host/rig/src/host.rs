@@ -3,7 +3,7 @@
 use crate::calls::{Call, Place, WHOLE_BUDGET};
 use crate::firing::{changed, fire, pending, Made, Update};
 use crate::order::Order;
-use reaction::raw::{self, Memory, PLACE};
+use reaction::raw::{self, Memory, PLACE, VALUES};
 use reaction::Refusal;
 use reference::deck::Deck;
 
@@ -57,17 +57,25 @@ pub struct Told {
     pub events: Vec<Event>,
 }
 
+/// Values and pending updates as they were before a call.
+struct Before {
+    values: [i32; VALUES],
+    waiting: Vec<Update>,
+}
+
 pub struct Host<'a> {
     deck: &'a reaction::Deck,
     read: &'a Deck,
     pub memory: Memory,
     /// Where one was asked for.
     order: Option<Order>,
+    /// Whether events are told, for which every pending update is looked at in each call.
+    traced: bool,
 }
 
 impl<'a> Host<'a> {
-    pub fn new(deck: &'a reaction::Deck, read: &'a Deck, order: Option<Order>) -> Host<'a> {
-        Host { deck, read, memory: Memory::new(0), order }
+    pub fn new(deck: &'a reaction::Deck, read: &'a Deck, order: Option<Order>, traced: bool) -> Host<'a> {
+        Host { deck, read, memory: Memory::new(0), order, traced }
     }
 
     pub fn perform(&mut self, call: &Call) -> Told {
@@ -93,24 +101,33 @@ impl<'a> Host<'a> {
     }
 
     fn input(&mut self, part: u32, pairs: &[i32], events: &mut Vec<Event>) -> Result<Answer, Refusal> {
-        let (values, mut waiting) = (self.memory.values, pending(&self.memory));
+        let before = self.before();
         let [charge, ..] = self.memory.input(self.deck.bytes(), part, pairs).result()?;
-        self.tell_firing(&values, part as usize, &mut waiting, events);
+        if let Some(Before { values, mut waiting }) = before {
+            self.tell_firing(&values, part as usize, &mut waiting, events);
+        }
         Ok(Answer::Added { charge })
     }
 
     /// Commits a place, and tells what it was.
-    pub fn commit(&mut self, place: u32, events: &mut Vec<Event>) -> Result<Answer, Refusal> {
-        let (values, mut waiting) = (self.memory.values, pending(&self.memory));
+    fn commit(&mut self, place: u32, events: &mut Vec<Event>) -> Result<Answer, Refusal> {
+        let before = self.before();
         let [applied, charge, ..] = self.memory.commit(self.deck.bytes(), place).result()?;
-        let update = waiting.remove(place as usize);
-        let part = update.part;
         let applied = applied == 1;
-        events.push(if applied { Event::Applied(update) } else { Event::Discarded(update) });
-        if applied {
-            self.tell_firing(&values, part, &mut waiting, events);
+        if let Some(Before { values, mut waiting }) = before {
+            let update = waiting.remove(place as usize);
+            let part = update.part;
+            events.push(if applied { Event::Applied(update) } else { Event::Discarded(update) });
+            if applied {
+                self.tell_firing(&values, part, &mut waiting, events);
+            }
         }
         Ok(Answer::Committed { applied, charge })
+    }
+
+    /// What a trace starts from.
+    fn before(&self) -> Option<Before> {
+        self.traced.then(|| Before { values: self.memory.values, waiting: pending(&self.memory) })
     }
 
     /// What the rules made of the values that the engine has now.

@@ -51,6 +51,8 @@ pub fn text_of(file: &str) -> Result<String, Stop> {
 }
 
 fn as_text(file: &str, bytes: Vec<u8>) -> Result<String, Stop> {
+    // Some editors write a mark in front that is no part of the text.
+    let bytes = bytes.strip_prefix("\u{feff}".as_bytes()).unwrap_or(&bytes).to_vec();
     String::from_utf8(bytes).map_err(|error| {
         let line = 1 + error.as_bytes()[..error.utf8_error().valid_up_to()]
             .iter()

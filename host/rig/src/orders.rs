@@ -1,8 +1,8 @@
 //! `rig orders`: the same inputs under many orders of commits.
 
-use crate::calls::Call;
-use crate::firing::{pending, Update};
-use crate::host::Answer;
+use crate::calls::{Call, WHOLE_BUDGET};
+use crate::firing::Update;
+use crate::host::{Answer, Event};
 use crate::order::Order;
 use crate::run::{update_in_words, Script};
 use reaction::raw::CHANNELS;
@@ -13,22 +13,26 @@ use std::io::{self, IsTerminal, Write};
 pub struct Try {
     /// As `rig run --order` names it.
     pub order: String,
-    pub commits: u32,
+    pub commits: u64,
     /// The charge that the accepted inputs added: the bound on the commits.
-    pub added: u32,
-    /// The calls that were refused: their lines and numbers.
-    pub refused: Vec<(usize, u32)>,
+    pub added: u64,
+    /// The lines whose calls were refused.
+    pub refused: Vec<usize>,
     /// Whether nothing was pending at the end.
     pub settled: bool,
     /// The values of every channel of every part, part by part.
     pub values: Vec<i32>,
-    /// What was committed, in order.
-    pub committed: Vec<Update>,
 }
 
-/// Runs a script under an order; what is still pending at the end is settled too.
-pub fn attempt(script: &Script, name: &str, order: Order) -> Try {
-    let mut host = script.host(Some(order));
+/// The calls of a script with their lines; what is still pending at the end is settled too.
+fn calls(script: &Script) -> impl Iterator<Item = (usize, &Call)> {
+    const END: &Call = &Call::Settle { budget: WHOLE_BUDGET };
+    script.lines.iter().map(|line| (line.number, &line.call)).chain([(0, END)])
+}
+
+/// Runs a script under an order.
+pub fn attempt(script: &Script, name: &str) -> Try {
+    let mut host = script.host(Order::named(name), false);
     let mut tried = Try {
         order: name.to_string(),
         commits: 0,
@@ -36,21 +40,16 @@ pub fn attempt(script: &Script, name: &str, order: Order) -> Try {
         refused: Vec::new(),
         settled: false,
         values: Vec::new(),
-        committed: Vec::new(),
     };
-    let end = Call::Settle { budget: crate::calls::WHOLE_BUDGET };
-    let calls = script.lines.iter().map(|line| (line.number, &line.call)).chain([(0, &end)]);
-    for (number, call) in calls {
-        let told = host.perform(call);
-        match told.answer {
-            Answer::Added { charge } => tried.added += charge,
-            Answer::Settled { commits, .. } => tried.commits += commits,
-            Answer::Refused(refusal) => tried.refused.push((number, refusal.number)),
+    for (number, call) in calls(script) {
+        match host.perform(call).answer {
+            Answer::Added { charge } => tried.added += u64::from(charge),
+            Answer::Settled { commits, .. } => tried.commits += u64::from(commits),
+            Answer::Refused(_) => tried.refused.push(number),
             _ => {}
         }
-        tried.committed.extend(told.events.into_iter().filter_map(committed));
     }
-    tried.settled = pending(&host.memory).is_empty();
+    tried.settled = host.memory.pending == 0;
     let deck = &script.readable.deck;
     for part in 0..deck.parts.len() {
         tried.values.extend(&host.memory.values[CHANNELS * part..][..deck.labels.len()]);
@@ -58,11 +57,15 @@ pub fn attempt(script: &Script, name: &str, order: Order) -> Try {
     tried
 }
 
-fn committed(event: crate::host::Event) -> Option<Update> {
-    match event {
-        crate::host::Event::Applied(update) | crate::host::Event::Discarded(update) => Some(update),
-        crate::host::Event::Made(_) => None,
-    }
+/// What is committed under an order, one after the other.
+fn committed(script: &Script, name: &str) -> Vec<Update> {
+    let mut host = script.host(Order::named(name), true);
+    let events = calls(script).flat_map(|(_, call)| host.perform(call).events);
+    let update = |event| match event {
+        Event::Applied(update) | Event::Discarded(update) => Some(update),
+        Event::Made(_) => None,
+    };
+    events.filter_map(update).collect()
 }
 
 /// All orders: the oldest first, the newest first, then seeds from 1 on.
@@ -75,8 +78,7 @@ pub fn attempts(script: &Script, count: usize) -> Vec<Try> {
             1 => "newest".to_string(),
             seed => (seed - 1).to_string(),
         };
-        let order = Order::named(&name).unwrap_or(Order::Oldest);
-        tries.push(attempt(script, &name, order));
+        tries.push(attempt(script, &name));
         if show {
             // Progress that cannot be shown is no fault.
             let _ = write!(io::stderr(), "\r{} of {count} orders", index + 1);
@@ -111,7 +113,7 @@ fn refusals(script: &Script, tries: &[Try]) -> String {
     let mut text = String::new();
     for line in &script.lines {
         let refused =
-            tries.iter().filter(|tried| tried.refused.iter().any(|&(number, _)| number == line.number));
+            tries.iter().filter(|tried| tried.refused.contains(&line.number));
         let count = refused.count();
         if count > 0 {
             text += &format!(
@@ -154,16 +156,17 @@ fn differences(script: &Script, tries: &[Try]) -> String {
 
 /// Two orders from where they part, so that a rigger sees which commit made the difference.
 fn pair(script: &Script, one: &Try, other: &Try) -> String {
-    let same = one.committed.iter().zip(&other.committed).take_while(|(a, b)| a == b).count();
-    let next = |tried: &Try| match tried.committed.get(same) {
+    let (first, second) = (committed(script, &one.order), committed(script, &other.order));
+    let same = first.iter().zip(&second).take_while(|(a, b)| a == b).count();
+    let next = |tried: &Try, updates: &[Update]| match updates.get(same) {
         Some(update) => format!("  {}: {}\n", tried.order, update_in_words(script, update)),
         None => format!("  {}: nothing\n", tried.order),
     };
     format!(
         "The two orders part at commit {}:\n{}{}`rig run --order {} --trace` and `--order {} --trace` show them.\n",
         same + 1,
-        next(one),
-        next(other),
+        next(one, &first),
+        next(other, &second),
         one.order,
         other.order
     )

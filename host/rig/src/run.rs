@@ -27,8 +27,8 @@ impl Script {
         Ok(Script { deck, readable, lines: started(lines) })
     }
 
-    pub fn host(&self, order: Option<Order>) -> Host<'_> {
-        Host::new(&self.deck, &self.readable.deck, order)
+    pub fn host(&self, order: Option<Order>, traced: bool) -> Host<'_> {
+        Host::new(&self.deck, &self.readable.deck, order, traced)
     }
 }
 
@@ -50,7 +50,7 @@ pub struct Ran {
 
 /// Makes the calls of a script.
 pub fn run(script: &Script, order: Option<Order>, trace: bool) -> Ran {
-    let mut host = script.host(order);
+    let mut host = script.host(order, trace);
     let width = script.lines.iter().map(|line| line.text.chars().count()).max().unwrap_or(0).min(WIDEST);
     let mut ran = Ran { answers: String::new(), frames: Frames::new(&script.readable), refusals: Vec::new() };
     for line in &script.lines {
@@ -58,9 +58,7 @@ pub fn run(script: &Script, order: Option<Order>, trace: bool) -> Ran {
         let answer = in_words(script, &line.call, &told.answer);
         let blanks = " ".repeat(width.saturating_sub(line.text.chars().count()));
         ran.answers += &format!("{}{blanks}  {answer}\n", line.text);
-        if trace {
-            told.events.iter().for_each(|event| ran.answers += &event_in_words(script, event));
-        }
+        told.events.iter().for_each(|event| ran.answers += &event_in_words(script, event));
         if told.answer.refused() {
             ran.refusals.push(format!("line {}: {}: {answer}", line.number, line.text));
         }

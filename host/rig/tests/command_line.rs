@@ -172,6 +172,14 @@ fn old_decks_are_converted() {
     let converted = rig(&["convert", &old]);
     assert_eq!(status(&converted), 0);
     assert!(reaction::Deck::check(converted.stdout).is_ok());
+    // A part that opens outside its limit: the old deck has no names, and its part is told by number.
+    let mut outside = OLD.to_vec();
+    let last = outside.len() - 1;
+    outside[last] = 16;
+    let file = folder("old").join("outside.deck");
+    fs::write(&file, outside).expect("an old deck");
+    let refused = rig(&["convert", &file.to_string_lossy()]);
+    assert!(text(&refused.stderr).ends_with("Refused by 6 at 0: a part opens outside its limit. It is part 0.\n"));
     let short = rig(&["convert", FACE]);
     assert_eq!((status(&short), short.stdout.len()), (1, 0));
 }

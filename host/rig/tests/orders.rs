@@ -51,7 +51,7 @@ fn a_difference_is_told_with_two_orders() {
 fn a_run_shows_what_an_order_did() {
     let script = script(TUG, "start 100\ninput left pull 3\ninput right pull 5\nsettle\n");
     for seed in ["oldest", "newest", "1", "2", "3", "4"] {
-        let tried = attempt(&script, seed, Order::named(seed).expect("an order"));
+        let tried = attempt(&script, seed);
         let ran = run(&script, Order::named(seed), true);
         let knot = tried.values[2];
         assert!(ran.answers.contains(&format!("  rope knot {knot}\n")), "{}", ran.answers);

@@ -94,7 +94,7 @@ fn list(random: &mut Random, counts: &mut Counts) {
     let deck = reaction::Deck::check(fields.encode().bytes).expect("a deck that passes");
     let order = random.pick(&[None, Some("newest"), Some("7")]).and_then(Order::named);
     let ordered = order.is_some();
-    let mut host = Host::new(&deck, &fields, order);
+    let mut host = Host::new(&deck, &fields, order, true);
     assert_eq!(host.perform(&Call::Start { length: Some(2_000) }).answer, Answer::Started);
     for _ in 0..CALLS {
         let call = random_call(random, &deck, &host.memory);
@@ -136,7 +136,7 @@ fn a_settle_is_the_engines() {
         let size = Size { channels: 6, rules: 8, parts: 4, expression: 16 };
         let fields = decks::rich(random, size, Form::New);
         let deck = reaction::Deck::check(fields.encode().bytes).expect("a deck that passes");
-        let mut host = Host::new(&deck, &fields, None);
+        let mut host = Host::new(&deck, &fields, None, random.chance(50));
         host.perform(&Call::Start { length: Some(2_000) });
         for _ in 0..6 {
             let call = random_call(random, &deck, &host.memory);
