@@ -56,7 +56,9 @@ fn bytes_in_words(loaded: &Loaded, refusal: Refusal) -> String {
         // Of an old deck, which has no names here.
         refusal::OPENS_OUTSIDE_LIMIT => format!(" It is part {place}."),
         refusal::CYCLE => format!(" It is channel {place}."),
-        refusal::RULE_CHARGE => format!(" It is rule {} at part {}.", place % Deck::RULES, place / Deck::RULES),
+        refusal::RULE_CHARGE => {
+            format!(" It is rule {} at part {}.", place % Deck::RULES, place / Deck::RULES)
+        }
         _ => String::new(),
     };
     format!("{}: Refused by {} at {place}: {}.{about}", loaded.file, refusal.number, refusal.name())

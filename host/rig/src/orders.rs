@@ -112,8 +112,7 @@ pub fn report(script: &Script, tries: &[Try]) -> String {
 fn refusals(script: &Script, tries: &[Try]) -> String {
     let mut text = String::new();
     for line in &script.lines {
-        let refused =
-            tries.iter().filter(|tried| tried.refused.contains(&line.number));
+        let refused = tries.iter().filter(|tried| tried.refused.contains(&line.number));
         let count = refused.count();
         if count > 0 {
             text += &format!(

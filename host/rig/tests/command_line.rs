@@ -179,7 +179,9 @@ fn old_decks_are_converted() {
     let file = folder("old").join("outside.deck");
     fs::write(&file, outside).expect("an old deck");
     let refused = rig(&["convert", &file.to_string_lossy()]);
-    assert!(text(&refused.stderr).ends_with("Refused by 6 at 0: a part opens outside its limit. It is part 0.\n"));
+    assert!(
+        text(&refused.stderr).ends_with("Refused by 6 at 0: a part opens outside its limit. It is part 0.\n")
+    );
     let short = rig(&["convert", FACE]);
     assert_eq!((status(&short), short.stdout.len()), (1, 0));
 }
