@@ -7,24 +7,20 @@ use mir.Val.{SFits}
 use native.Mathlib.Omega.{arith}
 use Rattle.clamped.specs.Clamp.{clamp, clamping}
 use Rattle.clamped.proofs.Widening.{widens, wide_fits, wide-result, sub-fits}
-use Rattle.clamped.proofs.neg.Statement.{statement}
-use Rattle.clamped.proofs.neg.Tie as tie
+use Rattle.clamped.proofs.neg.Goals as goal
 
 zero-fits : SFits w32 (pos 0)
 zero-fits = record { sfits = omega arith }
 
-returns : tie.Need-returns
+pub returns : goal.returns
 unfolding clamping
 returns c =
     let f = c.before.ranges.a in
-    wide-result ◌-ℤ◌ zero-fits f (sub-fits zero-fits f) (record { sfits = c.clamped.type-inv }) c.clamped.ensures
+    wide-result ◌-ℤ◌ zero-fits f (sub-fits zero-fits f) (record { sfits = c.clamped.type_inv }) c.clamped.ensures
     ∙ ap clamp (+ℤ_idl (neg_ℤ c.before.args.a))
 
-pub neg-spec : {M : Type 1} → statement M
-neg-spec =
-    tie.close
-    (tie.spec
-    (λ c. widens c.ranges.a)
-    (λ c. wide_fits ◌-ℤ◌ zero-fits c.ranges.a (sub-fits zero-fits c.ranges.a))
-    (λ c κs. search rules)
-    returns)
+pub overflow_cast-a : goal.overflow_cast-a
+overflow_cast-a c = widens c.ranges.a
+
+pub overflow_sub-a : goal.overflow_sub-a
+overflow_sub-a c = wide_fits ◌-ℤ◌ zero-fits c.ranges.a (sub-fits zero-fits c.ranges.a)
