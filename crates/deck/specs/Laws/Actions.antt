@@ -84,9 +84,9 @@ module _ (sc : Scope) where
 
   assignments-exact : (n : ℕ) (ts : List ℕ) → Exact Any (assignments sc n ts) (Coded (flat_map encode_assignment) (Assigns n ts))
   unfolding layouts readers lists decks encodings
-  assignments-exact zero ts = nil-exact _ _ (refl, refl, refl, refl) (λ s a q. suc-ne-zero _ q.0)
+  assignments-exact zero ts = nil-exact encode_assignment _ (refl, refl, refl, refl) (λ s a q. suc-ne-zero _ q.0)
   assignments-exact (suc n) ts =
-      cons-exact _ (λ s. (good_assignment sc s ≡ true) × (not (member s.target ts) ≡ true)) (λ s. Assigns n (s.target ∷ ts)) _
+      cons-exact encode_assignment (λ s. (good_assignment sc s ≡ true) × (not (member s.target ts) ≡ true)) (λ s. Assigns n (s.target ∷ ts)) _
       (λ q. suc-ne-zero _ (sym q.0))
       (assigns-cons n ts)
       (assigns-parts n ts)

@@ -7,22 +7,15 @@ use native.Mathlib.Omega.{arith}
 use borrow.Author.Rules.{rules}
 use lib.ListN.{length, take, set, get_or, length-set}
 use lib.Seq.{paste, paste-zero, paste-suc, take-paste, take_all}
-use Rattle.decimal.proofs.put_text.Statement.{statement}
-use Rattle.decimal.proofs.put_text.Tie as tie
+use Rattle.decimal.proofs.put_text.Goals as goal
 
-abbrev invariant-loop : tie.invariant-loop
-invariant-loop out₀ at text i₀ out i = (i ≤ length text) × (length out ≡ length out₀) × (out ≡ paste out₀ at text i)
+pub loop-i-init : goal.loop-i-init
+loop-i-init c = (omega arith, refl, paste-zero c.args.out.now c.args.at c.args.text.now)
 
-abbrev decreases-loop : tie.decreases-loop
-decreases-loop out₀ at text i₀ out i = length text - i
-
-loop-holds : tie.Need-loop-init invariant-loop decreases-loop
-loop-holds c = (omega arith, refl, paste-zero c.args.out.now c.args.at c.args.text.now)
-
-loop-again : tie.Need-loop-preserved invariant-loop decreases-loop
-loop-again c =
+pub loop-i-preserved : goal.loop-i-preserved
+loop-i-preserved c =
     let a = c.before.before.before.args in
-    let l = c.before.before.loop in
+    let l = c.before.before.loop-i in
     let less : l.i < length a.text.now = omega arith in
     let more : a.at + l.i < length a.out.now = omega arith in
     let next = ap (λ (t : List ℕ). set t (a.at + l.i) (get_or a.text.now l.i 0)) l.invariant.2
@@ -33,10 +26,10 @@ loop-again c =
           ∙ ap (paste a.out.now a.at a.text.now) (sym (add-one l.i)),
     )
 
-returns : tie.Need-returns invariant-loop decreases-loop
+pub returns : goal.returns
 returns c =
     let a = c.before.before.args in
-    let l = c.before.loop in
+    let l = c.before.loop-i in
     let all : l.i ≡ length a.text.now = omega arith in
     record {
       has =
@@ -45,20 +38,3 @@ returns c =
           ∙ ap (λ (t : List ℕ). take a.at a.out.now ++ t) (take_all l.i a.text.now (omega arith));
       ends = ap (λ (k : ℕ). a.at + k) all;
     }
-
-pub put-text-spec : {M : Type 1} → statement M
-put-text-spec =
-    tie.close
-    (tie.spec
-    invariant-loop
-    decreases-loop
-    loop-holds
-    (λ c. omega arith)
-    (λ c. omega arith)
-    (λ c. omega arith)
-    (λ c. omega arith)
-    (λ c. omega arith)
-    loop-again
-    (λ c. omega arith)
-    (λ c. search rules)
-    returns)
