@@ -1,5 +1,7 @@
 // The seven calls for C, and so for C++ and Rust: `include/reaction.h` describes them. Each returns the refusal's number, 0 when the
 // call is accepted, and writes the place and the answer numbers into a lent array of five.
+#![tactic(auto)]
+
 ghost use Rattle.std.specs.Prelude.{◌≡◌};
 ghost use Rattle.deck.specs.Stretch.{LiesAt};
 ghost use Rattle.calls.specs.Calls as Calls;

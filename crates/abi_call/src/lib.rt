@@ -1,5 +1,7 @@
 // Input, commit and settle for C: the call on lent memory, and its numbers as they are returned. `abi` exports them; the definitions
 // here are of all seven calls.
+#![tactic(auto)]
+
 ghost use Rattle.std.specs.Prelude.{◌≡◌, [], ◌∷◌};
 ghost use Rattle.calls.specs.Answers.{memory_at, numbers_of};
 ghost use Rattle.calls.specs.Requests.{requested, outcome_to};

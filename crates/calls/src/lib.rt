@@ -1,5 +1,7 @@
 // The answers of the calls. specs/ defines the calls, and specs/Answers.antt says what each case of an answer stands for.
 // An answer that comes with a state stands beside it.
+#![tactic(auto)]
+
 use pool::State;
 
 // R, M, N and the largest charge of any carried rule.

@@ -1,4 +1,6 @@
 // What is behind check, with tables that are long enough for the deck. `calls` has the definitions.
+#![tactic(auto)]
+
 ghost use Rattle.std.specs.Prelude.{◌≡◌};
 ghost use Rattle.calls.specs.Calls as Calls;
 ghost use Rattle.calls.specs.Answers.{check_outcome};

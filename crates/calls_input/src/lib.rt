@@ -1,4 +1,6 @@
 // Input on what was tested. `calls` has the definition; specs/Entered.antt says what is left of it behind the tests.
+#![tactic(auto)]
+
 ghost use Rattle.std.specs.Prelude.{◌≡◌, true, ◌*◌, ◌-◌, ◌≤◌, ◌<◌, ◌++◌, length, take};
 ghost use Rattle.pool.specs.Places.{zeros};
 ghost use Rattle.passing.specs.Tabled.{deck_of};

@@ -1,4 +1,6 @@
 // Input, commit and settle on memory that is lent: the tables that a call works on, the tests, and what is asked for.
+#![tactic(auto)]
+
 ghost use Rattle.std.specs.Prelude.{◌≡◌, true, false, ◌≤◌, length};
 ghost use Rattle.calls.specs.Answers.{memory_at, reply_at};
 ghost use Rattle.calls.specs.Requests.{requested, outcome_to};

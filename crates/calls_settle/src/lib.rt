@@ -1,4 +1,6 @@
 // Settle on what was tested. `calls` has the definition; specs/Settled.antt says what is left of it behind the tests.
+#![tactic(auto)]
+
 ghost use Rattle.std.specs.Prelude.{◌≡◌};
 ghost use Rattle.calls.specs.Calls as Calls;
 ghost use Rattle.calls.specs.Answers.{memory_at, reply_at};

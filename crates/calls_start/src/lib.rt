@@ -1,4 +1,6 @@
 // What is behind start, with tables that are long enough for the deck. `calls` has the definitions.
+#![tactic(auto)]
+
 ghost use Rattle.std.specs.Prelude.{◌≡◌, pos, length, replicate};
 ghost use Rattle.refusals.specs.Outcome.{refused, accepted};
 ghost use Rattle.pool.specs.Places.{zeros};

@@ -1,5 +1,7 @@
 // The tests that input, commit and settle begin with, 1 to 10 and 18 to 20, and the lengths of the indexes that they lend. `calls` has the
 // definitions.
+#![tactic(auto)]
+
 ghost use Rattle.std.specs.Prelude.{◌≡◌, ◌≤◌, length, replicate};
 ghost use Rattle.calls_tests.specs.Tested.{Usable, TestsState, Tests};
 ghost use Rattle.charge.specs.Memo.{Ready};

@@ -1,5 +1,7 @@
 // Commits of one place, again and again, and the pending updates moved together behind them: what commit and settle share. One loop
 // calls the commit, so that the compiler puts it there. The definitions are in specs/.
+#![tactic(auto)]
+
 ghost use Rattle.std.specs.Prelude.{length};
 ghost use Rattle.pool.specs.Places.{capacity};
 ghost use Rattle.calls_turns.specs.Turns.{Beginning, Turned};

@@ -1,5 +1,7 @@
 // The bound on the charges of the carried rules of a deck without cycles: the largest charge, or the lowest place of one above
 // 65,535. The definitions are in `charge`.
+#![tactic(auto)]
+
 ghost use Rattle.std.specs.Prelude.{◌≡◌, ◌+◌, ◌*◌, ◌<◌, ◌≤◌, max, length};
 ghost use Rattle.deck.specs.Shape.{shape};
 ghost use Rattle.charge.specs.Memo.{Memo, Ready, RowKnown, RowLargest};

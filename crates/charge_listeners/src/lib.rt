@@ -1,4 +1,6 @@
 // The rules that listen to a channel, noted in the tables, and the rules that are active. The definitions are in `charge`.
+#![tactic(auto)]
+
 ghost use Rattle.std.specs.Prelude.{◌≡◌, ◌*◌, ◌<◌, ◌≤◌, length, get_or};
 ghost use Rattle.lists.specs.Bits.{bit};
 ghost use Rattle.charge.specs.Memo.{Noted, OthersKept, Cleared, RuleNoted, ListenersAre, AcyclicTables, ActiveIs};

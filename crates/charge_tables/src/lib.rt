@@ -1,5 +1,7 @@
 // The charges of updates and rules, computed with a memo from the tables of a deck without cycles. The definitions are in
 // `charge`.
+#![tactic(auto)]
+
 ghost use Rattle.std.specs.Prelude.{◌≡◌, true, cond, ◌+◌, ◌*◌, ◌-◌, ◌<◌, ◌≤◌, eqb, length, get_or, replicate};
 ghost use Rattle.lists.specs.Lists.{sum_of, below};
 ghost use Rattle.graph.specs.Masks.{carried_at};

@@ -1,4 +1,6 @@
 // For each file that an argument names: prints its name, a space, and the line that `check_deck` prints for it.
+#![tactic(auto)]
+
 use libc::STDOUT_FILENO;
 
 fn check_file(i: usize) {

@@ -1,4 +1,6 @@
 // The line that the program prints for a deck. Document 01, "Calls"; specs/Line.antt of `calls` has its definition.
+#![tactic(auto)]
+
 ghost use Rattle.std.specs.Prelude.{◌≡◌, take};
 ghost use Rattle.io.specs.Counts.{IsPrefixLen};
 ghost use Rattle.calls.specs.Line.{line as Line·line};

@@ -1,4 +1,5 @@
 // Operations on signed 32-bit numbers that clamp. The definitions are in specs/.
+#![tactic(auto)]
 
 ghost use Rattle.std.specs.Prelude.{◌≡◌};
 ghost use Rattle.clamped.specs.Clamp.{clamp, plus, minus, times, negated};

@@ -1,4 +1,5 @@
 // The conversion of old decks: the answer of the call, with the definitions of specs/. The crate `conversion_call` computes it.
+#![tactic(auto)]
 
 // The number of bytes that were written, or why the deck is not converted.
 #[derive(Drop)]

@@ -1,4 +1,6 @@
 // Writes the conversion of an old deck into a buffer. The definitions are in `conversion`.
+#![tactic(auto)]
+
 ghost use Rattle.std.specs.Prelude.{◌≡◌, ◌+◌, ◌-◌, ◌≤◌, ◌<◌, length, get_or};
 ghost use mathlib.Core.List.{List, ◌++◌, flat_map};
 ghost use Rattle.lists.specs.Lists.{from};

@@ -1,4 +1,6 @@
 // What is behind convert, with tables that are long enough for the deck. `conversion` has the definitions.
+#![tactic(auto)]
+
 ghost use Rattle.std.specs.Prelude.{◌≡◌, ◌≤◌};
 ghost use Rattle.refusals.specs.Outcome.{refused};
 ghost use Rattle.deck.specs.Limits.{limits};

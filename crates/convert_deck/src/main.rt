@@ -1,5 +1,7 @@
 // Reads an old deck from standard input and writes the new deck that it becomes to standard output; where it is refused, nothing, and
 // `refused NUMBER PLACE` to standard error.
+#![tactic(auto)]
+
 ghost use Rattle.std.specs.Prelude.{◌≤◌, length};
 ghost use Rattle.deck.specs.Limits.{limits};
 ghost use Rattle.conversion.specs.Laws.Tests.{Fits};

@@ -1,5 +1,7 @@
 // Puts text into a buffer: a byte, bytes, a number in decimal. Each function takes the place to start at and answers the place
 // behind what it put.
+#![tactic(auto)]
+
 ghost use Rattle.std.specs.Prelude.{[], ◌∷◌, ◌+◌, ◌≤◌, ◌<◌, length};
 ghost use Rattle.decimal.specs.Digits.{digits};
 ghost use Rattle.decimal.specs.Put.{Put};

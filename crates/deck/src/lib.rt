@@ -1,5 +1,7 @@
 // The deck's types, with the definitions of specs/. The associated constants of `Deck` are the largest numbers of document 01, "The
 // deck", and the lengths that follow; the crate `deck_reading` reads a deck's bytes.
+#![tactic(auto)]
+
 ghost use Rattle.std.specs.Prelude.{◌≡◌};
 ghost use Rattle.deck.specs.Limits.{limits};
 

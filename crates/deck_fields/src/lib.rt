@@ -1,5 +1,7 @@
 // The fields of a deck, each read at an offset of its bytes: a number, rising numbers, labels, an expression; and the writing of a
 // row. The definitions are in `deck`.
+#![tactic(auto)]
+
 ghost use Rattle.std.specs.Prelude.{◌≡◌, ◌++◌, ◌≤◌, length, drop};
 ghost use Rattle.lists.specs.Bits.{mask_of};
 ghost use Rattle.deck.specs.Reader.{number, repeats, rising, label};

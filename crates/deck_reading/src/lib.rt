@@ -1,5 +1,7 @@
 // The pass over a deck's bytes: the faults 1 to 5 and 18 to 20, the two tables, and the stretch of a section. The definitions are in
 // `deck`.
+#![tactic(auto)]
+
 ghost use Rattle.std.specs.Prelude.{◌≡◌, ◌≤◌, length};
 ghost use Rattle.deck.specs.Stretch.{LiesAt};
 ghost use Rattle.deck.specs.Marks.{RulesFit, FewRules, ReadsFront, Loads};

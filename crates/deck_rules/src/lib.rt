@@ -1,4 +1,6 @@
 // The rules of a deck, read at an offset of its bytes, and the table of their rows. The definitions are in `deck`.
+#![tactic(auto)]
+
 ghost use Rattle.std.specs.Prelude.{◌≡◌, ◌*◌, ◌≤◌, length, drop};
 ghost use mathlib.Core.List.{◌++◌, flat_map};
 ghost use Rattle.lists.specs.Bits.{mask_of};

@@ -1,4 +1,6 @@
 // Bytes read from a descriptor. What is read is tested and not proved.
+#![tactic(auto)]
+
 ghost use Rattle.descriptors.specs.Input.{Within};
 
 // How many bytes were read, or that a read failed.

@@ -1,5 +1,7 @@
 // The seven published calls. Types of their answers and definitions are in `calls` and, for convert, in `conversion`; behind check,
 // section and start are `calls_check`, `calls_section` and `calls_start`, behind convert `conversion_call`, behind the others `calls_lent`.
+#![tactic(auto)]
+
 ghost use Rattle.std.specs.Prelude.{ℕ, ◌≡◌};
 ghost use Rattle.deck.specs.Stretch.{LiesAt};
 ghost use Rattle.calls.specs.Calls as Calls;

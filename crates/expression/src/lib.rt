@@ -1,6 +1,8 @@
 // Expressions: their operators, what evaluator, type check and the search for a fault answer, and the numbers that bytes make. The
 // definitions are in specs/; the functions themselves are in the crates `expression_values`, `expression_types` and
 // `expression_faults`.
+#![tactic(auto)]
+
 ghost use Rattle.std.specs.Prelude.{◌≡◌};
 ghost use Rattle.expression.specs.Reading.{num_op, truth_op, word, signed};
 

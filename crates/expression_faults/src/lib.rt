@@ -1,5 +1,7 @@
 // The search for an expression's first fault: it reads an operator and calls itself for each operand, and fewer bytes are unread
 // then. It is called where the type check has said no. The definitions are in `expression`.
+#![tactic(auto)]
+
 ghost use Rattle.std.specs.Prelude.{◌≡◌, ◌≤◌, [], ◌∷◌, length};
 ghost use Rattle.expression.specs.Reading.{num_op, truth_op};
 ghost use Rattle.expression.specs.Answers.{scope};

@@ -1,6 +1,8 @@
 // The type check: whether bytes are an expression. It goes over the bytes as they stand: it reads an operator and calls itself for
 // each operand, and fewer bytes are unread then. Slices are handed on by a reference, since a call would copy them. The definitions
 // are in `expression`. It answers the place after an expression, and 0 where there is none.
+#![tactic(auto)]
+
 ghost use Rattle.std.specs.Prelude.{◌≡◌, ◌<◌, ◌≤◌, length, get_or};
 ghost use Rattle.expression.specs.Reading.{literal_at, channel_at, whole_num, whole_truth};
 ghost use Rattle.expression.specs.Answers.{Answers, scope, num_end, truth_end, of_end, end_of, ends_at, is_got};

@@ -1,6 +1,8 @@
 // The evaluator of expressions. It goes over the bytes as they stand: it reads an operator and calls itself for each operand, and
 // fewer bytes are unread then. Slices are handed on by a reference: the compiled code passes a slice in memory, and each call would
 // copy it. The definitions are in `expression`.
+#![tactic(auto)]
+
 ghost use Rattle.std.specs.Prelude.{◌≡◌, not, ◌-◌, ◌<◌, length, get_or};
 ghost use Rattle.clamped.specs.Clamp.{negated};
 ghost use Rattle.expression.specs.Values.{arith, join, comparison};

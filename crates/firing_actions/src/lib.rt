@@ -1,4 +1,6 @@
 // The update that an action makes, and the channels that an update sets. The definitions are in `firing`.
+#![tactic(auto)]
+
 ghost use Rattle.std.specs.Prelude.{◌≡◌, ◌+◌, ◌*◌, ◌%◌, ◌≤◌, ◌<◌, length, get_or};
 ghost use Rattle.pool.specs.Updates.{assign};
 ghost use Rattle.pool.specs.Places.{pairs_of};

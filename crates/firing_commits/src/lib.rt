@@ -1,4 +1,6 @@
 // The commits. The definitions are in `firing`.
+#![tactic(auto)]
+
 ghost use Rattle.std.specs.Prelude.{◌≡◌, ◌-◌, length};
 ghost use Rattle.passing.specs.Tabled.{deck_of};
 ghost use Rattle.deck.specs.Shape.{shape};

@@ -1,4 +1,6 @@
 // A new update offered to the pending ones: it stands behind them, unless it is equal to one of them or its charge passes the capacity.
+#![tactic(auto)]
+
 ghost use Rattle.std.specs.Prelude.{◌≡◌, true, [], ◌∷◌};
 ghost use Rattle.pool.specs.Places.{update_of};
 ghost use Rattle.pool_states.specs.Answer.{HoldsKnown};

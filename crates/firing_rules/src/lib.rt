@@ -1,4 +1,6 @@
 // The firing: the updates that the active rules add when channels of a part changed. The definitions are in `firing`.
+#![tactic(auto)]
+
 ghost use mathlib.Core.List.{flat_map};
 ghost use Rattle.std.specs.Prelude.{◌≡◌, true, not, ℕ, ◌<◌, length};
 ghost use Rattle.lists.specs.Lists.{is_empty};

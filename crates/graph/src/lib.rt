@@ -2,6 +2,7 @@
 // A set of channels is a number, so that the edges from a channel are one number and a round adds them at once.
 // The tables: a rule has eight numbers, first its events and the targets of its two actions; a part has four, first the
 // rules that it carries.
+#![tactic(auto)]
 
 ghost use Rattle.std.specs.Prelude.{◌≡◌, ◌≤◌, ◌<◌, length};
 ghost use Rattle.lists.specs.Lists.{select, below, first_or};

@@ -1,4 +1,6 @@
 // Helpers on lists, sets and numbers that several layers use. The definitions are in specs/.
+#![tactic(auto)]
+
 ghost use Rattle.lists.specs.Bits.{NextIn, RestOf};
 
 // The lowest number of a set, or 64 where there is none. A loop over a set looks at it and goes on with the rest.

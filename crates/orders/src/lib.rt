@@ -1,1 +1,2 @@
 // Lists of calls. The definitions are in specs/.
+#![tactic(auto)]

@@ -1,5 +1,7 @@
 // The definitions of the tests of a deck, in specs/, with the enum that they name and the lengths of the tables that a call lends.
 // The crate `passing_tests` computes the tests.
+#![tactic(auto)]
+
 use deck::Deck;
 
 // The numbers of a table of rules and of a memo of charges, for decks of few rules and for the others, and of a table of parts. They

@@ -1,4 +1,6 @@
 // The tests of a deck. The definitions are in `passing`.
+#![tactic(auto)]
+
 ghost use Rattle.std.specs.Prelude.{◌≡◌, ◌++◌, ◌+◌, ◌*◌, ◌≤◌, ◌<◌, length, drop, replicate};
 ghost use Rattle.lists.specs.Lists.{first_or};
 ghost use Rattle.deck.specs.Deck.{N};

@@ -1,4 +1,6 @@
 // The state that a host holds, and the places of the pool that it lends. The definitions are in specs/.
+#![tactic(auto)]
+
 ghost use Rattle.std.specs.Prelude.{◌≡◌, ◌&&◌, ◌++◌, ◌+◌, ◌*◌, ◌≤◌, ◌<◌, length, take, drop};
 ghost use Rattle.lists.specs.Lists.{all_of, eq_z, eq_list};
 ghost use Rattle.pool.specs.Places.{zeros, is_zero};

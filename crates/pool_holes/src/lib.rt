@@ -1,5 +1,7 @@
 // A pool in which updates were taken out: ten zeros stand where one was, until the others are moved together. The definitions are in
 // specs/.
+#![tactic(auto)]
+
 ghost use Rattle.std.specs.Prelude.{◌≡◌, ◌+◌, ◌*◌, ◌≤◌, length};
 ghost use Rattle.pool.specs.Places.{zeros};
 ghost use Rattle.pool.specs.Moves.{written};

@@ -1,5 +1,7 @@
 // An index of the pending updates, so that an equal one is found without going through all of them: buckets by a hash, and a tree
 // in each. The definitions are in specs/.
+#![tactic(auto)]
+
 ghost use Rattle.std.specs.Prelude.{◌≡◌, ◌+◌, ◌*◌, ◌≤◌, ◌<◌, length, get_or, set, pos};
 ghost use Rattle.pool_index.specs.Hash.{raised, factored, hash_of, bucket_of, side_of};
 ghost use Rattle.pool_index.specs.Index.{Seeking, Finds};

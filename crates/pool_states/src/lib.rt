@@ -1,4 +1,6 @@
 // The test for a good state (10) and the charge of its pending updates. The definitions are in `pool`.
+#![tactic(auto)]
+
 ghost use Rattle.std.specs.Prelude.{◌≡◌, true, ◌+◌, ◌*◌, ◌<◌, ◌≤◌, ltb, length, get_or, drop, replicate, pos};
 ghost use Rattle.lists.specs.Lists.{all_of};
 ghost use Rattle.lists.specs.Bits.{mask_of};

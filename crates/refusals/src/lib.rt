@@ -1,4 +1,6 @@
 // The numbers of the refusals, for the code; specs/Numbers.antt has them for the definitions.
+#![tactic(auto)]
+
 pub const DECK_ENDS: u32 = 1;
 
 pub const OUT_OF_RANGE: u32 = 2;

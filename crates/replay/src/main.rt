@@ -1,5 +1,7 @@
 // `replay DECKFILE`: goes through a text of calls on standard input, prints a line of answer for each, and at the end what is
 // left in memory.
+#![tactic(auto)]
+
 fn main() {
     let mut name = io::buffer();
     let n = os::arg(1, &mut name);

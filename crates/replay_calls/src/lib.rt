@@ -1,5 +1,7 @@
 // Goes through a text of calls on the memory of one host, and prints an answer for each and at the end what is left in memory.
 // What is read and written is tested and not proved.
+#![tactic(auto)]
+
 mod conversion_line;
 mod host;
 mod output;

@@ -1,4 +1,6 @@
 // Each two arguments name a deck and a text of calls: prints the name of the text, and then what `replay` prints for the two.
+#![tactic(auto)]
+
 use libc::STDOUT_FILENO;
 
 // Opens the file that an argument names, and answers a descriptor, or -1 after saying what is wrong.

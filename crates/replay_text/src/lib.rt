@@ -1,3 +1,5 @@
 // The text of calls that `replay` goes through, and the lines that it prints.
+#![tactic(auto)]
+
 pub mod answers;
 pub mod lines;
