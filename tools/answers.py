@@ -6,6 +6,7 @@ usage: tools/answers.py CRATE..      at the top of the repository, once the crat
 The kit says which goal is which: `rt check --generated FOLDER --old-names`. Goals that its own search closes get no answer here. What cannot be
 turned is left as it is and named.
 """
+import glob
 import json
 import os
 import re
@@ -13,6 +14,7 @@ import subprocess
 import sys
 import tempfile
 
+NAME = re.compile(r"[^\W\d][^\s(){}.;,\[\]λ]*|[^\s(){}.;,\[\]λ\w][^\s(){}.;,\[\]λ]*")
 TRIVIAL = {"omega arith", "search rules", "tt", "search (rules)"}
 HEAD = re.compile(r"^((?:(?:pub|abbrev|unfoldable) )*)([^\s:(){}]+) :(?: |$)")
 
@@ -81,14 +83,16 @@ def dashed(name):
 
 
 class Function:
-    """The old and the new names of one function's goals and of the places and steps that its answers speak of."""
+    """The old and the new names of one function's goals and of the places and steps that its answers speak of.
 
-    def __init__(self, entry, helpers):
-        self.entry, self.helpers = entry, helpers
+    An old answer walked from its goal back, `c.before.before.loop`; today all steps before a goal are fields of `c`. A helper that only walks is
+    written out; one that states a fact at an earlier place is stated at the place of the goal that cites it.
+    """
+
+    def __init__(self, entry, idents):
+        self.entry, self.idents = entry, idents
         self.needs = {dashed(old): new for old, new in entry["needs"]}
-        self.place = {}
-        self.anywhere = {}
-        self.calls = {}
+        self.place, self.anywhere, self.calls = {}, {}, {}
         for (name, parent, (old, new), callee, *_), now, arm in zip(entry["places"], entry["places_by_name"], entry["arms"]):
             fields = {}
             for field, step, path in arm[2] if arm else []:
@@ -99,89 +103,155 @@ class Function:
                 self.anywhere.setdefault(dashed(old), new)
             if callee:
                 self.calls[new] = entry["params"].get(callee, [])
+        self.walks, self.facts, self.used = {}, {}, set()
 
-    def type_of(self, name):
-        name = dashed(name)
-        if name.startswith("Need-"):
-            return "goal." + self.needs.get(name[5:], name[5:])
-        return "goal." + (self.place[name][3] if name in self.place else name)
+    def learn(self, name, lines):
+        """Takes note of a helper whose first argument is a place."""
+        whole = "\n".join(lines)
+        m = re.match(
+            rf"((?:(?:pub|abbrev|unfoldable) )*){re.escape(name)} :(.*?)\n((?:unfolding [^\n]*\n)?){re.escape(name)}((?: [^\s=]+)*) =(\s*)(.*)$",
+            whole,
+            re.S,
+        )
+        if not m:
+            return False
+        at = re.search(r"tie\.([^\s(){}.;,]+)((?: (?:invariant|decreases)-[^\s(){};,]+)*)", m[2])
+        if not at or at[1].startswith("Need-") or dashed(at[1]) not in self.place or not m[4].split():
+            return False
+        result = re.fullmatch(r".*→\s*tie\.([^\s(){}.;,]+)(?: (?:invariant|decreases)-[^\s(){};,]+)*\s*", m[2], re.S)
+        given = m[4].split()[0]
+        if result and dashed(result[1]) in self.place:
+            self.walks[name] = dashed(result[1])
+        else:
+            self.facts[name] = (dashed(at[1]), given, whole)
+        return True
 
     def types(self, text):
-        return re.sub(
-            r"(?<!\w)tie\.([^\s(){}.;,]+)((?: (?:invariant|decreases)-[^\s(){};,]+)*)", lambda m: self.type_of(m[1]), text
-        )
+        def one(m):
+            name = dashed(m[1])
+            if name.startswith("Need-"):
+                return "goal." + self.needs.get(name[5:], name[5:])
+            return "goal." + (self.place[name][3] if name in self.place else name)
 
-    def walk(self, place, steps):
-        """The new steps of a path that begins at a place, and the place where it ends if it ends at one."""
-        out, at = [], 0
-        while at < len(steps):
-            step = steps[at]
-            at += 1
-            if step == "before" and place is not None:
-                place = self.place[place][0] if place in self.place else None
-                out.append(step)
-                continue
-            known = self.place.get(place)
-            place = None
-            if known and dashed(step) == known[1]:
-                for path, field in known[4].items():
-                    if tuple(steps[at : at + len(path)]) == path:
-                        out += [known[2], field]
-                        at += len(path)
-                        break
-                else:
-                    out.append(known[2])
-            elif dashed(step) in self.anywhere:
-                out.append(self.anywhere[dashed(step)])
-            else:
-                out.append({"inv": "invariant", "type-inv": "type_inv", "taken": "true", "left": "false"}.get(step, step))
+        return re.sub(r"(?<!\w)tie\.([^\s(){}.;,]+)((?: (?:invariant|decreases)-[^\s(){};,]+)*)", one, text)
+
+    def field(self, step):
+        if "-" in step and step.replace("-", "_") in self.idents:
+            return step.replace("-", "_")
+        return {"inv": "invariant", "pre": "requires", "post": "ensures", "type-inv": "type_inv", "taken": "true", "left": "false"}.get(step, step)
+
+    def rest(self, place, steps):
+        """The fields of a path from a place on, in new names."""
+        step, later = steps[0], steps[1:]
+        known = self.place.get(place)
+        out = []
+        if known and dashed(step) == known[1]:
+            out = [known[2]]
+            for path, field in known[4].items():
+                if tuple(later[: len(path)]) == path:
+                    out.append(field)
+                    later = later[len(path) :]
+                    break
+        elif dashed(step) in self.anywhere:
+            out = [self.anywhere[dashed(step)]]
+        else:
+            out = [self.field(step)]
+        out += [self.field(s) for s in later]
+        return self.numbered(out)
+
+    def numbered(self, out):
         for i in range(2, len(out)):
             parameters = self.calls.get(out[i - 2])
             if out[i - 1] in ("auto", "new") and parameters and out[i].isdigit() and int(out[i]) < len(parameters):
                 out[i] = parameters[int(out[i])]
-        return out, place
+        return out
 
-    def path(self, text, env):
-        """A body in new names; env has the place of each variable."""
-        env = dict(env)
+    def parse(self, text, i, env):
+        """A path at i: its root, its place, its later steps and its end."""
+        m = re.compile(r"\(\s*([^\s(){}.;,]+)\s+").match(text, i)
+        if m and m[1] in self.walks:
+            inner = self.parse(text, m.end(), env)
+            if inner and not inner[2] and re.compile(r"\s*\)").match(text, inner[3]):
+                end = re.compile(r"\s*\)").match(text, inner[3]).end()
+                return self.moved(inner[0], self.walks[m[1]], text, end)
+            return None
+        m = NAME.match(text, i)
+        if not m:
+            return None
+        if m[0] in env:
+            return self.moved(*env[m[0]], text, m.end())
+        if m[0] in self.walks:
+            gap = re.compile(r"\s+").match(text, m.end())
+            inner = gap and self.parse(text, gap.end(), env)
+            if inner and not inner[2]:
+                return inner[0], self.walks[m[0]], [], inner[3]
+        return None
 
-        def one(m):
-            root, rest = m[1], m[2]
-            place = env.get(root)
-            if root.startswith("("):
-                words = root[1:-1].split()
-                place = self.helpers.get(words[0])
-            steps = rest[1:].split(".") if rest else []
-            new, end = self.walk(place, steps)
-            return root + "".join("." + s for s in new), end
+    def moved(self, root, place, text, end):
+        m = re.compile(r"(?:\.[^\s(){}.;,]+)*").match(text, end)
+        steps = m[0][1:].split(".") if m[0] else []
+        while steps and steps[0] == "before" and place in self.place:
+            place, steps = self.place[place][0], steps[1:]
+        return root, place, steps, m.end()
 
-        pattern = re.compile(r"(\([^\s()]+ [^\s().]+\)|(?<![\w.'])[^\s(){}.;,\[\]λ∙]+)((?:\.[^\s(){}.;,]+)*)")
-        out, at = "", 0
-        for m in pattern.finditer(text):
-            got, end = one(m)
-            before = text[: m.start()]
-            bound = re.search(r"let (\S+) = $", before)
-            if bound and re.match(r"\s+in\b", text[m.end() :]):
-                env[bound[1]] = end if m[2] or m[1].startswith("(") else env.get(m[1])
-            out += text[at : m.start()] + got
-            at = m.end()
-        return self.types(out + text[at:])
+    def path(self, text, env, goal):
+        """A body in new names: env has the root and the place of each variable, goal is the place of the goal."""
+        env, steps_of, out, i = dict(env), {}, "", 0
+        while i < len(text):
+            m = re.compile(r"let ([^\s(){}:]+) =\s+").match(text, i)
+            if m and (i == 0 or not re.match(r"[\w'-]", text[i - 1])):
+                got = self.parse(text, m.end(), env)
+                end = got and re.compile(r"\s+in\b\s*").match(text, got[3])
+                if end and not got[2]:
+                    env[m[1]] = (got[0], got[1])
+                    i = end.end()
+                    continue
+                if end and len(got[2]) == 1:
+                    steps_of[m[1]] = self.rest(got[1], got[2])[0]
+            if i == 0 or not re.match(r"[\w.'-]", text[i - 1]):
+                got = self.parse(text, i, env)
+                if got:
+                    out += got[0] + ("." + ".".join(self.rest(got[1], got[2])) if got[2] else "")
+                    i = got[3]
+                    continue
+            m = NAME.match(text, i)
+            if m:
+                name = m[0]
+                if name in self.facts and (i == 0 or text[i - 1] != "."):
+                    name = self.cited(name, goal)
+                tail = re.compile(r"(?:\.[^\s(){}.;,]+)+").match(text, m.end())
+                out += name
+                i = m.end()
+                if tail:
+                    fields = [self.field(s) for s in tail[0][1:].split(".")]
+                    if name in steps_of:
+                        fields = self.numbered([steps_of[name]] + fields)[1:]
+                    out += "." + ".".join(fields)
+                    i = tail.end()
+                continue
+            out += text[i]
+            i += 1
+        return self.types(out)
 
+    def cited(self, name, goal):
+        self.used.add((name, goal))
+        return name if goal is None else f"{name}@{goal}@"
 
-def signature(name, whole):
-    """The places of a declaration's bound and unbound arguments and of its result."""
-    m = re.match(rf"(?:(?:pub|abbrev|unfoldable) )*{re.escape(name)} :(.*?)\n(?:unfolding [^\n]*\n)?{re.escape(name)}((?: [^\s=]+)*) =", whole, re.S)
-    if not m:
-        return {}, None
-    parts = re.split(r"→", m[1])
-    given = m[2].split()
-    env = {}
-    for part, var in zip(parts, given):
-        place = re.search(r"tie\.([^\s(){}.;,]+)", part)
-        if place and var != "_":
-            env[var] = dashed(place[1])
-    result = re.search(r"tie\.([^\s(){}.;,]+)", parts[-1]) if len(parts) > len(given) else None
-    return env, dashed(result[1]) if result else None
+    def stated(self, name, goal):
+        """A helper's fact at the place of a goal."""
+        place, given, whole = self.facts[name]
+        head = re.match(rf"((?:(?:pub|abbrev|unfoldable) )*){re.escape(name)} :(.*?)\n((?:unfolding [^\n]*\n)?){re.escape(name)}(?= )", whole, re.S)
+        sig = re.sub(
+            r"tie\.([^\s(){}.;,]+)((?: (?:invariant|decreases)-[^\s(){};,]+)*)",
+            lambda m: "goal." + self.place[goal][3] if dashed(m[1]) == place else m[0],
+            head[2],
+        )
+        env = {given: (given, place)}
+        binder = re.search(r"\(([^\s():]+) : (?:goal|tie)\.", head[2])
+        if binder:
+            env[binder[1]] = (binder[1], place)
+        mine = f"{name}@{goal}@"
+        return f"{head[1]}{mine} :{self.path(sig, env, goal)}\n{head[3]}{mine}" + self.path(whole[head.end() :], env, goal)
 
 
 def invariants(entry, found):
@@ -211,7 +281,7 @@ def invariants(entry, found):
     return out, names
 
 
-def convert(root, crate, folder, key, entry, at):
+def convert(root, crate, folder, key, entry, idents):
     path = os.path.join(folder, "Proof.antt")
     text = open(path, encoding="utf-8").read()
     head, found = blocks(text)
@@ -228,47 +298,62 @@ def convert(root, crate, folder, key, entry, at):
     needs = entry["needs"]
     if len(args) != len(needs):
         return f"{len(args)} arguments and {len(needs)} goals"
-    helpers = {}
-    for said, lines in found:
-        m = HEAD.match(lines[0])
-        if m:
-            result = signature(m[2], "\n".join(lines))[1]
-            if result:
-                helpers[m[2]] = result
-    f = Function(entry, helpers)
+    f = Function(entry, idents)
     stated, taken = invariants(entry, found)
-    result = []
     where = {new: dashed(old) for (_, new), (old, _) in zip(needs, entry["asked_at"])}
-    named = {arg: new for (old, new), arg in zip(needs, args) if not arg.startswith("(")}
-    if len(named) != sum(1 for a in args if not a.startswith("(")):
-        return "one answer for several goals"
+    named = {}
+    for (old, new), arg in zip(needs, args):
+        if not arg.startswith("("):
+            named.setdefault(arg, []).append(new)
+    kept, result = [], []
     for said, lines in found:
-        whole = "\n".join(lines)
         name = HEAD.match(lines[0])[2] if HEAD.match(lines[0]) else None
-        if "tie.spec" in whole or name in taken:
+        if "tie.spec" in "\n".join(lines) or name in taken:
             continue
-        env, _ = signature(name, whole) if name else ({}, None)
-        if name in named:
-            new = named[name]
-            clause = re.search(rf"(?m)^{re.escape(name)} (\S+)(?: κs)? =\s*", whole)
-            opened = [l for l in lines[1:] if l.startswith("unfolding ")]
-            if clause and whole[clause.end() :].strip() in TRIVIAL:
-                continue
-            if clause:
-                body = f"{new} {clause[1]} =" + re.search(r"\s*$", clause[0])[0] + f.path(whole[clause.end() :], {clause[1]: where[new]})
-            else:
-                body = re.sub(rf"(?m)^{re.escape(name)}(?=\s)", new, f.path("\n".join(lines[1 + len(opened) :]), env))
-            result.append(said + [f"pub {new} : goal.{new}"] + opened + [body])
+        helper = name and name not in named and f.learn(name, lines)
+        if not (helper and name in f.walks):
+            kept.append((said, lines, name, helper))
+    for said, lines, name, helper in kept:
+        whole = "\n".join(lines)
+        if helper:
+            result.append((name, said))
+        elif name in named:
+            for new in named[name]:
+                clause = re.search(rf"(?m)^{re.escape(name)} (\S+)(?: κs)? =(\s*)", whole)
+                opened = [l for l in lines[1:] if l.startswith("unfolding ")]
+                if clause and whole[clause.end() :].strip() in TRIVIAL:
+                    continue
+                if not clause:
+                    return f"{name} is no clause of one argument"
+                body = f.path(whole[clause.end() :], {clause[1]: (clause[1], where[new])}, where[new])
+                result.append(said + [f"pub {new} : goal.{new}"] + opened + [f"{new} {clause[1]} ={clause[2]}{body}"])
         else:
-            result.append(said + [f.path(whole, env)])
+            result.append(said + [f.types(whole)])
     for (old, new), arg in zip(needs, args):
         if arg.startswith("("):
             m = re.match(r"^\(λ ([^.]*)\. (.*)\)$", arg, re.S)
             if not m:
-                result.append([f"pub {new} : goal.{new}", f"{new} = {f.path(arg, {})}"])
+                result.append([f"pub {new} : goal.{new}", f"{new} = {f.path(arg, {}, where[new])}"])
             elif m[2].strip() not in TRIVIAL:
                 c = m[1].split()[0]
-                result.append([f"pub {new} : goal.{new}", f"{new} {c} = {f.path(m[2], {c: where[new]})}"])
+                result.append([f"pub {new} : goal.{new}", f"{new} {c} = {f.path(m[2], {c: (c, where[new])}, where[new])}"])
+    done, texts = set(), {}
+    while f.used - done:
+        for name, goal in sorted(f.used - done):
+            done.add((name, goal))
+            texts[name, goal] = f.stated(name, goal)
+    final, short = [], {}
+    for name in f.facts:
+        goals = sorted(g for n, g in done if n == name)
+        for i, g in enumerate(goals):
+            short[f"{name}@{g}@"] = name if i == 0 else f"{name}-{i + 1}"
+    for part in result:
+        if isinstance(part, tuple):
+            for g in sorted(g for n, g in done if n == part[0]):
+                final.append(part[1] + [texts[part[0], g]])
+        else:
+            final.append(part)
+    result = [[re.sub(r"[^\s(){}.;,@]+@[^\s@]+@", lambda m: short[m[0]], l) for l in part] for part in final]
     uses = [l for l in head if l.startswith("use ") and ".Statement." not in l and not l.endswith("Tie as tie")]
     comment = [l for l in head if l.startswith("--")]
     module = key.replace(".Lts", "").replace(f"Rattle-{crate}-proofs", f"Rattle.{crate}.proofs")
@@ -291,7 +376,9 @@ def convert(root, crate, folder, key, entry, at):
 def main():
     root = os.getcwd()
     for crate in sys.argv[1:]:
-        names = names_of(root, crate)
+        names, idents = names_of(root, crate), set()
+        for path in glob.glob(os.path.join(root, "crates", "*", "src", "*.rt")):
+            idents.update(re.findall(r"\w+_\w+", open(path, encoding="utf-8").read()))
         for key, entry in sorted(names.items()):
             m = re.match(rf"^Rattle-{crate}-proofs\.(.*)\.Lts$", key)
             if not m:
@@ -300,7 +387,7 @@ def main():
             if not os.path.exists(os.path.join(folder, "Proof.antt")):
                 continue
             try:
-                said = convert(root, crate, folder, key, entry, m[1])
+                said = convert(root, crate, folder, key, entry, idents)
             except ValueError as e:
                 said = str(e)
             if said:

@@ -77,7 +77,7 @@ settling-ends d zero y h = settling-spent d y
 settling-ends d (suc b) y h = settling-rests d (suc b) y (none-pending y.pending (h (omega arith)))
 
 -- commits of the next place are what a settle begins with
-settling-repeats : {d : Deck} {p n : ℕ} {x y : Machine} → NextPlace p → Repeats d p x n y → (b : ℕ)
+settling-repeats : {d : Deck} {p : ℕ} {x : Machine} {n : ℕ} {y : Machine} → NextPlace p → Repeats d p x n y → (b : ℕ)
     → settling d (n + b) x ≡ afterwards n (settling d b y)
 settling-repeats {d} {x} next none b = ap (λ m. settling d m x) (omega arith) ∙ none-afterwards (settling d b x)
 settling-repeats {d} {p} {x} next (more {n} {y} r there) b =

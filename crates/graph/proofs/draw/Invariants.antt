@@ -1,0 +1,15 @@
+-- `graph::draw` meets its contract: the edges of the carried rules below `r` are drawn. Assumes nothing.
+use mathlib.Core.Path.{sym, ◌∙◌}
+use Prim.Native.Nat.{◌-◌}
+use native.Mathlib.Omega.{arith}
+use Rattle.lists.specs.Laws.Walks.{Walk, walk_first, walk-on, walk-next}
+use Rattle.lists.specs.Laws.Through.{Through, through-next, through_here, through-all}
+use Rattle.graph.specs.Masks.{Drawn}
+use Rattle.graph.proofs.Drawing.{drawn-skip, drawn-more}
+use Rattle.graph.proofs.draw.Given as goal
+
+abbrev pub invariant-loop-r : goal.invariant-loop-r
+invariant-loop-r l = Walk l.carried l.left l.r × Through l.carried l.count (λ k. Drawn l.rules l.parts l.parts_count k l.edges) l.r
+
+abbrev pub decreases-loop-r : goal.decreases-loop-r
+decreases-loop-r l = 64 - l.r
