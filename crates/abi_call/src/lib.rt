@@ -18,7 +18,7 @@ pub fn write(answer: &mut [u32; 5], place: u32, first: u32, second: u32, third: 
 }
 
 // What input, commit and settle return: the refusal's number and place, and the first two answer numbers.
-#[derive(Drop)]
+#[derive(Clone, Copy)]
 pub struct Numbers {
     pub number: u32,
     pub place: u32,

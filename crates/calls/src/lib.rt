@@ -5,7 +5,7 @@
 use pool::State;
 
 // R, M, N and the largest charge of any carried rule.
-#[derive(Drop)]
+#[derive(Clone, Copy)]
 pub enum CheckAnswer {
     Passed {
         channels: u32,
@@ -19,21 +19,21 @@ pub enum CheckAnswer {
     },
 }
 
-#[derive(Drop)]
+#[derive(Clone, Copy)]
 pub enum StartAnswer {
     Started,
     Refused { number: u32, place: u32 },
 }
 
 // The charge added.
-#[derive(Drop)]
+#[derive(Clone, Copy)]
 pub enum InputAnswer {
     Added(u32),
     Refused { number: u32, place: u32 },
 }
 
 // The charge now pending.
-#[derive(Drop)]
+#[derive(Clone, Copy)]
 pub enum CommitAnswer {
     Applied(u32),
     Discarded(u32),
@@ -41,7 +41,7 @@ pub enum CommitAnswer {
 }
 
 // The number of commits made.
-#[derive(Drop)]
+#[derive(Clone, Copy)]
 pub enum SettleAnswer {
     Settled(u32),
     Spent(u32),
@@ -49,7 +49,7 @@ pub enum SettleAnswer {
 }
 
 // What input, commit and settle are asked for: a part, a place, a budget.
-#[derive(Drop)]
+#[derive(Clone, Copy)]
 pub enum Request {
     Input(u32),
     Commit(u32),
@@ -57,31 +57,31 @@ pub enum Request {
 }
 
 // What they answer before it has the form of their own answers: a number and a flag, which specs/Requests.antt reads by the request.
-#[derive(Drop)]
+#[derive(Clone, Copy)]
 pub enum Response {
     Done { flag: bool, number: u32 },
     Refused { number: u32, place: u32 },
 }
 
-#[derive(Drop)]
+#[derive(Clone, Copy)]
 pub struct Started {
     pub answer: StartAnswer,
     pub state: State,
 }
 
-#[derive(Drop)]
+#[derive(Clone, Copy)]
 pub struct Entered {
     pub answer: InputAnswer,
     pub state: State,
 }
 
-#[derive(Drop)]
+#[derive(Clone, Copy)]
 pub struct Committed {
     pub answer: CommitAnswer,
     pub state: State,
 }
 
-#[derive(Drop)]
+#[derive(Clone, Copy)]
 pub struct Settled {
     pub answer: SettleAnswer,
     pub state: State,

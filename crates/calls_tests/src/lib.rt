@@ -40,7 +40,7 @@ pub const LONGER_INDEX: usize = 36868;
 pub const INDEX: usize = 196610;
 
 // What the tests of deck, pool and state come to: the counts of the deck and the charge of the pending updates, or the refusal.
-#[derive(Drop)]
+#[derive(Clone, Copy)]
 pub enum Tested {
     Ready { counts: Deck, charge: u32 },
     Refused { number: u32, place: u32 },

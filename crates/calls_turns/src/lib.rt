@@ -11,7 +11,7 @@ use deck::Deck;
 use firing_queue::Queue;
 
 // What the tests of a call found: the counts of the deck, the updates pending and their charge.
-#[derive(Drop)]
+#[derive(Clone, Copy)]
 pub struct TestsFound {
     pub counts: Deck,
     pub pending: u32,
@@ -19,14 +19,14 @@ pub struct TestsFound {
 }
 
 // What a call answers behind the tests, and the updates pending then.
-#[derive(Drop)]
+#[derive(Clone, Copy)]
 pub struct AfterCall {
     pub response: Response,
     pub pending: u32,
 }
 
 // The commits made, the updates pending and their charge, and whether the last commit was applied.
-#[derive(Drop)]
+#[derive(Clone, Copy)]
 pub struct Turns {
     pub made: u32,
     pub pending: usize,

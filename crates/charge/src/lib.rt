@@ -3,7 +3,7 @@
 #![tactic(auto)]
 
 // The largest charge of a carried rule; or the lowest place, 64 times part + rule, of one above 65,535.
-#[derive(Drop)]
+#[derive(Clone, Copy)]
 pub enum Bound {
     Within(u32),
     Above(usize),

@@ -2,7 +2,7 @@
 #![tactic(auto)]
 
 // The number of bytes that were written, or why the deck is not converted.
-#[derive(Drop)]
+#[derive(Clone, Copy)]
 pub enum ConvertAnswer {
     Converted { length: u32 },
     Refused { number: u32, place: u32 },

@@ -68,7 +68,7 @@ fn action_end(deck: &[u8], at: usize) -> usize
 }
 
 // Where a rule's events, its default action and its task end.
-#[derive(Drop)]
+#[derive(Clone, Copy)]
 pub struct Ends {
     pub default: usize,
     pub task: usize,
@@ -207,7 +207,7 @@ fn put_carried(carried: &[u8], numbers: &[u8], out: &mut [u8], at: usize) -> usi
 }
 
 // Where a part's opening values, its carried rules and its limit end.
-#[derive(Drop)]
+#[derive(Clone, Copy)]
 pub struct PartEnds {
     pub carried: usize,
     pub limit: usize,

@@ -6,14 +6,14 @@ ghost use Rattle.std.specs.Prelude.{◌≡◌};
 ghost use Rattle.deck.specs.Limits.{limits};
 
 // The two forms of a deck: rules of an old one may have default actions.
-#[derive(Drop)]
+#[derive(Clone, Copy)]
 pub enum Form {
     Old,
     New,
 }
 
 // The counts R, M and N of a deck, and the offsets of its second and third section's counts.
-#[derive(Drop)]
+#[derive(Clone, Copy)]
 pub struct Deck {
     pub channels: usize,
     pub rules: usize,
@@ -23,7 +23,7 @@ pub struct Deck {
 }
 
 // The first two sections of a deck, and the place after them.
-#[derive(Drop)]
+#[derive(Clone, Copy)]
 pub struct Front {
     pub channels: usize,
     pub rules: usize,
@@ -32,21 +32,21 @@ pub struct Front {
 }
 
 // A deck that was read, or the first fault.
-#[derive(Drop)]
+#[derive(Clone, Copy)]
 pub enum Loaded {
     Whole(Deck),
     Wrong { number: u32, place: usize },
 }
 
 // What reading comes to: the place after what was read, or the first fault.
-#[derive(Drop)]
+#[derive(Clone, Copy)]
 pub enum Advance {
     Next(usize),
     Fault { number: u32, place: usize },
 }
 
 // The largest numbers, as specs/Limits.antt has them for the definitions.
-#[derive(Drop)]
+#[derive(Clone, Copy)]
 pub struct Limits {
     pub channels: usize,
     pub rules: usize,
@@ -174,14 +174,14 @@ impl Deck {
 }
 
 // A byte that was read, and the place after it.
-#[derive(Drop)]
+#[derive(Clone, Copy)]
 pub struct Byte {
     pub value: usize,
     pub step: Advance,
 }
 
 // A set of small numbers, and the place after the list that named them.
-#[derive(Drop)]
+#[derive(Clone, Copy)]
 pub struct Set {
     pub mask: u64,
     pub step: Advance,

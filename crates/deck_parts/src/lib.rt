@@ -24,7 +24,7 @@ fn values_at(s: &[u8], at: usize, count: usize) -> Advance
 }
 
 // A part's row, and the place after the part.
-#[derive(Drop)]
+#[derive(Clone, Copy)]
 pub struct PartRead {
     pub row: [u64; Deck::PART_ROW],
     pub step: Advance,

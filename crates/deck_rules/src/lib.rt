@@ -123,7 +123,7 @@ fn default_at(s: &[u8], at: usize, own: usize, form: Form) -> Set
 }
 
 // What is kept of a rule's kind, condition and action, and the place after them.
-#[derive(Drop)]
+#[derive(Clone, Copy)]
 pub struct Task {
     pub kind: u64,
     pub condition: usize,
@@ -174,7 +174,7 @@ fn task_at(s: &[u8], at: usize, own: usize) -> Task
 }
 
 // A rule's row, and the place after the rule.
-#[derive(Drop)]
+#[derive(Clone, Copy)]
 pub struct RuleRead {
     pub row: [u64; Deck::RULE_ROW],
     pub step: Advance,

@@ -7,7 +7,7 @@ ghost use Rattle.std.specs.Prelude.{◌≡◌};
 ghost use Rattle.expression.specs.Reading.{num_op, truth_op, word, signed};
 
 // What two numbers make a number.
-#[derive(Drop)]
+#[derive(Clone, Copy)]
 pub enum Arith {
     Sum,
     Difference,
@@ -15,21 +15,21 @@ pub enum Arith {
 }
 
 // What two truths make a truth.
-#[derive(Drop)]
+#[derive(Clone, Copy)]
 pub enum Join {
     And,
     Or,
 }
 
 // What two numbers make a truth.
-#[derive(Drop)]
+#[derive(Clone, Copy)]
 pub enum Compare {
     Less,
     Equal,
 }
 
 // The operators of numbers.
-#[derive(Drop)]
+#[derive(Clone, Copy)]
 pub enum NumOp {
     Literal,
     Own,
@@ -40,7 +40,7 @@ pub enum NumOp {
 }
 
 // The operators of truths.
-#[derive(Drop)]
+#[derive(Clone, Copy)]
 pub enum TruthOp {
     Constant(bool),
     Not,
@@ -50,35 +50,35 @@ pub enum TruthOp {
 }
 
 // A number's value and the place after it, or nothing where the bytes are no number.
-#[derive(Drop)]
+#[derive(Clone, Copy)]
 pub enum NumAt {
     Value(i32, usize),
     Nothing,
 }
 
 // A truth's value and the place after it, or nothing where the bytes are no truth.
-#[derive(Drop)]
+#[derive(Clone, Copy)]
 pub enum TruthAt {
     Value(bool, usize),
     Nothing,
 }
 
 // The value of a whole number, or none where the bytes are no number.
-#[derive(Drop)]
+#[derive(Clone, Copy)]
 pub enum NumValue {
     Value(i32),
     None,
 }
 
 // The value of a whole truth, or none where the bytes are no truth.
-#[derive(Drop)]
+#[derive(Clone, Copy)]
 pub enum TruthValue {
     Value(bool),
     None,
 }
 
 // What the search for a fault answers: the place after what was read, or the number and place of its first fault.
-#[derive(Drop)]
+#[derive(Clone, Copy)]
 pub enum Search {
     After(usize),
     Fault(u32, usize),

@@ -15,7 +15,7 @@ use firing_rules::Change;
 const COUNTS: usize = Deck::ASSIGNMENTS + 1;
 
 // The part of an update and the number of its pairs, its charge, up to 65,536, and the channels that it changes, as a set.
-#[derive(Drop)]
+#[derive(Clone, Copy)]
 pub struct Looked {
     pub part: usize,
     pub count: usize,
@@ -58,7 +58,7 @@ fn look(
 }
 
 // What is pending after a commit, and whether the update was applied.
-#[derive(Drop)]
+#[derive(Clone, Copy)]
 pub struct AfterCommit {
     pub queue: Queue,
     pub applied: bool,

@@ -11,7 +11,7 @@ use deck::Deck;
 
 // The places used, those from which an update was taken out among them, the charge of the pending updates, and the capacity that it
 // keeps within; full where a new one would have passed it.
-#[derive(Drop)]
+#[derive(Clone, Copy)]
 pub struct Queue {
     pub used: usize,
     pub charge: u32,

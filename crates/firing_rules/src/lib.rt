@@ -17,7 +17,7 @@ use deck::Deck;
 use firing_queue::Queue;
 
 // A rule at part `from` whose action goes to part `to`.
-#[derive(Drop)]
+#[derive(Clone, Copy)]
 struct Sending {
     rule: usize,
     from: usize,
@@ -100,7 +100,7 @@ fn fire_to(
 }
 
 // A rule's turn at a part: in the first half of the firing it adds to the part itself, in the second half to the others.
-#[derive(Drop)]
+#[derive(Clone, Copy)]
 struct RuleTurn {
     rule: usize,
     part: usize,
@@ -191,7 +191,7 @@ fn fire_rule(
 }
 
 // The rules that have a turn at a part, in one half of the firing.
-#[derive(Drop)]
+#[derive(Clone, Copy)]
 struct FiringHalf {
     part: usize,
     set: u64,
@@ -239,7 +239,7 @@ fn fire_all(
 }
 
 // The rules that are active at a part, as a set.
-#[derive(Drop)]
+#[derive(Clone, Copy)]
 struct Firing {
     part: usize,
     set: u64,
@@ -297,7 +297,7 @@ fn fire_set(
 }
 
 // The channels of a part that changed, as a set.
-#[derive(Drop)]
+#[derive(Clone, Copy)]
 pub struct Change {
     pub part: usize,
     pub channels: u64,

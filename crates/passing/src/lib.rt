@@ -17,7 +17,7 @@ pub const MEMO: usize = Deck::RULES * Deck::PARTS;
 pub const PART_TABLE: usize = Deck::PARTS * Deck::PART_ROW;
 
 // A deck that passes, with the largest charge of its carried rules; or the refusal, 1 to 8 or 18 to 20.
-#[derive(Drop)]
+#[derive(Clone, Copy)]
 pub enum Judged {
     Passing { counts: Deck, charge: u32 },
     Refused { number: u32, place: u32 },

@@ -10,7 +10,7 @@ ghost use Rattle.pool.specs.Moves.{written, moved};
 use deck::Deck;
 
 // A value table, channel c of part p at 32 p + c, and the pending number.
-#[derive(Drop)]
+#[derive(Clone, Copy)]
 pub struct State {
     pub values: [i32; Deck::VALUES],
     pub pending: u32,

@@ -17,7 +17,7 @@ ghost use Rattle.pool_states.specs.Fits.{within};
 use deck::Deck;
 
 // A good state with the charge of its pending updates, or not a good one.
-#[derive(Drop)]
+#[derive(Clone, Copy)]
 pub enum Goodness {
     Good(u32),
     Bad,

@@ -14,7 +14,7 @@ pub const HELD: usize = 50000;
 const LENT: u8 = 7;
 
 // How many bytes the deck in hand has, and how many bytes of output wait.
-#[derive(Drop)]
+#[derive(Clone, Copy)]
 pub struct After {
     pub size: usize,
     pub waiting: usize,

@@ -14,14 +14,14 @@ pub const LONGEST_POOL: usize = 700000;
 const LENT: i32 = 7;
 
 // The state, and the length of the pool that is lent.
-#[derive(Drop)]
+#[derive(Clone, Copy)]
 pub struct Host {
     pub state: State,
     pub length: usize,
 }
 
 // What a line prints, and what it leaves.
-#[derive(Drop)]
+#[derive(Clone, Copy)]
 pub struct Turn {
     pub answer: Answer,
     pub host: Host,

@@ -16,7 +16,7 @@ use replay_text::lines::{Command, KEPT, Line};
 
 // A host between two bytes of its text: its memory but for the deck and the pool, how many bytes the deck has, the line as far as it
 // is read, and how many bytes of output wait to be written.
-#[derive(Drop)]
+#[derive(Clone, Copy)]
 pub struct Progress {
     pub host: Host,
     pub size: usize,
@@ -119,7 +119,7 @@ fn play_bytes(
 }
 
 // What some bytes of the text left, and whether there may be more of them.
-#[derive(Drop)]
+#[derive(Clone, Copy)]
 pub struct Played {
     pub progress: Progress,
     pub more: bool,

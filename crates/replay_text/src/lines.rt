@@ -9,7 +9,7 @@ pub const KEPT: usize = 128;
 const MOST: usize = KEPT + 2;
 
 // A line as far as it is read.
-#[derive(Drop)]
+#[derive(Clone, Copy)]
 pub struct Line {
     // The word: 1, then a digit to the base 256 for each byte, at most seven.
     pub word: u64,
@@ -26,7 +26,7 @@ pub struct Line {
 }
 
 // What a line asks for.
-#[derive(Drop)]
+#[derive(Clone, Copy)]
 pub enum Command {
     Nothing,
     Unreadable,

@@ -1,0 +1,14 @@
+-- `charge_listeners::listeners` meets its contract: the rules that listen to a channel of the mask below `c` are in the set.
+-- Assumes nothing.
+use Prim.Native.Nat.{◌-◌}
+use native.Mathlib.Omega.{arith}
+use Rattle.lists.specs.Laws.Through.{Through, through-next, through_here, through-all}
+use Rattle.lists.specs.Laws.Walks.{Walk, walk_first, walk-on, walk-next}
+use Rattle.charge_listeners.proofs.Columns.{Collected, collected-none, collected-skip, collected-more, collected-all}
+use Rattle.charge_listeners.proofs.listeners.Given as goal
+
+abbrev pub invariant-loop-c : goal.invariant-loop-c
+invariant-loop-c l = Walk l.mask l.left l.c × Through l.mask 32 (Collected l.rules l.mask l.set) l.c
+
+abbrev pub decreases-loop-c : goal.decreases-loop-c
+decreases-loop-c l = 64 - l.c
