@@ -98,7 +98,7 @@ class Function:
             for field, step, path in arm[2] if arm else []:
                 if step == old:
                     fields[tuple(path)] = field
-            self.place[dashed(name)] = (parent and dashed(parent), dashed(old), new, now, fields)
+            self.place[dashed(name)] = (parent and dashed(parent), dashed(old), new, now, fields, arm[0] if arm else new)
             if old:
                 self.anywhere.setdefault(dashed(old), new)
             if callee:
@@ -149,7 +149,7 @@ class Function:
             out = [known[2]]
             for path, field in known[4].items():
                 if tuple(later[: len(path)]) == path:
-                    out.append(field)
+                    out = [known[5], field]
                     later = later[len(path) :]
                     break
         elif dashed(step) in self.anywhere:

@@ -98,6 +98,10 @@ pub record Here {Op : Type 0} (of : ℕ → Op) (sc : Scope) (s : List ℕ) (at 
   pub inside : at < length s
   pub is : op ≡ of (get_or s at 0)
 
+-- the operator of numbers that stands at a place
+pub here : (sc : Scope) (s : List ℕ) (at : ℕ) → at < length s → Here num_op sc s at (num_op (get_or s at 0))
+here sc s at h = record { inside = h; is = refl }
+
 -- which bytes are operations
 pub operation : (b : ℕ) → 3 ≤ b → b < 6 → (k : Arith) × (num_op b ≡ OfNum.Two k)
 operation zero l u = absurd (omega arith)

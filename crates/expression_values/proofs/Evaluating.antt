@@ -2,12 +2,10 @@
 use Prim.Native.Nat.{ℕ, zero, suc, ◌+◌, ◌<◌, ◌≤◌}
 use mathlib.Core.Path.{◌≡◌, refl, ◌∙◌}
 use mathlib.Core.Bool.{Bool, not}
-use mathlib.Core.List.{List, [], ◌∷◌}
+use mathlib.Core.List.{List}
 use native.Mathlib.Omega.{arith as numbers}
 use lib.IntN.{ℤ}
 use lib.ListN.{length, get_or}
-use types.Run.{OneOf, miss}
-use denote.Enum.Declared.{tag_of}
 use Rattle.clamped.specs.Clamp.{negated}
 use Rattle.expression.specs.Syntax.{Num, literal, own, far, two, negation}
 use Rattle.expression.specs.Syntax.{Truth, opposite, both, compared}
@@ -15,10 +13,10 @@ use Rattle.expression.specs.Values.{arith, join, comparison, evaluation}
 use Rattle.expression.specs.Reading.{Read, got, nothing, literal_at, channel_at, num_op, truth_op, num_operands, truth_operands}
 use Rattle.expression.specs.Answers.{map_read, Answers, scope, value_in, num_in, truth_in, num_at, truth_at}
 use Rattle.expression.specs.declared.Arith.{Arith}
+use Rattle.expression.specs.declared.Arith.TheVariants as OfArith
 use Rattle.expression.specs.declared.Join.{Join}
 use Rattle.expression.specs.declared.Compare.{Compare}
 use Rattle.expression.specs.declared.NumOp.{NumOp}
-use Rattle.expression.specs.contracts.NumOp.{the_type}
 use Rattle.expression.specs.declared.NumOp.TheVariants as OfNum
 use Rattle.expression.specs.declared.TruthOp.{TruthOp}
 use Rattle.expression.specs.declared.TruthOp.TheVariants as OfTruth
@@ -118,19 +116,17 @@ module _ {o f : List ℤ} {s : List ℕ} {at : ℕ} {op : NumOp} (h : NumHere o 
     pub as-two-nothing : Answers (num_at o f) s (at + 1) nothing → Answers (num_at o f) s at nothing
     as-two-nothing = without-first (num_at o f) s at h.inside (num_at o f) (arith k) (step-num (OfNum.Two k) e)
 
--- a byte past the leaves that is neither an operation's nor the negation's is no operator's; the numbers are those of the other variants
-abbrev Others : List ℕ
-Others = 0 ∷ 1 ∷ 2 ∷ 5 ∷ []
-
-pub past-leaves : (b : ℕ) → 3 ≤ b → OneOf Others (tag_of the_type (num_op b)) → num_op b ≡ OfNum.Unknown
-past-leaves zero l h = absurd (omega numbers)
-past-leaves (suc zero) l h = absurd (omega numbers)
-past-leaves (suc (suc zero)) l h = absurd (omega numbers)
-past-leaves (suc (suc (suc zero))) l h = absurd (miss Others 3 tt h)
-past-leaves (suc (suc (suc (suc zero)))) l h = absurd (miss Others 3 tt h)
-past-leaves (suc (suc (suc (suc (suc zero))))) l h = absurd (miss Others 3 tt h)
-past-leaves (suc (suc (suc (suc (suc (suc zero)))))) l h = absurd (miss Others 4 tt h)
-past-leaves (suc (suc (suc (suc (suc (suc (suc b))))))) l h = refl
+-- a byte past the leaves that is neither an operation's nor the negation's is no operator's
+pub past-leaves : (b : ℕ) → 3 ≤ b → ((k : Arith) → ¬ (num_op b ≡ OfNum.Two k)) → ¬ (num_op b ≡ OfNum.Negation)
+    → num_op b ≡ OfNum.Unknown
+past-leaves zero l two_not negation_not = absurd (omega numbers)
+past-leaves (suc zero) l two_not negation_not = absurd (omega numbers)
+past-leaves (suc (suc zero)) l two_not negation_not = absurd (omega numbers)
+past-leaves (suc (suc (suc zero))) l two_not negation_not = absurd (two_not OfArith.Sum refl)
+past-leaves (suc (suc (suc (suc zero)))) l two_not negation_not = absurd (two_not OfArith.Difference refl)
+past-leaves (suc (suc (suc (suc (suc zero))))) l two_not negation_not = absurd (two_not OfArith.Product refl)
+past-leaves (suc (suc (suc (suc (suc (suc zero)))))) l two_not negation_not = absurd (negation_not refl)
+past-leaves (suc (suc (suc (suc (suc (suc (suc b))))))) l two_not negation_not = refl
 
 pub record TruthHere (o f : List ℤ) (s : List ℕ) (at : ℕ) (op : TruthOp) : Type 0 where
   pub inside : at < length s
