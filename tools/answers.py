@@ -160,10 +160,17 @@ class Function:
         return self.numbered(out)
 
     def numbered(self, out):
-        for i in range(2, len(out)):
+        """A call's `new` and `auto` were nested pairs, one a parameter."""
+        i = 2
+        while i < len(out):
             parameters = self.calls.get(out[i - 2])
-            if out[i - 1] in ("auto", "new") and parameters and out[i].isdigit() and int(out[i]) < len(parameters):
-                out[i] = parameters[int(out[i])]
+            if out[i - 1] in ("auto", "new") and parameters:
+                end = i
+                while end < len(out) and out[end] == "1":
+                    end += 1
+                if end < len(out) and out[end] == "0" and end - i < len(parameters):
+                    out[i : end + 1] = [parameters[end - i]]
+            i += 1
         return out
 
     def parse(self, text, i, env):
@@ -274,6 +281,9 @@ def invariants(entry, found):
                 meant += [f"l.{v}" for v, c in zip(variables, changed) if c]
                 if len(given) != len(meant):
                     raise ValueError(f"{name}: {given} for {meant}")
+                bound = {w for b in re.findall(r"λ ([^.]*)\.", text) for w in b.split()}
+                for b in sorted(bound & set(given)):
+                    text = re.sub(rf"\(λ {re.escape(b)}\. ([^()]*(?:\([^()]*\)[^()]*)*)\)", lambda m: "(λ k. " + re.sub(rf"(?<![\w.'-]){re.escape(b)}(?![\w₀'-])", "k", m[1]) + ")", text)
                 for g, w in zip(given, meant):
                     text = re.sub(rf"(?<![\w.'-]){re.escape(g)}(?![\w₀'-])", lambda m: w, text)
                 sep = "\n    " if "\n" in text else " "
@@ -293,6 +303,8 @@ def convert(root, crate, folder, key, entry, idents):
             spec = (whole, m.end())
     if spec is None:
         return "no tie.spec"
+    if any(lines[0].startswith("module ") for _, lines in found):
+        return "a module"
     args = arguments(spec[0][spec[1] :])
     args = [a for a in args if not re.match(r"^(invariant|decreases)-", a)]
     needs = entry["needs"]
@@ -319,14 +331,14 @@ def convert(root, crate, folder, key, entry, idents):
             result.append((name, said))
         elif name in named:
             for new in named[name]:
-                clause = re.search(rf"(?m)^{re.escape(name)} (\S+)(?: κs)? =(\s*)", whole)
+                clause = re.search(rf"(?m)^{re.escape(name)} (\S+)(?: κs)?((?: [^\s=]+)*) =(\s*)", whole)
                 opened = [l for l in lines[1:] if l.startswith("unfolding ")]
                 if clause and whole[clause.end() :].strip() in TRIVIAL:
                     continue
                 if not clause:
                     return f"{name} is no clause of one argument"
                 body = f.path(whole[clause.end() :], {clause[1]: (clause[1], where[new])}, where[new])
-                result.append(said + [f"pub {new} : goal.{new}"] + opened + [f"{new} {clause[1]} ={clause[2]}{body}"])
+                result.append(said + [f"pub {new} : goal.{new}"] + opened + [f"{new} {clause[1]}{clause[2]} ={clause[3]}{body}"])
         else:
             result.append(said + [f.types(whole)])
     for (old, new), arg in zip(needs, args):
