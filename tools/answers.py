@@ -116,7 +116,7 @@ class Function:
         if not m:
             return False
         at = re.search(r"tie\.([^\s(){}.;,]+)((?: (?:invariant|decreases)-[^\s(){};,]+)*)", m[2])
-        if not at or at[1].startswith("Need-") or dashed(at[1]) not in self.place or not m[4].split():
+        if not at or at[1].startswith("Need-") or not m[4].split():
             return False
         result = re.fullmatch(r".*→\s*tie\.([^\s(){}.;,]+)(?: (?:invariant|decreases)-[^\s(){};,]+)*\s*", m[2], re.S)
         given = m[4].split()[0]
@@ -197,14 +197,23 @@ class Function:
     def moved(self, root, place, text, end):
         m = re.compile(r"(?:\.[^\s(){}.;,]+)*").match(text, end)
         steps = m[0][1:].split(".") if m[0] else []
-        while steps and steps[0] == "before" and place in self.place:
-            place, steps = self.place[place][0], steps[1:]
+        while steps and steps[0] == "before":
+            place, steps = self.place[place][0] if place in self.place else None, steps[1:]
         return root, place, steps, m.end()
 
     def path(self, text, env, goal):
         """A body in new names: env has the root and the place of each variable, goal is the place of the goal."""
         env, steps_of, out, i = dict(env), {}, "", 0
+        depth, hidden = 0, []
         while i < len(text):
+            depth += {"(": 1, "[": 1, "{": 1, ")": -1, "]": -1, "}": -1}.get(text[i], 0)
+            while hidden and hidden[-1][0] > depth:
+                _, name, value = hidden.pop()
+                env[name] = value
+            if text[i] == "λ":
+                for name in re.compile(r"λ([^.]*)\.").match(text, i)[1].replace("(", " ").split():
+                    if name in env:
+                        hidden.append((depth, name, env.pop(name)))
             m = re.compile(r"let ([^\s(){}:]+) =\s+").match(text, i)
             if m and (i == 0 or not re.match(r"[\w'-]", text[i - 1])):
                 got = self.parse(text, m.end(), env)
@@ -340,15 +349,22 @@ def convert(root, crate, folder, key, entry, idents):
                 body = f.path(whole[clause.end() :], {clause[1]: (clause[1], where[new])}, where[new])
                 result.append(said + [f"pub {new} : goal.{new}"] + opened + [f"{new} {clause[1]}{clause[2]} ={clause[3]}{body}"])
         else:
-            result.append(said + [f.types(whole)])
+            need = name and re.match(rf"{re.escape(name)} : tie\.Need-([^\s]+)[^\n]*\n((?:unfolding [^\n]*\n)?){re.escape(name)} (\S+)(?: κs)? =(\s*)", whole)
+            if need and dashed(need[1]) in f.needs:
+                new = f.needs[dashed(need[1])]
+                body = f.path(whole[need.end() :], {need[3]: (need[3], where[new])}, where[new])
+                result.append(said + [f"{name} : goal.{new}\n{need[2]}{name} {need[3]} ={need[4]}{body}"])
+            else:
+                result.append(said + [f.types(whole)])
+    opened = [l for l in spec[0].split("\n") if l.startswith("unfolding ")]
     for (old, new), arg in zip(needs, args):
         if arg.startswith("("):
-            m = re.match(r"^\(λ ([^.]*)\. (.*)\)$", arg, re.S)
+            m = re.match(r"^\(λ ([^.]*)\.\s+(.*)\)$", arg, re.S)
             if not m:
                 result.append([f"pub {new} : goal.{new}", f"{new} = {f.path(arg, {}, where[new])}"])
-            elif m[2].strip() not in TRIVIAL:
+            elif m[2].strip() not in TRIVIAL or opened and m[2].strip() != "tt":
                 c = m[1].split()[0]
-                result.append([f"pub {new} : goal.{new}", f"{new} {c} = {f.path(m[2], {c: (c, where[new])}, where[new])}"])
+                result.append([f"pub {new} : goal.{new}"] + opened + [f"{new} {c} = {f.path(m[2], {c: (c, where[new])}, where[new])}"])
     done, texts = set(), {}
     while f.used - done:
         for name, goal in sorted(f.used - done):

@@ -8,8 +8,7 @@ use lib.ListN.{get_or}
 use lib.IntN.{ℤ, pos}
 use Rattle.pool_index.specs.Hash.{raised, side_of}
 use Rattle.pool_index.specs.Laws.Ways.{modulo-two}
-use Rattle.pool_index.proofs.side.Statement.{statement}
-use Rattle.pool_index.proofs.side.Tie as tie
+use Rattle.pool_index.proofs.side.Goals as goal
 
 -- the first 32 bits are those of the first value
 side-first : (row : List ℤ) (d : ℕ) → d < 32 → raised (get_or row 3 (pos 0)) / 2 ^ d % 2 ≡ side_of row d
@@ -20,20 +19,10 @@ side-first row d h =
     ap (λ i. raised (get_or row i (pos 0)) / 2 ^ d % 2) (sym number)
     ∙ ap (λ k. raised (get_or row ((d / 32 + 3) % 10) (pos 0)) / 2 ^ k % 2) (sym bit)
 
-first-returns : tie.Need-returns
-first-returns c =
-    let a = c.before.before.args in
-    (ap (λ x. x / 2 ^ a.d % 2) c.raise.ensures.0 ∙ side-first a.row.now a.d c.before.if1.true, modulo-two _)
+pub returns-then-d-lt32 : goal.returns-then-d-lt32
+returns-then-d-lt32 c =
+    let a = c.args in
+    (ap (λ x. x / 2 ^ a.d % 2) c.raise-x.ensures.0 ∙ side-first a.row.now a.d c.if-d-lt32.true, modulo-two _)
 
-pub side-spec : {M : Type 1} → statement M
-unfolding side_of
-side-spec =
-    tie.close
-    (tie.spec
-    (λ c κs. search rules)
-    (λ c. search rules)
-    first-returns
-    (λ c. search rules)
-    (λ c κs. search rules)
-    (λ c. search rules)
-    (λ c. (ap (λ x. x / 2 ^ (c.before.before.args.d % 32) % 2) c.raise2.ensures.0, modulo-two _)))
+pub returns : goal.returns
+returns c = (ap (λ x. x / 2 ^ (c.args.d % 32) % 2) c.raise-y.ensures.0, modulo-two _)
