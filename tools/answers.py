@@ -82,6 +82,26 @@ def dashed(name):
     return name.replace("_", "-")
 
 
+def lifted(found):
+    """A module over one place: each of its members becomes a helper that takes the place."""
+    out = []
+    for said, lines in found:
+        m = re.match(r"^module _ \((\S+) : (tie\.[^()]*)\) where$", lines[0])
+        if not m:
+            out.append((said, lines))
+            continue
+        _, members = blocks("\n".join(l[2:] if l.startswith("  ") else l for l in lines[1:]))
+        names = [HEAD.match(b[0])[2] for _, b in members]
+        for note, body in members:
+            name = HEAD.match(body[0])[2]
+            text = "\n".join(body)
+            head = re.match(rf"((?:(?:pub|abbrev|unfoldable) )*{re.escape(name)}) :(.*?)\n((?:unfolding [^\n]*\n)?){re.escape(name)}(?= )", text, re.S)
+            inner = lambda s: re.sub(r"(?<![\w.'-])(" + "|".join(map(re.escape, names)) + r")(?![\w'-])", lambda k: f"({k[1]} {m[1]})", s)
+            text = f"{head[1]} : ({m[1]} : {m[2]}) →{inner(head[2])}\n{head[3]}{name} {m[1]}{inner(text[head.end() :])}"
+            out.append((said + note if body is members[0][1] else note, text.split("\n")))
+    return out
+
+
 class Function:
     """The old and the new names of one function's goals and of the places and steps that its answers speak of.
 
@@ -312,6 +332,7 @@ def convert(root, crate, folder, key, entry, idents):
             spec = (whole, m.end())
     if spec is None:
         return "no tie.spec"
+    found = lifted(found)
     if any(lines[0].startswith("module ") for _, lines in found):
         return "a module"
     args = arguments(spec[0][spec[1] :])

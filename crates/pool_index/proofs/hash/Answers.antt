@@ -41,12 +41,12 @@ pub overflow_add-result-2 : goal.overflow_add-result-2
 overflow_add-result-2 c = omega (arith, c.factors-third.ensures.1, c.factors-fourth.ensures.1, c.factors-fifth.ensures.1)
 
 pub overflow_add-result-3 : goal.overflow_add-result-3
-overflow_add-result-3 = (λ c.
+overflow_add-result-3 c =
     omega (
       arith,
-      c.before.before.factors3.ensures.1,
-      c.before.factors4.ensures.1,
-      c.factors5.ensures.1,
-      c.before.before.before.before.before.before.factors.ensures.1,
-      c.before.before.before.before.before.factors2.ensures.1,
-    ))
+      c.factors-third.ensures.1,
+      c.factors-fourth.ensures.1,
+      c.factors-fifth.ensures.1,
+      c.factors-first.ensures.1,
+      c.factors.ensures.1,
+    )

@@ -25,4 +25,5 @@ returns-then-d-lt32 c =
     (ap (λ x. x / 2 ^ a.d % 2) c.raise-x.ensures.0 ∙ side-first a.row.now a.d c.if-d-lt32.true, modulo-two _)
 
 pub returns : goal.returns
+unfolding side_of
 returns c = (ap (λ x. x / 2 ^ (c.args.d % 32) % 2) c.raise-y.ensures.0, modulo-two _)
