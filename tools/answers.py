@@ -347,8 +347,8 @@ def convert(root, crate, folder, key, entry, idents):
             if not m:
                 result.append([f"pub {new} : goal.{new}", f"{new} = {f.path(arg, {}, where[new])}"])
             elif m[2].strip() not in TRIVIAL:
-                c = m[1].split()[0]
-                result.append([f"pub {new} : goal.{new}", f"{new} {c} = {f.path(m[2], {c: (c, where[new])}, where[new])}"])
+                c, *more = (x for x in m[1].split() if x != "κs")
+                result.append([f"pub {new} : goal.{new}", f"{' '.join([new, c, *more])} = {f.path(m[2], {c: (c, where[new])}, where[new])}"])
     done, texts = set(), {}
     while f.used - done:
         for name, goal in sorted(f.used - done):
