@@ -144,6 +144,8 @@ class Function:
         """The fields of a path from a place on, in new names."""
         step, later = steps[0], steps[1:]
         known = self.place.get(place)
+        if step[:1].isupper() and dashed(step) not in self.anywhere:
+            step = step[0].lower() + step[1:]
         out = []
         if known and dashed(step) == known[1]:
             out = [known[2]]
@@ -333,7 +335,7 @@ def convert(root, crate, folder, key, entry, idents):
             for new in named[name]:
                 clause = re.search(rf"(?m)^{re.escape(name)} (\S+)(?: κs)?((?: [^\s=]+)*) =(\s*)", whole)
                 opened = [l for l in lines[1:] if l.startswith("unfolding ")]
-                if clause and whole[clause.end() :].strip() in TRIVIAL:
+                if clause and whole[clause.end() :].strip() in TRIVIAL and not opened:
                     continue
                 if not clause:
                     return f"{name} is no clause of one argument"
