@@ -164,6 +164,8 @@ class Function:
         """The fields of a path from a place on, in new names."""
         step, later = steps[0], steps[1:]
         known = self.place.get(place)
+        if step[:1].isupper() and dashed(step) not in self.anywhere:
+            step = step[0].lower() + step[1:]
         out = []
         if known and dashed(step) == known[1]:
             out = [known[2]]
@@ -363,7 +365,7 @@ def convert(root, crate, folder, key, entry, idents):
             for new in named[name]:
                 clause = re.search(rf"(?m)^{re.escape(name)} (\S+)(?: κs)?((?: [^\s=]+)*) =(\s*)", whole)
                 opened = [l for l in lines[1:] if l.startswith("unfolding ")]
-                if clause and whole[clause.end() :].strip() in TRIVIAL:
+                if clause and whole[clause.end() :].strip() in TRIVIAL and not opened:
                     continue
                 if not clause:
                     return f"{name} is no clause of one argument"
@@ -384,8 +386,9 @@ def convert(root, crate, folder, key, entry, idents):
             if not m:
                 result.append([f"pub {new} : goal.{new}", f"{new} = {f.path(arg, {}, where[new])}"])
             elif m[2].strip() not in TRIVIAL or opened and m[2].strip() != "tt":
-                c = m[1].split()[0]
-                result.append([f"pub {new} : goal.{new}"] + opened + [f"{new} {c} = {f.path(m[2], {c: (c, where[new])}, where[new])}"])
+                c, *more = (x for x in m[1].split() if x != "κs")
+                body = f.path(m[2], {c: (c, where[new])}, where[new])
+                result.append([f"pub {new} : goal.{new}"] + opened + [f"{' '.join([new, c, *more])} = {body}"])
     done, texts = set(), {}
     while f.used - done:
         for name, goal in sorted(f.used - done):
