@@ -2,7 +2,6 @@
 use mir.Syntax.{w32}
 use mir.ValLaws.{to_z-of_z}
 use Rattle.replay_text.proofs.Numbers.{from_zero, at_most}
-use borrow.Author.Rules.{rules}
 use Rattle.replay_text.proofs.answers.natural.Goals as goal
 
 pub overflow_cast-result : goal.overflow_cast-result

@@ -1,6 +1,5 @@
 -- `replay_text::lines::word_of` is safe and ends. The measure is what is left of the text. Assumes nothing.
 use Prim.Native.Nat.{◌-◌, ◌≤◌}
-use native.Mathlib.Omega.{arith}
 use lib.ListN.{length}
 use Rattle.replay_text.proofs.lines.word_of.Given as goal
 
