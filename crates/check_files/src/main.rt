@@ -1,24 +1,32 @@
 // For each file that an argument names: prints its name, a space, and the line that `check_deck` prints for it.
 #![tactic(auto)]
 
-use libc::STDOUT_FILENO;
+use std::io::Write;
+use std::rt::{Env, Files};
 
-fn check_file(i: usize) {
-    let mut name = io::buffer();
-    let n = os::arg(i, &mut name);
-    let fd = os::open_read(&name[..n]);
-    if fd < 0 {
-        os::fail(&name[..n]);
-        return;
+// Checks the file that an argument names, and answers whether there is such an argument.
+fn check_file<R: Env + Files, W: Write, E: Write>(
+    rt: &R,
+    i: usize,
+    out: &mut W,
+    err: &mut E,
+) -> bool {
+    let mut name = [0u8; 4096];
+    let Some(n) = descriptors::argument(rt, i, &mut name) else {
+        return false;
+    };
+    if let Some(mut file) = descriptors::open_named(rt, &name[..n], err) {
+        let _ = out.write_all(&name[..n]);
+        let _ = out.write_all(b" ");
+        check_line::report(&mut file, out, err);
     }
-    io::write_all(STDOUT_FILENO, &name[..n]);
-    io::write_all(STDOUT_FILENO, b" ");
-    check_line::report(fd);
-    libc::close(fd);
+    true
 }
 
-fn main() {
-    for i in 1..os::arg_count() {
-        check_file(i);
+fn main(rt: HostRuntime) {
+    for i in 1..usize::MAX {
+        if !check_file(&rt, i, &mut rt.stdout(), &mut rt.stderr()) {
+            return;
+        }
     }
 }

@@ -2,7 +2,7 @@
 use Rattle.std.specs.Prelude.{ℕ, ◌≤◌, ◌≡◌, refl, length}
 use Rattle.std.proofs.Common.{sym, length-take-le}
 use mathlib.Core.List.{List, [], ◌∷◌, ◌++◌, append_assoc, append-nil, flat_map}
-use Rattle.io.specs.Counts.{IsPrefixLen}
+use Rattle.descriptors.specs.Counts.{IsPrefixLen}
 use Rattle.refusals.specs.Outcome.{refused, accepted}
 use Rattle.decimal.specs.Digits.{digits}
 use Rattle.decimal.specs.Put.{Put}

@@ -1,2 +1,3 @@
--- Laws of the line.
+-- What is promised of a report, and laws of the line.
+pub mod Reports
 pub mod Laws

@@ -1,15 +1,19 @@
 // The line that the program prints for a deck. Document 01, "Calls"; specs/Line.antt of `calls` has its definition.
 #![tactic(auto)]
 
-ghost use Rattle.std.specs.Prelude.{◌≡◌, take};
-ghost use Rattle.io.specs.Counts.{IsPrefixLen};
+ghost use Rattle.std.specs.Prelude.{◌≡◌, take, IsTrue, OnOk};
+ghost use Rattle.std.specs.Io.KnownBytes.{Appends};
+ghost use Rattle.descriptors.specs.Counts.{IsPrefixLen};
 ghost use Rattle.calls.specs.Line.{line as Line·line};
 ghost use Rattle.calls.specs.Calls.{check};
 ghost use Rattle.calls.specs.Answers.{check_outcome};
+ghost use Rattle.check_line.specs.Reports.{Reports};
 
 use calls::CheckAnswer;
 use deck::Deck;
 use descriptors::Input;
+use std::io;
+use std::io::{Read, Write};
 
 // Puts the line of an answer at the start of a buffer, and answers its length.
 fn put_line(answer: CheckAnswer, out: &mut [u8; 64]) -> usize
@@ -48,21 +52,30 @@ pub fn check_line(deck: &[u8], out: &mut [u8; 64]) -> usize
 }
 
 // Prints the line of a deck.
-fn print(deck: &[u8]) -> bool {
+fn print<W: Write>(deck: &[u8], out: &mut W) -> io::Result<()>
+    ensures { OnOk result (Appends (W.contents out.old) (W.contents out.new) (Line·line (check deck.now))) }
+{
     let mut text = [0u8; 64];
     let n = check_line(deck, &mut text);
-    io::write_all(libc::STDOUT_FILENO, &text[..n])
+    out.write_all(&text[..n])
 }
 
-// Reads a deck and prints the line of its check. One byte more than the longest deck that can pass already shows the fault.
-// Where a read or a write fails, says so on standard error.
-pub fn report(fd: i32) {
+// Reads a deck and prints the line of its check, and answers whether it did. One byte more than the longest deck that can pass already
+// shows the fault. Where a read or a write fails, says so on `err`.
+pub fn report<R: Read, W: Write, E: Write>(from: &mut R, out: &mut W, err: &mut E) -> bool
+    ensures { IsTrue result → Reports (R.remaining from.old) (W.contents out.old) (W.contents out.new) }
+{
     let mut buf = [0u8; Deck::BYTES + 1];
-    let Input::Bytes(n) = descriptors::read_all(fd, &mut buf) else {
-        os::fail(b"cannot read the deck");
-        return;
+    let n = match descriptors::read_all(from, &mut buf) {
+        Input::Bytes(n) => n,
+        Input::Failed(why) => {
+            let _ = descriptors::fail(err, b"cannot read the deck", &why);
+            return false;
+        }
     };
-    if !print(&buf[..n]) {
-        os::fail(b"cannot write the line");
+    if let Err(why) = print(&buf[..n], out) {
+        let _ = descriptors::fail(err, b"cannot write the line", &why);
+        return false;
     }
+    true
 }

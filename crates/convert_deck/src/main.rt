@@ -3,39 +3,34 @@
 #![tactic(auto)]
 
 ghost use Rattle.std.specs.Prelude.{◌≤◌, length};
-ghost use Rattle.deck.specs.Limits.{limits};
 ghost use Rattle.conversion.specs.Laws.Tests.{Fits};
 
 use conversion::ConvertAnswer;
 use deck::Deck;
 use descriptors::Input;
 use replay_text::answers::Answer;
+use std::io;
+use std::io::{Read, Write};
 
 // Writes the first n bytes.
-fn write_first(fd: i32, bytes: &[u8], n: usize) -> bool
+fn write_first<W: Write>(to: &mut W, bytes: &[u8], n: usize) -> io::Result<()>
     requires { n ≤ length bytes.now }
 {
-    io::write_all(fd, &bytes[..n])
+    to.write_all(&bytes[..n])
 }
 
-fn write_line(text: &[u8; 64], n: usize)
-    requires { n ≤ 64 }
+fn write_deck<W: Write, E: Write>(out: &mut W, err: &mut E, deck: &[u8], n: usize)
+    requires { n ≤ length deck.now }
 {
-    write_first(libc::STDERR_FILENO, text, n);
-}
-
-fn write_deck(deck: &[u8; Deck::BYTES], n: usize)
-    requires { n ≤ limits.deck }
-{
-    if !write_first(libc::STDOUT_FILENO, deck, n) {
-        os::fail(b"cannot write the deck");
+    if let Err(why) = write_first(out, deck, n) {
+        let _ = descriptors::fail(err, b"cannot write the deck", &why);
     }
 }
 
-fn refuse(number: u32, place: u32) {
+fn refuse<E: Write>(err: &mut E, number: u32, place: u32) {
     let mut text = [0u8; 64];
     let n = replay_text::answers::put_answer(Answer::Refused(number, place), &mut text);
-    write_line(&text, n);
+    let _ = write_first(err, &text, n);
 }
 
 fn convert_into(deck: &[u8], new: &mut [u8]) -> ConvertAnswer
@@ -45,21 +40,25 @@ fn convert_into(deck: &[u8], new: &mut [u8]) -> ConvertAnswer
 }
 
 // The conversion of a deck, with as much room as the longest new deck needs.
-fn convert(deck: &[u8]) {
+fn convert<W: Write, E: Write>(deck: &[u8], out: &mut W, err: &mut E) {
     let mut new = [0u8; Deck::BYTES];
-    let made = convert_into(deck, &mut new);
-    match made {
-        ConvertAnswer::Converted { length } => write_deck(&new, length as usize),
-        ConvertAnswer::Refused { number, place } => refuse(number, place),
+    match convert_into(deck, &mut new) {
+        ConvertAnswer::Converted { length } => write_deck(out, err, &new, length as usize),
+        ConvertAnswer::Refused { number, place } => refuse(err, number, place),
     }
 }
 
 // One byte more than the longest old deck already shows the fault.
-fn main() {
+fn convert_from<R: Read, W: Write, E: Write>(from: &mut R, out: &mut W, err: &mut E) {
     let mut old = [0u8; Deck::OLD_BYTES + 1];
-    let Input::Bytes(n) = descriptors::read_all(libc::STDIN_FILENO, &mut old) else {
-        os::fail(b"cannot read the deck");
-        return;
-    };
-    convert(&old[..n]);
+    match descriptors::read_all(from, &mut old) {
+        Input::Bytes(n) => convert(&old[..n], out, err),
+        Input::Failed(why) => {
+            let _ = descriptors::fail(err, b"cannot read the deck", &why);
+        }
+    }
+}
+
+fn main(rt: HostRuntime) {
+    convert_from(&mut rt.stdin(), &mut rt.stdout(), &mut rt.stderr());
 }

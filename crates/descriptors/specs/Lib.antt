@@ -1,2 +1,3 @@
 -- What is promised of reading.
+pub mod Counts
 pub mod Input

@@ -1,40 +1,84 @@
-// Bytes read from a descriptor. What is read is tested and not proved.
+// Bytes read from a reader, files by the names that arguments have, and what is said of a call that failed.
 #![tactic(auto)]
 
-ghost use Rattle.descriptors.specs.Input.{Within};
+ghost use Rattle.std.specs.Prelude.{IfSome};
+ghost use Rattle.descriptors.specs.Counts.{IsPrefixLen};
+ghost use Rattle.descriptors.specs.Input.{Within, Gives, GivesAll};
 
-// How many bytes were read, or that a read failed.
+use std::env::FillError;
+use std::io::{Error, ErrorKind, Read, Write};
+use std::rt::{Env, Files};
+use std::{fs, io};
+
+// How many bytes were read, or why a read failed.
 #[derive(Drop)]
 pub enum Input {
     Bytes(usize),
-    Failed,
+    Failed(Error),
 }
 
 // One read. 0 bytes: the input has ended.
-pub fn read_some(fd: i32, buf: &mut [u8]) -> Input
-    ensures { Within result buf.new }
+pub fn read_some<R: Read>(from: &mut R, buf: &mut [u8]) -> Input
+    ensures within { Within result buf.new }
+    ensures given { Gives (R.remaining from.old) (R.remaining from.new) result buf.new }
 {
-    let got = libc::read(fd, buf);
-    if got < 0 {
-        return Input::Failed;
+    match from.read(buf) {
+        Ok(n) => Input::Bytes(n),
+        Err(e) => Input::Failed(e),
     }
-    Input::Bytes(io::count(got, buf))
 }
 
 // Reads until buf is full or the input ends.
-pub fn read_all(fd: i32, buf: &mut [u8]) -> Input
-    ensures { Within result buf.new }
+pub fn read_all<R: Read>(from: &mut R, buf: &mut [u8]) -> Input
+    ensures within { Within result buf.new }
+    ensures given { GivesAll (R.remaining from.old) (R.remaining from.new) result buf.new }
 {
     let mut done: usize = 0;
     while done < buf.len() {
-        let got = read_some(fd, &mut buf[done..]);
-        let Input::Bytes(n) = got else {
-            return Input::Failed;
-        };
-        if n == 0 {
-            return Input::Bytes(done);
+        match read_some(from, &mut buf[done..]) {
+            Input::Failed(e) => return Input::Failed(e),
+            Input::Bytes(n) => {
+                if n == 0 {
+                    return Input::Bytes(done);
+                }
+                done += n;
+            }
         }
-        done = done + n;
     }
     Input::Bytes(done)
+}
+
+// Writes a line: what failed, a colon and why.
+pub fn fail<W: Write>(to: &mut W, what: &[u8], why: &Error) -> io::Result<()> {
+    to.write_all(what)?;
+    writeln!(to, ": {why}")
+}
+
+// Puts an argument at the start of buf, and answers its length: 0 where it is longer than buf, None where there is no such argument.
+pub fn argument<R: Env>(rt: &R, i: usize, buf: &mut [u8]) -> Option<usize>
+    ensures { IfSome result (λ n. IsPrefixLen n buf.new) }
+{
+    match rt.arg(i, buf) {
+        Ok(n) => Some(n),
+        Err(FillError::TooLong) => Some(0),
+        Err(FillError::NotPresent) => None,
+    }
+}
+
+fn open<R: Files>(rt: &R, name: &[u8]) -> io::Result<R::File> {
+    match str::from_utf8(name) {
+        Ok(path) => fs::open(rt, path),
+        Err(_) => Err(Error::from(ErrorKind::InvalidFilename)),
+    }
+}
+
+// Opens a file for reading; where that fails, says so on `err`. A name that is no text names no file.
+pub fn open_named<R: Files, E: Write>(rt: &R, name: &[u8], err: &mut E) -> Option<R::File> {
+    match open(rt, name) {
+        Ok(file) => Some(file),
+        Err(why) => {
+            let _ = fail(err, name, &why);
+            None
+        }
+    }
 }

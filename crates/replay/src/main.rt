@@ -2,18 +2,17 @@
 // left in memory.
 #![tactic(auto)]
 
-fn main() {
-    let mut name = io::buffer();
-    let n = os::arg(1, &mut name);
-    if n == 0 || os::arg_count() != 2 {
-        io::write_all(libc::STDERR_FILENO, b"usage: replay DECKFILE\n");
+use std::io::Write;
+
+fn main(rt: HostRuntime) {
+    let mut err = rt.stderr();
+    let mut name = [0u8; 4096];
+    let n = descriptors::argument(&rt, 1, &mut name).unwrap_or(0);
+    if n == 0 || descriptors::argument(&rt, 2, &mut []).is_some() {
+        let _ = err.write_all(b"usage: replay DECKFILE\n");
         return;
     }
-    let deck = os::open_read(&name[..n]);
-    if deck < 0 {
-        os::fail(&name[..n]);
-        return;
+    if let Some(mut deck) = descriptors::open_named(&rt, &name[..n], &mut err) {
+        replay_calls::replay(&mut deck, &mut rt.stdin(), rt.stdout(), err);
     }
-    replay_calls::replay(deck, libc::STDIN_FILENO);
-    libc::close(deck);
 }
