@@ -158,7 +158,7 @@ class Function:
     def field(self, step):
         if "-" in step and step.replace("-", "_") in self.idents:
             return step.replace("-", "_")
-        return {"inv": "invariant", "pre": "requires", "post": "ensures", "type-inv": "type_inv", "taken": "true", "left": "false"}.get(step, step)
+        return {"inv": "invariant", "pre": "requires", "post": "ensures", "good": "well_formed", "type-inv": "type_inv", "taken": "true", "left": "false"}.get(step, step)
 
     def rest(self, place, steps):
         """The fields of a path from a place on, in new names."""
@@ -207,7 +207,7 @@ class Function:
         m = NAME.match(text, i)
         if not m:
             return None
-        if m[0] in env:
+        if m[0] in env and not (text[:i].rstrip()[-1:] in "{;" and re.compile(r"\s+=\s").match(text, m.end())):
             return self.moved(*env[m[0]], text, m.end())
         if m[0] in self.walks:
             gap = re.compile(r"\s+").match(text, m.end())
@@ -269,7 +269,11 @@ class Function:
                 continue
             out += text[i]
             i += 1
-        return self.types(out)
+        return self.tests(self.types(out))
+
+    def tests(self, text):
+        """The test of `!f(x)` says what f's answer is: nothing is turned round."""
+        return re.sub(r"not-(?:true|false) [^\s()]+ (\S*\.if-not-[^\s()]+\.(?:true|false))(?![\w.])", r"\1", text)
 
     def cited(self, name, goal):
         self.used.add((name, goal))
@@ -325,7 +329,9 @@ def invariants(entry, found):
 def convert(root, crate, folder, key, entry, idents):
     path = os.path.join(folder, "Proof.antt")
     text = open(path, encoding="utf-8").read()
+    text = re.sub(r"(?<![\w.])lts\.([^\s(){}.;,]+) (?:claims )?reads\.Pre reads\.Post", r"tie.\1", text)
     head, found = blocks(text)
+    head = [l for l in head if not re.match(r"use \S+\.(?:Reads as reads|Lts as lts)$", l)]
     spec = None
     for said, lines in found:
         whole = "\n".join(lines)

@@ -1,0 +1,14 @@
+-- `pool_states::channels_of` meets its contract. The loop's invariant: with the channels of the pairs from number i on, the set is
+-- that of all pairs. Assumes nothing.
+use Prim.Native.Nat.{◌-◌}
+use native.Mathlib.Omega.{arith}
+use Rattle.lists.specs.Laws.Bits.{bit_shifted}
+use Rattle.pool_states.specs.Laws.PairsHeld.{pairs-held}
+use Rattle.pool_states.proofs.Collecting.{Collected, collected-none, collected-low, collected-more, collected-all}
+use Rattle.pool_states.proofs.channels_of.Given as goal
+
+abbrev pub invariant-loop-i : goal.invariant-loop-i
+invariant-loop-i l = Collected l.place l.count l.mask l.i
+
+abbrev pub decreases-loop-i : goal.decreases-loop-i
+decreases-loop-i l = l.count - l.i
