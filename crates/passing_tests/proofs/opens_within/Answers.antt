@@ -1,0 +1,95 @@
+-- `passing_tests::opens_within` meets its contract: the limit's truth on the opening values of the part alone. Assumes nothing.
+use Prim.Native.Nat.{◌+◌, ◌*◌}
+use mathlib.Core.Path.{◌≡◌, refl, sym, ap, ◌∙◌}
+use mathlib.Core.List.{[]}
+use native.Mathlib.Omega.{arith}
+use borrow.Author.Rules.{rules}
+use lib.ListN.{length, get_or}
+use Rattle.expression.specs.Reading.{whole_truth}
+use Rattle.expression.specs.Answers.{scope, truth_in}
+use Rattle.deck.specs.Deck.{part_at}
+use Rattle.passing.specs.Stands.{Stands, stretch}
+use Rattle.passing.specs.Tabled.{deck_of}
+use Rattle.passing.specs.Laws.Opening.{opening-length, known-part, opening-stands, alone-length, alone-opening}
+use Rattle.passing.specs.Laws.Limits.{limit-stands, opens-value}
+use Rattle.passing_tests.proofs.opens_within.Goals as goal
+
+pub open_part-requires : goal.open_part-requires
+open_part-requires c =
+    let a = c.args in
+    let k = c.requires.0.counts in (
+      omega (arith, k.channels, k.formed.channels),
+      (opening-stands a.deck.now a.counts a.parts.now c.requires.0 a.p c.requires.1).1,
+    )
+
+-- the row that is lent to the evaluator
+row-long : (c : goal.After-row-3-1) → length c.open_part.new.stretch ≡ 32
+row-long c =
+    let a = c.args in
+    alone-length a.deck.now a.counts a.parts.now c.requires.0 a.p c.requires.1 _ c.open_part.new.stretch refl
+    c.open_part.ensures
+
+row-opening : (c : goal.After-row-3-1)
+    → let a = c.args in
+    stretch c.open_part.new.stretch 0 a.counts.channels ≡ (part_at (deck_of a.deck.now) a.p).opening
+row-opening c =
+    let a = c.args in
+    alone-opening a.deck.now a.counts a.parts.now c.requires.0 a.p c.requires.1 _ c.open_part.new.stretch refl
+    c.open_part.ensures
+
+row-opening-2 : (c : goal.After-truth_from)
+    → let a = c.args in
+    stretch c.open_part.new.stretch 0 a.counts.channels ≡ (part_at (deck_of a.deck.now) a.p).opening
+row-opening-2 c =
+    let a = c.args in
+    alone-opening a.deck.now a.counts a.parts.now c.requires.0 a.p c.requires.1 _ c.open_part.new.stretch refl
+    c.open_part.ensures
+
+-- its limit stands there, for as many channels
+limit-there : (c : goal.After-row-3-1)
+    → let a = c.args in
+    Stands (whole_truth (scope (length (stretch c.open_part.new.stretch 0 a.counts.channels)) 0)) a.deck.now
+    (get_or a.parts.now (4 * a.p + 2) 0)
+    (part_at (deck_of a.deck.now) a.p).limit
+limit-there c =
+    let a = c.args in
+    let d = deck_of a.deck.now in
+    let lp = known-part a.deck.now a.counts a.parts.now c.requires.0 a.p c.requires.1 in
+    limit-stands a.deck.now a.parts.now d a.p c.requires.0.table lp (stretch c.open_part.new.stretch 0 a.counts.channels)
+    (ap length (row-opening c) ∙ opening-length d c.requires.0.counts.formed a.p lp)
+
+-- its limit stands there, for as many channels
+limit-there-2 : (c : goal.After-truth_from)
+    → let a = c.args in
+    Stands (whole_truth (scope (length (stretch c.open_part.new.stretch 0 a.counts.channels)) 0)) a.deck.now
+    (get_or a.parts.now (4 * a.p + 2) 0)
+    (part_at (deck_of a.deck.now) a.p).limit
+limit-there-2 c =
+    let a = c.args in
+    let d = deck_of a.deck.now in
+    let lp = known-part a.deck.now a.counts a.parts.now c.requires.0 a.p c.requires.1 in
+    limit-stands a.deck.now a.parts.now d a.p c.requires.0.table lp (stretch c.open_part.new.stretch 0 a.counts.channels)
+    (ap length (row-opening-2 c) ∙ opening-length d c.requires.0.counts.formed a.p lp)
+
+pub truth_from-requires : goal.truth_from-requires
+truth_from-requires c =
+    let k = c.requires.0.counts in (
+      omega (arith, row-long c, k.channels, k.formed.channels),
+      omega arith,
+      ((part_at (deck_of c.args.deck.now) c.args.p).limit, limit-there c),
+    )
+
+pub returns : goal.returns
+returns c =
+    let a = c.args in
+    let d = deck_of a.deck.now in
+    let k = c.requires.0.counts in
+    c.truth_from.ensures (part_at d a.p).limit (limit-there-2 c)
+    ∙ ap (λ l. truth_in l [] (part_at d a.p).limit) (row-opening-2 c)
+    ∙ opens-value d a.p k.scoped k.formed (known-part a.deck.now a.counts a.parts.now c.requires.0 a.p c.requires.1)
+
+pub slice_bounds-open_part-end : goal.slice_bounds-open_part-end
+slice_bounds-open_part-end c = refl
+
+pub slice_bounds-truth_from-end : goal.slice_bounds-truth_from-end
+slice_bounds-truth_from-end c = sym (row-long c)
