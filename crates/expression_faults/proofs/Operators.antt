@@ -20,7 +20,8 @@ use Rattle.expression.specs.declared.TruthOp.TheVariants as OfTruth
 use Rattle.expression.specs.declared.Search.{Search}
 use Rattle.expression.specs.declared.Search.TheVariants as Of
 use Rattle.expression.specs.Faults.{Awaited, a_number, aTruth, anOwnChannel, aFarChannel, Judgement, mistyped, asks_for}
-use Rattle.expression.specs.Faults.{if_far_allowed, other_truth, other_number, as_number, as_truth, judgement, Found, sound, faulty, first_fault}
+use Rattle.expression.specs.Faults.{if_far_allowed, other_truth, other_number, as_number, as_truth, judgement}
+use Rattle.expression.specs.Faults.{Found, sound, faulty, first_fault}
 use Rattle.expression.specs.Searching.{Searched, LiteralSearched, ChannelSearched, WholeSearched, refused_at, answer_for}
 use Rattle.expression.specs.Laws.Searches.{none-awaited, by-asking, by-mistyped, by-other-truth, by-other-number, by_two, by_first}
 use Rattle.expression.specs.Laws.Searches.{number-judged, truth-judged, own-judged, far-judged}

@@ -42,7 +42,8 @@ truth_step OfTruth.Unknown at go go_num = nothing
 
 module _ (o f : List ℤ) where
   num-operands : (op : NumOp) (s : List ℕ) (at : ℕ) (go : ℕ → Read Num)
-      → map_read (num_in o f) (num_operands (scope (length o) (length f)) op s at go) ≡ num_step o f op s at (λ n. map_read (num_in o f) (go n))
+      → map_read (num_in o f) (num_operands (scope (length o) (length f)) op s at go)
+      ≡ num_step o f op s at (λ n. map_read (num_in o f) (go n))
   unfolding evaluation
   num-operands OfNum.Literal s at go = map-map (num_in o f) literal (literal_at s at) ∙ map_same (literal_at s at)
   num-operands OfNum.Own s at go = map-map (num_in o f) own (channel_at (length o) s at)
@@ -58,7 +59,8 @@ module _ (o f : List ℤ) where
   truth-operands (OfTruth.Constant b) at go go_num = refl
   truth-operands OfTruth.Not at go go_num = map-one (truth_in o f) (truth_in o f) opposite not (λ t. refl) (go at)
   truth-operands (OfTruth.Both k) at go go_num = map-two (truth_in o f) (truth_in o f) (both k) (join k) (λ t u. refl) (go at) go
-  truth-operands (OfTruth.Two k) at go go_num = map-two (num_in o f) (truth_in o f) (compared k) (comparison k) (λ a b. refl) (go_num at) go_num
+  truth-operands (OfTruth.Two k) at go go_num =
+      map-two (num_in o f) (truth_in o f) (compared k) (comparison k) (λ a b. refl) (go_num at) go_num
   truth-operands OfTruth.Unknown at go go_num = refl
 
   module _ (s : List ℕ) (at : ℕ) where

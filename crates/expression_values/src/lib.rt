@@ -7,7 +7,8 @@ ghost use Rattle.std.specs.Prelude.{◌≡◌, not, ◌-◌, ◌<◌, length, ge
 ghost use Rattle.clamped.specs.Clamp.{negated};
 ghost use Rattle.expression.specs.Values.{arith, join, comparison};
 ghost use Rattle.expression.specs.Reading.{literal_at, channel_at};
-ghost use Rattle.expression.specs.Answers.{map_read, Answers, value_in, num_at, truth_at, of_num, of_truth, whole_num_value, whole_truth_value};
+ghost use Rattle.expression.specs.Answers.{map_read, Answers, value_in, num_at, truth_at, of_num, of_truth};
+ghost use Rattle.expression.specs.Answers.{whole_num_value, whole_truth_value};
 
 use expression::{Arith, Compare, Join, NumAt, NumOp, NumValue, TruthAt, TruthOp, TruthValue};
 

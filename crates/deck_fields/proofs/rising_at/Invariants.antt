@@ -11,7 +11,8 @@ use Rattle.deck_fields.proofs.rising_at.Given as goal
 abbrev pub invariant-loop-i : goal.invariant-loop-i
 invariant-loop-i l =
     (l.i ≤ l.count) × (l.place ≤ length l.s)
-    × Turns (rising l.count 0 l.hi (drop l.at l.s) l.at) (rising (l.count - l.i) l.low l.hi (drop l.place l.s) l.place) (λ cs. l.mask ≡ mask_of cs)
+    × Turns (rising l.count 0 l.hi (drop l.at l.s) l.at)
+    (rising (l.count - l.i) l.low l.hi (drop l.place l.s) l.place) (λ cs. l.mask ≡ mask_of cs)
 
 abbrev pub decreases-loop-i : goal.decreases-loop-i
 decreases-loop-i l = l.count - l.i

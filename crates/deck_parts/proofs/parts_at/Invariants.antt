@@ -12,7 +12,8 @@ use Rattle.deck_parts.proofs.parts_at.Given as goal
 abbrev pub invariant-loop-i : goal.invariant-loop-i
 invariant-loop-i l =
     (l.i ≤ l.count) × (l.place ≤ length l.s) × (length l.table ≡ length l.initial.table)
-    × Turns (repeats l.count (marked_part l.own l.rules) (drop l.at l.s) l.at) (repeats (l.count - l.i) (marked_part l.own l.rules) (drop l.place l.s) l.place)
+    × Turns (repeats l.count (marked_part l.own l.rules) (drop l.at l.s) l.at)
+    (repeats (l.count - l.i) (marked_part l.own l.rules) (drop l.place l.s) l.place)
     (Filled part_row 4 l.i l.initial.table l.table)
 
 abbrev pub decreases-loop-i : goal.decreases-loop-i

@@ -14,12 +14,14 @@ returns-then-s-at t c =
 pub returns-in_default : goal.returns-in_default
 returns-in_default t c =
     let e = c.in_default.is in
-    rw e (as-both-first (record { inside = c.if-s-at.false; is = c.truth_op-op.ensures }) c.in-Both.is (rw e at c.truth_fault-first.ensures))
+    rw e (as-both-first (record { inside = c.if-s-at.false; is = c.truth_op-op.ensures }) c.in-Both.is
+    (rw e at c.truth_fault-first.ensures))
 
 pub returns-in_default-first : goal.returns-in_default-first
 returns-in_default-first t c =
     let e = c.in_default-first.is in
-    rw e (as-compared-first (record { inside = c.if-s-at.false; is = c.truth_op-op.ensures }) c.in-Two.is (rw e at c.num_fault-first.ensures))
+    rw e (as-compared-first (record { inside = c.if-s-at.false; is = c.truth_op-op.ensures }) c.in-Two.is
+    (rw e at c.num_fault-first.ensures))
 
 pub returns-in-Constant : goal.returns-in-Constant
 returns-in-Constant t c =

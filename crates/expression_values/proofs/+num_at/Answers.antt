@@ -23,7 +23,8 @@ returns-in-Nothing t c =
 
 pub returns-in-Negation : goal.returns-in-Negation
 returns-in-Negation t c =
-    as-negation (record { inside = c.if-bytes-at.false; is = c.num_op-op.ensures }) c.in-Negation.is c.num_at-in-Negation.ensures c.negate_at.ensures
+    as-negation (record { inside = c.if-bytes-at.false; is = c.num_op-op.ensures }) c.in-Negation.is
+    c.num_at-in-Negation.ensures c.negate_at.ensures
 
 pub returns-in_default : goal.returns-in_default
 returns-in_default t c =

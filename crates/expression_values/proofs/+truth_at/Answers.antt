@@ -21,7 +21,8 @@ returns-in-Not t c =
 
 pub returns-in-Value : goal.returns-in-Value
 returns-in-Value t c =
-    as-both (record { inside = c.if-bytes-at.false; is = c.truth_op-op.ensures }) c.in-Both.is (rw c.in-Value.is at c.truth_at-in-Both.ensures)
+    as-both (record { inside = c.if-bytes-at.false; is = c.truth_op-op.ensures }) c.in-Both.is
+    (rw c.in-Value.is at c.truth_at-in-Both.ensures)
     c.truth_at-in-Value.ensures c.join_at.ensures
 
 pub returns-in-Nothing : goal.returns-in-Nothing
@@ -32,7 +33,8 @@ returns-in-Nothing t c =
 pub returns-in-Value-num_at : goal.returns-in-Value-num_at
 returns-in-Value-num_at t c =
     let f : SFits w32 c.in-Value-num_at.a = search rules in
-    as-compared (record { inside = c.if-bytes-at.false; is = c.truth_op-op.ensures }) c.in-Two.is (rw c.in-Value-num_at.is at c.num_at.ensures)
+    as-compared (record { inside = c.if-bytes-at.false; is = c.truth_op-op.ensures }) c.in-Two.is
+    (rw c.in-Value-num_at.is at c.num_at.ensures)
     c.num_at-in-Value-num_at.ensures (rw (to_z-of_z w32 _ f) at c.compare_at.ensures)
 
 pub returns-in-Nothing-num_at : goal.returns-in-Nothing-num_at
