@@ -47,10 +47,8 @@ fn print_changed<W: Write, E: Write>(
 fn take(deck: &mut [u8; HELD], buffer: &[u8; HELD], n: usize)
     requires { n ≤ 50000 }
 {
-    let mut i: usize = 0;
-    while i < n {
+    for i in 0..n {
         deck[i] = buffer[i];
-        i += 1;
     }
 }
 

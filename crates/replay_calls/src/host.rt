@@ -45,10 +45,8 @@ pub fn new() -> Host
 fn fill(pool: &mut [i32], n: usize)
     requires { n ≤ length pool.old }
 {
-    let mut i: usize = 0;
-    while i < n {
+    for i in 0..n {
         pool[i] = LENT;
-        i += 1;
     }
 }
 

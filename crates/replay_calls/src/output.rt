@@ -1,5 +1,5 @@
 // Output that waits in a buffer until it is full.
-ghost use Rattle.std.specs.Prelude.{◌+◌, ◌≤◌, length};
+ghost use Rattle.std.specs.Prelude.{◌≡◌, ◌+◌, ◌≤◌, length};
 
 use crate::host::{Host, LONGEST_POOL};
 use deck::Deck;
@@ -57,18 +57,28 @@ impl<W: Write, E: Write> Output<W, E> {
     }
 
     // Writes what waits.
-    fn flush(&mut self) {
+    fn flush(&mut self)
+        ensures { self.new.waiting ≡ 0 }
+    {
         write_first(&mut self.to, &mut self.err, &self.buffer, self.waiting);
         self.waiting = 0;
+    }
+
+    // Makes room for n bytes more.
+    fn make_room(&mut self, n: usize)
+        requires { n ≤ 65536 }
+        ensures { self.new.waiting + n ≤ 65536 }
+    {
+        if ROOM - self.waiting < n {
+            self.flush();
+        }
     }
 
     // Puts the first n bytes of a text behind what waits.
     fn put(&mut self, text: &[u8; 64], n: usize)
         requires { n ≤ 64 }
     {
-        if ROOM - self.waiting < n {
-            self.flush();
-        }
+        self.make_room(n);
         self.waiting = put_part(text, n, &mut self.buffer, self.waiting);
     }
 
