@@ -183,6 +183,9 @@ class Function:
 
     def numbered(self, out):
         """A call's `new` and `auto` were nested pairs, one a parameter."""
+        for i in range(1, len(out)):
+            if out[i - 1] in self.calls:
+                out[i] = {"last": "new", "kept": "auto"}.get(out[i], out[i])
         i = 2
         while i < len(out):
             parameters = self.calls.get(out[i - 2])
@@ -255,7 +258,8 @@ class Function:
             m = NAME.match(text, i)
             if m:
                 name = m[0]
-                if name in self.facts and (i == 0 or text[i - 1] != "."):
+                field = text[:i].rstrip()[-1:] in "{;" and re.compile(r"\s+=\s").match(text, m.end())
+                if name in self.facts and (i == 0 or text[i - 1] != ".") and not field:
                     name = self.cited(name, goal)
                 tail = re.compile(r"(?:\.[^\s(){}.;,]+)+").match(text, m.end())
                 out += name
@@ -360,6 +364,9 @@ def convert(root, crate, folder, key, entry, idents):
         name = HEAD.match(lines[0])[2] if HEAD.match(lines[0]) else None
         if "tie.spec" in "\n".join(lines) or name in taken:
             continue
+        if name in named and f" : tie.Need-" not in lines[0]:
+            for new in named.pop(name):
+                args[[n for _, n in needs].index(new)] = f"(λ c. {name} c)"
         helper = name and name not in named and f.learn(name, lines)
         if not (helper and name in f.walks):
             kept.append((said, lines, name, helper))

@@ -1,0 +1,17 @@
+-- `conversion_bytes::put_numbers` meets its contract. The loop's invariant: the numbers up to the present one are written. Assumes nothing.
+use Prim.Native.Nat.{◌-◌, ◌≤◌, ◌<◌}
+use mathlib.Core.Path.{◌≡◌, sym, ap}
+use native.Mathlib.Omega.{arith}
+use lib.ListN.{length}
+use Rattle.lists.specs.Lists.{from}
+use Rattle.conversion_bytes.specs.Written.{Written}
+use Rattle.conversion_bytes.specs.Laws.Written.{written-length, written_is, written-more, written_none, written-set}
+use Rattle.lists.specs.Laws.Below.{from-length}
+use Rattle.conversion_bytes.specs.Laws.Parts.{from-none, from_next}
+use Rattle.conversion_bytes.proofs.put_numbers.Given as goal
+
+abbrev pub invariant-loop-n : goal.invariant-loop-n
+invariant-loop-n l = (l.first ≤ l.n) × (l.n - l.first ≤ l.end - l.first) × Written l.initial.out l.at (from l.first (l.n - l.first)) l.out l.to
+
+abbrev pub decreases-loop-n : goal.decreases-loop-n
+decreases-loop-n l = l.end - l.n
