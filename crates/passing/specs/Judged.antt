@@ -4,7 +4,6 @@ use Rattle.refusals.specs.Outcome.{refused, accepted}
 use Rattle.refusals.specs.Numbers.{cyclic_graph, overcharged}
 use Rattle.expression.specs.Laws.Bytes.{Bytes}
 use Rattle.deck.specs.declared.Form.{Form}
-use Rattle.deck.specs.Deck.{Deck}
 use Rattle.deck.specs.Layout.{read}
 use Rattle.deck.specs.Shape.{shape}
 use Rattle.deck.specs.Marks.{RulesFit, Marked, marked_sections}

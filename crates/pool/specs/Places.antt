@@ -1,5 +1,5 @@
 -- Document 01, "State and pool": the lent pool as places of ten numbers. Assumes nothing.
-use Rattle.std.specs.Prelude.{ℕ, zero, suc, ◌+◌, ◌*◌, ◌-◌, ◌/◌, Bool, length, get_or, take, drop, replicate, ℤ, pos, nat_abs}
+use Rattle.std.specs.Prelude.{ℕ, zero, suc, ◌*◌, ◌-◌, ◌/◌, Bool, length, get_or, take, drop, replicate, ℤ, pos, nat_abs}
 use mathlib.Core.List.{List, [], ◌∷◌, ◌++◌, map, flat_map}
 use Rattle.lists.specs.Lists.{eq_z, eq_list}
 use Rattle.deck.specs.Limits.{limits}

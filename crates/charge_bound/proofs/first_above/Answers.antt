@@ -1,7 +1,6 @@
 -- `charge_bound::first_above` meets its contract: the largest charge is within the bound, or the search finds the first place
 -- above it. Assumes nothing.
 use mathlib.Core.Path.{refl, sym, ◌∙◌}
-use borrow.Author.Rules.{rules}
 use Rattle.charge_bound.proofs.ByRules.{rules-within}
 use Rattle.charge_bound.proofs.first_above.Goals as goal
 

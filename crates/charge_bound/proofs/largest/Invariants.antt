@@ -1,15 +1,11 @@
 -- `charge_bound::largest` meets its contract. The loop's invariant: most is the largest charge of the carried rules passed, up
 -- to the cap, and the memo is right. Assumes nothing.
 use Prim.Native.Nat.{◌-◌}
-use mathlib.Core.Path.{sym, ◌∙◌}
-use native.Mathlib.Omega.{arith}
-use Rattle.lists.specs.Laws.Through.{Through, through-next, through_here, through-all}
-use Rattle.lists.specs.Laws.Walks.{Walk, walk_first, walk-on, walk-next}
+use Rattle.lists.specs.Laws.Through.{Through}
+use Rattle.lists.specs.Laws.Walks.{Walk}
 use Rattle.deck.specs.Shape.{shape}
 use Rattle.charge.specs.Memo.{Memo}
 use Rattle.charge.specs.Answer.{LargestOfRules}
-use Rattle.charge_tables.specs.Laws.Entries.{row_room}
-use Rattle.charge_bound.proofs.ByRules.{rules-none, rules-skip, rules-more}
 use Rattle.charge_bound.proofs.largest.Given as goal
 
 abbrev pub invariant-loop-r : goal.invariant-loop-r

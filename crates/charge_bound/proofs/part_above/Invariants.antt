@@ -1,20 +1,13 @@
 -- `charge_bound::part_above` meets its contract. The loop's invariant: most is the largest charge at the places passed, and the
 -- memo is right. Assumes nothing.
 use Prim.Native.Nat.{◌+◌, ◌*◌, ◌-◌, ◌<◌, min}
-use mathlib.Core.Path.{◌≡◌, sym, ◌∙◌, subst}
+use mathlib.Core.Path.{◌≡◌}
 use mathlib.Core.Bool.{true}
-use native.Mathlib.Nat.{lt_of_lt_of_le}
-use native.Mathlib.Omega.{arith}
-use lib.ListN.{get_or}
 use Rattle.lists.specs.Bits.{bit}
-use Rattle.lists.specs.Laws.Walks.{Walk, walk_first, walk-on, walk-next}
-use Rattle.deck.specs.Deck.{Deck}
+use Rattle.lists.specs.Laws.Walks.{Walk}
 use Rattle.deck.specs.Shape.{shape}
-use Rattle.charge.specs.Memo.{Memo, AcyclicTables}
+use Rattle.charge.specs.Memo.{Memo}
 use Rattle.charge.specs.Answer.{LargestBelow}
-use Rattle.charge_bound.proofs.Search.{Carried, few_rules, passed-more, passed-above, is-place, passed-next, passed-part}
-use Rattle.charge_listeners.specs.Laws.Listening.{carried-by}
-use Rattle.charge_tables.specs.Laws.Entries.{Column, column-of, row_room, gives-charge}
 use Rattle.charge_bound.proofs.part_above.Given as goal
 
 abbrev pub invariant-loop-r : goal.invariant-loop-r

@@ -1,10 +1,6 @@
 -- `charge_bound::row_largest` meets its contract: most is the largest over the parts passed. Assumes nothing.
 use Prim.Native.Nat.{◌-◌, ◌≤◌}
-use mathlib.Core.Path.{◌≡◌, sym, ◌∙◌, subst}
-use mathlib.Core.Logic.{⊎_elim}
-use native.Mathlib.Omega.{arith}
 use Rattle.charge.specs.Memo.{RowLargest}
-use Rattle.charge_bound.proofs.LargestEntry.{largest-none, largest-yes, largest-no}
 use Rattle.charge_bound.proofs.row_largest.Given as goal
 
 abbrev pub invariant-loop-q : goal.invariant-loop-q

@@ -1,16 +1,9 @@
 -- `charge_bound::search_above` meets its contract. The loop's invariant: best is the largest charge at the parts passed, and
 -- the memo is right. Assumes nothing.
 use Prim.Native.Nat.{◌*◌, ◌-◌, ◌≤◌}
-use mathlib.Core.Path.{◌≡◌, sym, ◌∙◌, subst}
-use native.Mathlib.Omega.{arith}
-use borrow.Author.Rules.{rules}
-use Rattle.deck.specs.Deck.{Deck}
 use Rattle.deck.specs.Shape.{shape}
-use Rattle.deck.specs.Laws.Shape.{counted-N}
 use Rattle.charge.specs.Memo.{Memo}
-use Rattle.charge.specs.Answer.{LargestBelow, PartBound}
-use Rattle.charge.specs.declared.Bound.{Bound}
-use Rattle.charge_bound.proofs.Search.{few_rules, passed_none, passed-all}
+use Rattle.charge.specs.Answer.{LargestBelow}
 use Rattle.charge_bound.proofs.search_above.Given as goal
 
 abbrev pub invariant-loop-p : goal.invariant-loop-p

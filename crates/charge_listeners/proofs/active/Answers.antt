@@ -1,5 +1,4 @@
 -- `charge_listeners::active` meets its contract: of the listeners those that the part carries. Assumes nothing.
-use native.Mathlib.Omega.{arith}
 use Rattle.charge_listeners.specs.Laws.Listening.{is-active}
 use Rattle.charge_listeners.proofs.active.Goals as goal
 

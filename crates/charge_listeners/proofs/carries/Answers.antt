@@ -1,7 +1,6 @@
 -- `charge_listeners::carries` meets its contract: the test is that of a bit. Assumes nothing.
 use mathlib.Core.Path.{refl}
 use Rattle.lists.specs.Bits.{bit}
-use borrow.Author.Rules.{rules}
 use Rattle.charge_listeners.proofs.carries.Goals as goal
 
 pub returns : goal.returns

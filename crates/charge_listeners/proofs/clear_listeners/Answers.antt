@@ -1,7 +1,6 @@
 -- `charge_listeners::clear_listeners` meets its contract: the channels below `c` are done. Assumes nothing.
-use Prim.Native.Nat.{◌≤◌, ◌-◌}
 use native.Mathlib.Omega.{arith}
-use Rattle.charge_listeners.proofs.Columns.{Clearing, clearing-none, clearing-more, clearing-all}
+use Rattle.charge_listeners.proofs.Columns.{clearing-none, clearing-more, clearing-all}
 use Rattle.charge_listeners.proofs.clear_listeners.Goals as goal
 
 pub loop-c-init : goal.loop-c-init

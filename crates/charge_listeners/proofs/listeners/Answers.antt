@@ -1,10 +1,9 @@
 -- `charge_listeners::listeners` meets its contract: the rules that listen to a channel of the mask below `c` are in the set.
 -- Assumes nothing.
-use Prim.Native.Nat.{◌-◌}
 use native.Mathlib.Omega.{arith}
-use Rattle.lists.specs.Laws.Through.{Through, through-next, through_here, through-all}
-use Rattle.lists.specs.Laws.Walks.{Walk, walk_first, walk-on, walk-next}
-use Rattle.charge_listeners.proofs.Columns.{Collected, collected-none, collected-skip, collected-more, collected-all}
+use Rattle.lists.specs.Laws.Through.{through-next, through_here, through-all}
+use Rattle.lists.specs.Laws.Walks.{walk_first, walk-on, walk-next}
+use Rattle.charge_listeners.proofs.Columns.{collected-none, collected-skip, collected-more, collected-all}
 use Rattle.charge_listeners.proofs.listeners.Goals as goal
 
 pub loop-c-init : goal.loop-c-init

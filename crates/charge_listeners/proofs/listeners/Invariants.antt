@@ -1,10 +1,9 @@
 -- `charge_listeners::listeners` meets its contract: the rules that listen to a channel of the mask below `c` are in the set.
 -- Assumes nothing.
 use Prim.Native.Nat.{◌-◌}
-use native.Mathlib.Omega.{arith}
-use Rattle.lists.specs.Laws.Through.{Through, through-next, through_here, through-all}
-use Rattle.lists.specs.Laws.Walks.{Walk, walk_first, walk-on, walk-next}
-use Rattle.charge_listeners.proofs.Columns.{Collected, collected-none, collected-skip, collected-more, collected-all}
+use Rattle.lists.specs.Laws.Through.{Through}
+use Rattle.lists.specs.Laws.Walks.{Walk}
+use Rattle.charge_listeners.proofs.Columns.{Collected}
 use Rattle.charge_listeners.proofs.listeners.Given as goal
 
 abbrev pub invariant-loop-c : goal.invariant-loop-c

@@ -1,12 +1,8 @@
 -- `charge_listeners::note_listeners` meets its contract: the carried rules below `r` are noted. Assumes nothing.
 use Prim.Native.Nat.{◌-◌}
-use mathlib.Core.Path.{◌≡◌, sym, ◌∙◌}
-use native.Mathlib.Omega.{arith}
-use lib.ListN.{length}
-use Rattle.lists.specs.Laws.Through.{Through, through-next, through_here, through-all}
-use Rattle.lists.specs.Laws.Walks.{Walk, walk_first, walk-on, walk-next}
+use Rattle.lists.specs.Laws.Through.{Through}
+use Rattle.lists.specs.Laws.Walks.{Walk}
 use Rattle.charge.specs.Memo.{Noted, OthersKept}
-use Rattle.charge_listeners.proofs.Columns.{kept_same, kept_trans, noted-none, noted-skip, noted_more}
 use Rattle.charge_listeners.proofs.note_listeners.Given as goal
 
 abbrev pub invariant-loop-r : goal.invariant-loop-r

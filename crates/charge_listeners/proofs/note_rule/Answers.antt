@@ -1,10 +1,9 @@
 -- `charge_listeners::note_rule` meets its contract: the rule is noted for the events below `c`. Assumes nothing.
-use Prim.Native.Nat.{◌-◌}
 use native.Mathlib.Omega.{arith}
 use Rattle.lists.specs.Laws.Bits.{bit_shifted}
-use Rattle.lists.specs.Laws.Through.{Through, through-next, through_here, through-all}
-use Rattle.lists.specs.Laws.Walks.{Walk, walk_first, walk-on, walk-next}
-use Rattle.charge_listeners.proofs.Columns.{Noting, noting-none, noting-skip, noting-more, noting-all}
+use Rattle.lists.specs.Laws.Through.{through-next, through_here, through-all}
+use Rattle.lists.specs.Laws.Walks.{walk_first, walk-on, walk-next}
+use Rattle.charge_listeners.proofs.Columns.{noting-none, noting-skip, noting-more, noting-all}
 use Rattle.charge_listeners.proofs.note_rule.Goals as goal
 
 pub loop-c-init : goal.loop-c-init

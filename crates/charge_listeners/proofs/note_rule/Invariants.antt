@@ -1,10 +1,8 @@
 -- `charge_listeners::note_rule` meets its contract: the rule is noted for the events below `c`. Assumes nothing.
 use Prim.Native.Nat.{◌-◌}
-use native.Mathlib.Omega.{arith}
-use Rattle.lists.specs.Laws.Bits.{bit_shifted}
-use Rattle.lists.specs.Laws.Through.{Through, through-next, through_here, through-all}
-use Rattle.lists.specs.Laws.Walks.{Walk, walk_first, walk-on, walk-next}
-use Rattle.charge_listeners.proofs.Columns.{Noting, noting-none, noting-skip, noting-more, noting-all}
+use Rattle.lists.specs.Laws.Through.{Through}
+use Rattle.lists.specs.Laws.Walks.{Walk}
+use Rattle.charge_listeners.proofs.Columns.{Noting}
 use Rattle.charge_listeners.proofs.note_rule.Given as goal
 
 abbrev pub invariant-loop-c : goal.invariant-loop-c

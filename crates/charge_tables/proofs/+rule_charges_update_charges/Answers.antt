@@ -1,7 +1,6 @@
 -- `charge_tables::rule_charges` and `charge_tables::update_charges` meet their contracts. Assumes nothing.
 use Prim.Native.Nat.{ℕ, ◌+◌, ◌*◌, ◌≤◌, ◌<◌, ◌-◌}
 use mathlib.Core.Path.{◌≡◌, refl, sym, ◌∙◌, subst}
-use mathlib.Core.Bool.{true}
 use mathlib.Core.List.{List}
 use native.Mathlib.Omega.{arith}
 use native.Mathlib.Nat.{lt_of_lt_of_le}
@@ -9,7 +8,7 @@ use native.Mathlib.Numerals.{add-one-le}
 use lib.ListN.{get_or}
 use Rattle.lists.specs.Laws.Through.{through-next, through_here, through-all}
 use Rattle.lists.specs.Laws.Walks.{walk_first, walk-on, walk-next}
-use Rattle.charge.specs.Memo.{listening, counts_of}
+use Rattle.charge.specs.Memo.{counts_of}
 use Rattle.charge.specs.Laws.Tables.{entry}
 use Rattle.charge_listeners.specs.Laws.Listening.{is-listener}
 use Rattle.charge_tables.specs.Laws.Entries.{row_room}

@@ -1,11 +1,9 @@
 -- `charge_tables::add_row` meets its contract: the entries passed are added, the others as before. Assumes nothing.
-use Prim.Native.Nat.{◌-◌, ◌≤◌}
 use mathlib.Core.Path.{refl, sym, ◌∙◌}
-use mathlib.Core.Logic.{⊎_elim}
 use native.Mathlib.Numerals.{add-one-dec}
 use native.Mathlib.Omega.{arith}
 use Rattle.charge_tables.specs.Laws.Entries.{Column, column-of}
-use Rattle.charge_tables.proofs.Rows.{Adding, filled_none, as_before, adding-yes, adding-no, adding-all}
+use Rattle.charge_tables.proofs.Rows.{filled_none, as_before, adding-yes, adding-no, adding-all}
 use Rattle.charge_tables.proofs.add_row.Goals as goal
 use Rattle.charge_tables.proofs.add_row.Goals.{then-carries, else-carries}
 

@@ -1,11 +1,6 @@
 -- `charge_tables::add_row` meets its contract: the entries passed are added, the others as before. Assumes nothing.
 use Prim.Native.Nat.{◌-◌, ◌≤◌}
-use mathlib.Core.Path.{refl, sym, ◌∙◌}
-use mathlib.Core.Logic.{⊎_elim}
-use native.Mathlib.Numerals.{add-one-dec}
-use native.Mathlib.Omega.{arith}
-use Rattle.charge_tables.specs.Laws.Entries.{Column, column-of}
-use Rattle.charge_tables.proofs.Rows.{Adding, filled_none, as_before, adding-yes, adding-no, adding-all}
+use Rattle.charge_tables.proofs.Rows.{Adding}
 use Rattle.charge_tables.proofs.add_row.Given as goal
 
 abbrev pub invariant-loop-q : goal.invariant-loop-q

@@ -1,10 +1,8 @@
 -- `charge_tables::row_sum` meets its contract: the entries passed are added up. Assumes nothing.
-use Prim.Native.Nat.{◌+◌, ◌*◌, ◌-◌, ◌≤◌}
-use mathlib.Core.Path.{◌≡◌, sym, ap, ◌∙◌}
-use native.Mathlib.Omega.{arith}
+use Prim.Native.Nat.{◌*◌, ◌-◌, ◌≤◌}
+use mathlib.Core.Path.{◌≡◌}
 use lib.ListN.{get_or}
 use Rattle.lists.specs.Lists.{sum_of, below}
-use Rattle.lists.specs.Laws.Steps.{sum_of-start, sum_of-next}
 use Rattle.charge_tables.proofs.row_sum.Given as goal
 
 abbrev pub invariant-loop-q : goal.invariant-loop-q

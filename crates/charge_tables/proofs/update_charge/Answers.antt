@@ -1,13 +1,13 @@
 -- `charge_tables::update_charge` meets its contract: the charges of the rules passed are added, up to the cap, and the memo is
 -- right. Assumes nothing.
-use Prim.Native.Nat.{ℕ, ◌-◌}
+use Prim.Native.Nat.{ℕ}
 use mathlib.Core.Path.{◌≡◌, refl, sym, ap, ◌∙◌}
 use native.Mathlib.Nat.{lt_of_lt_of_le}
 use native.Mathlib.Omega.{arith}
 use Rattle.lists.specs.Bits.{bit, NextIn}
 use Rattle.lists.specs.Laws.Bits.{bit-zero}
 use Rattle.lists.specs.Laws.Through.{Through, through-next, through_here, through-all}
-use Rattle.lists.specs.Laws.Walks.{Walk, walk_first, walk-on, walk-next}
+use Rattle.lists.specs.Laws.Walks.{walk_first, walk-on, walk-next}
 use Rattle.deck.specs.Shape.{bits_of, shape}
 use Rattle.charge_tables.proofs.Terms.{heard}
 use Rattle.charge_tables.proofs.Sums.{Summing, same, small, none_yet, skip, more}

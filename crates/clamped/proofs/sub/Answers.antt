@@ -1,5 +1,4 @@
 -- `clamped::sub` meets its contract. Assumes nothing.
-use borrow.Author.Rules.{rules}
 use lib.IntN.{◌-ℤ◌}
 use Rattle.clamped.specs.Clamp.{clamping}
 use Rattle.clamped.proofs.Widening.{widens, wide_fits, wide-result, sub-fits}

@@ -1,12 +1,8 @@
 -- `conversion_bytes::action_end` meets its contract. The loop's invariant: i assignments end at the place. Assumes nothing.
-use Prim.Native.Nat.{◌+◌, ◌-◌, ◌≤◌, ◌<◌}
-use native.Mathlib.Omega.{arith}
-use borrow.Author.Rules.{rules}
-use lib.ListN.{length, get_or}
+use Prim.Native.Nat.{◌+◌, ◌-◌, ◌≤◌}
 use Rattle.deck.specs.Deck.{Action}
 use Rattle.deck.specs.Encoding.{encode_assignment, encode_action}
 use Rattle.conversion_bytes.specs.Stands.{Stands, Walked}
-use Rattle.conversion_bytes.specs.Laws.Rules.{action-none, action-next, action-end}
 use Rattle.conversion_bytes.proofs.action_end.Given as goal
 
 abbrev pub invariant-loop-i : goal.invariant-loop-i

@@ -1,6 +1,5 @@
 -- `conversion_bytes::number` meets its contract: the rules stand behind their count. Assumes nothing.
 use native.Mathlib.Omega.{arith}
-use borrow.Author.Rules.{rules}
 use Rattle.conversion_bytes.specs.Laws.Decks.{Sections, sections, rules-listed, numbered}
 use Rattle.conversion_bytes.proofs.number.Goals as goal
 

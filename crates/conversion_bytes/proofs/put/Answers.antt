@@ -1,10 +1,9 @@
 -- `conversion_bytes::put` meets its contract. The invariant: the first i bytes of the bytes are pasted at the place. Assumes nothing.
-use Prim.Native.Nat.{ℕ, ◌+◌, ◌-◌, ◌≤◌, ◌<◌}
+use Prim.Native.Nat.{ℕ, ◌+◌, ◌<◌}
 use mathlib.Core.Path.{◌≡◌, refl, sym, ap, ap₂, ◌∙◌}
 use mathlib.Core.List.{List, ◌++◌}
 use native.Mathlib.Numerals.{add-one}
 use native.Mathlib.Omega.{arith}
-use borrow.Author.Rules.{rules}
 use lib.ListN.{length, take, drop, set, get_or, length-set}
 use lib.Seq.{paste, paste-zero, paste-suc, take_all}
 use Rattle.conversion_bytes.proofs.put.Goals as goal

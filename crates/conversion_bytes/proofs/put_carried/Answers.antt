@@ -1,11 +1,8 @@
 -- `conversion_bytes::put_carried` meets its contract. The loop's invariant: the new numbers of i rules are written. Assumes nothing.
-use mathlib.Core.List.{flat_map}
-use Prim.Native.Nat.{◌+◌, ◌-◌, ◌≤◌, ◌<◌}
+use Prim.Native.Nat.{◌+◌, ◌≤◌, ◌<◌}
 use mathlib.Core.Path.{sym, ap, subst}
 use native.Mathlib.Omega.{arith}
-use borrow.Author.Rules.{rules}
-use lib.ListN.{length, take}
-use Rattle.conversion_bytes.specs.Written.{Written}
+use lib.ListN.{length}
 use Rattle.conversion_bytes.specs.Pieces.{renewed}
 use Rattle.conversion_bytes.specs.Laws.Written.{written-length, written_is, written-first, written_next, written_all, room_next}
 use Rattle.conversion_bytes.proofs.put_carried.Goals as goal

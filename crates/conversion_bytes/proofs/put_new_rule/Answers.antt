@@ -1,6 +1,5 @@
 -- `conversion_bytes::put_new_rule` meets its contract: one stretch after the other. Assumes nothing.
 use mathlib.Core.List.{◌++◌}
-use borrow.Author.Rules.{rules}
 use lib.ListN.{length}
 use Rattle.conversion_bytes.specs.Laws.Written.{written-more, room-first, room-behind}
 use Rattle.conversion_bytes.proofs.put_new_rule.Goals as goal

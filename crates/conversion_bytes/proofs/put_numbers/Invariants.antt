@@ -1,13 +1,7 @@
 -- `conversion_bytes::put_numbers` meets its contract. The loop's invariant: the numbers up to the present one are written. Assumes nothing.
-use Prim.Native.Nat.{◌-◌, ◌≤◌, ◌<◌}
-use mathlib.Core.Path.{◌≡◌, sym, ap}
-use native.Mathlib.Omega.{arith}
-use lib.ListN.{length}
+use Prim.Native.Nat.{◌-◌, ◌≤◌}
 use Rattle.lists.specs.Lists.{from}
 use Rattle.conversion_bytes.specs.Written.{Written}
-use Rattle.conversion_bytes.specs.Laws.Written.{written-length, written_is, written-more, written_none, written-set}
-use Rattle.lists.specs.Laws.Below.{from-length}
-use Rattle.conversion_bytes.specs.Laws.Parts.{from-none, from_next}
 use Rattle.conversion_bytes.proofs.put_numbers.Given as goal
 
 abbrev pub invariant-loop-n : goal.invariant-loop-n

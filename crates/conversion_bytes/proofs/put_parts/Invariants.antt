@@ -1,21 +1,15 @@
 -- `conversion_bytes::put_parts` meets its contract. The loop's invariant: i parts end at the place, and what becomes of them is written.
 -- Assumes nothing.
 use mathlib.Core.List.{flat_map}
-use Prim.Native.Nat.{◌+◌, ◌-◌, ◌≤◌, ◌<◌}
-use mathlib.Core.Path.{◌≡◌, refl, sym, ◌∙◌, subst}
-use native.Mathlib.Omega.{arith}
-use lib.ListN.{length, get_or, take}
-use Rattle.deck.specs.Deck.{Part, Deck}
+use Prim.Native.Nat.{◌-◌, ◌≤◌}
+use mathlib.Core.Path.{◌≡◌}
+use lib.ListN.{length, take}
+use Rattle.deck.specs.Deck.{Deck}
 use Rattle.deck.specs.Encoding.{encode_part}
-use Rattle.deck.specs.Laws.Formed.{formed}
 use Rattle.conversion_bytes.specs.Written.{Written}
 use Rattle.conversion_bytes.specs.Stands.{Walked}
-use Rattle.conversion_bytes.specs.Pieces.{PartStands, new_part_bytes}
+use Rattle.conversion_bytes.specs.Pieces.{new_part_bytes}
 use Rattle.conversion_bytes.specs.Decks.{Numbered, PartsIn}
-use Rattle.conversion_bytes.specs.Laws.Written.{written-length, written_is, written-first, written_next, written_all, room_next}
-use Rattle.conversion_bytes.specs.Laws.Stands.{walked_none, walked_next}
-use Rattle.conversion_bytes.specs.Laws.Parts.{PartStretches, part-stretches, no_part, stretches-part, puts-part}
-use Rattle.conversion_bytes.specs.Laws.Decks.{parts-bytes, its-good, its-stand}
 use Rattle.conversion_bytes.proofs.put_parts.Given as goal
 
 abbrev pub invariant-loop-i : goal.invariant-loop-i

@@ -3,7 +3,6 @@ use Prim.Native.Nat.{ℕ, suc, ◌+◌, ◌-◌, ◌≤◌}
 use mathlib.Core.Path.{◌≡◌, sym, ap, subst}
 use mathlib.Core.List.{List, ◌++◌}
 use native.Mathlib.Omega.{arith}
-use borrow.Author.Rules.{rules}
 use lib.ListN.{length, get_or}
 use Rattle.conversion_bytes.specs.Pieces.{none_bytes, here_bytes, split_bytes}
 use Rattle.conversion_bytes.specs.Laws.Written.{written_is, written-more, room-first, room-behind}

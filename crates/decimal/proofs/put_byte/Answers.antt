@@ -1,6 +1,5 @@
 -- `decimal::put_byte` meets its contract. Assumes nothing.
 use Prim.Native.Nat.{ℕ}
-use borrow.Author.Rules.{rules}
 use mathlib.Core.Path.{ap, ◌∙◌, refl}
 use native.Mathlib.Numerals.{add-one}
 use lib.ListN.{take, set}

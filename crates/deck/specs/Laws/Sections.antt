@@ -8,7 +8,7 @@ use Rattle.lists.specs.Laws.Alls.{all_of-weaken}
 use Rattle.deck.specs.declared.Form.{Form}
 use Rattle.deck.specs.Limits.{limits}
 use Rattle.deck.specs.Deck.{Deck, decks}
-use Rattle.deck.specs.Reader.{number, repeats, readers, label}
+use Rattle.deck.specs.Reader.{repeats, readers, label}
 use Rattle.deck.specs.Layout.{Layout, sections, layouts}
 use Rattle.deck.specs.Encoding.{encode_rule, encode_part, encode_channels, encode_rules, encode_parts, encode, is_label}
 use Rattle.deck.specs.Encoding.{in_range, good_rule, good_part, well_formed, suits_rule, suits}

@@ -5,7 +5,6 @@ use Prim.Native.Nat.{◌-◌}
 use lib.IntN.{negsuc}
 use mir.Syntax.{w32}
 use mir.ValLaws.{to_z_pos}
-use borrow.Author.Rules.{rules}
 use borrow.Author.Tests.{lt-ltb, le-ltb}
 use Rattle.expression.proofs.signed_of.Goals as goal
 

@@ -1,14 +1,13 @@
 -- `firing_actions::evaluate` meets its contract. An action of one assignment is evaluated by `evaluate_one`. The loop's invariant: i
 -- assignments of the action are written, and the others stand at `place`. Assumes nothing.
-use Prim.Native.Nat.{◌+◌, ◌-◌, ◌≤◌, ◌<◌}
-use mathlib.Core.Path.{◌≡◌, refl}
+use Prim.Native.Nat.{◌+◌, ◌<◌}
+use mathlib.Core.Path.{refl}
 use native.Mathlib.Omega.{arith}
 use lib.ListN.{length, get_or}
-use borrow.Author.Rules.{rules}
 use Rattle.expression.specs.Answers.{scope}
 use Rattle.deck.specs.Deck.{Action}
 use Rattle.firing.specs.Laws.Lined.{ActionStands}
-use Rattle.firing.specs.Laws.Written.{Writing, Turn}
+use Rattle.firing.specs.Laws.Written.{Turn}
 use Rattle.firing_actions.proofs.Rows.{Reading, stands-there, row-begun, row-turn, row-turned, row-ended}
 use Rattle.firing_actions.proofs.evaluate.Goals as goal
 

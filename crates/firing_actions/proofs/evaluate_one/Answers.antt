@@ -7,7 +7,6 @@ use lib.ListN.{get_or, set, replicate}
 use lib.IntN.{ℤ, pos}
 use mir.Syntax.{w32}
 use mir.Val.{to_z}
-use borrow.Author.Rules.{rules}
 use Rattle.deck.specs.Deck.{Action}
 use Rattle.firing.specs.Laws.Written.{Turn}
 use Rattle.firing_actions.proofs.Rows.{Reading, row-begun, row-turn, row-turned, row-ended}

@@ -3,7 +3,6 @@ use Prim.Native.Nat.{◌+◌, ◌<◌, ◌≤◌}
 use mathlib.Core.Path.{◌≡◌, refl, sym, subst}
 use mathlib.Core.Bool.{false}
 use native.Mathlib.Omega.{arith}
-use borrow.Author.Rules.{rules}
 use Rattle.pool.specs.Places.{places}
 use Rattle.pool_index.specs.Index.{Indexed, Entering}
 use Rattle.pool_index.specs.Laws.Entering.{roomy-heads, entering-inside, entering-done}

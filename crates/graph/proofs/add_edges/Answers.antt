@@ -1,10 +1,9 @@
 -- `graph::add_edges` meets its contract: the events below `c` are done. Assumes nothing.
 use mathlib.Core.Path.{sym, ◌∙◌}
-use Prim.Native.Nat.{◌-◌}
 use native.Mathlib.Omega.{arith}
-use Rattle.lists.specs.Laws.Walks.{Walk, walk_first, walk-on, walk-next}
-use Rattle.lists.specs.Laws.Through.{Through, through-next, through_here, through-all}
-use Rattle.graph.proofs.Adding.{Adding, adding-none, adding-yes, adding-no, adding-all}
+use Rattle.lists.specs.Laws.Walks.{walk_first, walk-on, walk-next}
+use Rattle.lists.specs.Laws.Through.{through-next, through_here, through-all}
+use Rattle.graph.proofs.Adding.{adding-none, adding-yes, adding-no, adding-all}
 use Rattle.graph.proofs.add_edges.Goals as goal
 
 pub loop-c-init : goal.loop-c-init

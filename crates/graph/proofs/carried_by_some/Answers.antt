@@ -1,5 +1,5 @@
 -- `graph::carried_by_some` meets its contract: the rules that a part below `p` carries are in the set. Assumes nothing.
-use Prim.Native.Nat.{◌*◌, ◌≤◌, ◌-◌}
+use Prim.Native.Nat.{◌*◌}
 use mathlib.Core.Path.{◌≡◌, sym, ap, ◌∙◌}
 use mathlib.Core.Bool.{◌||◌}
 use native.Mathlib.Omega.{arith}
@@ -8,7 +8,7 @@ use Rattle.lists.specs.Lists.{lists}
 use Rattle.lists.specs.Bits.{bit}
 use Rattle.lists.specs.Laws.Bits.{bit-or, bit-zero}
 use Rattle.lists.specs.Laws.Agreement.{any_of-more}
-use Rattle.graph.specs.Masks.{carried_at, CarriedIs}
+use Rattle.graph.specs.Masks.{carried_at}
 use Rattle.graph.proofs.carried_by_some.Goals as goal
 
 pub loop-p-init : goal.loop-p-init

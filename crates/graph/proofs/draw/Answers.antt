@@ -1,10 +1,8 @@
 -- `graph::draw` meets its contract: the edges of the carried rules below `r` are drawn. Assumes nothing.
 use mathlib.Core.Path.{sym, ◌∙◌}
-use Prim.Native.Nat.{◌-◌}
 use native.Mathlib.Omega.{arith}
-use Rattle.lists.specs.Laws.Walks.{Walk, walk_first, walk-on, walk-next}
-use Rattle.lists.specs.Laws.Through.{Through, through-next, through_here, through-all}
-use Rattle.graph.specs.Masks.{Drawn}
+use Rattle.lists.specs.Laws.Walks.{walk_first, walk-on, walk-next}
+use Rattle.lists.specs.Laws.Through.{through-next, through_here, through-all}
 use Rattle.graph.proofs.Drawing.{drawn-skip, drawn-more}
 use Rattle.graph.proofs.draw.Goals as goal
 

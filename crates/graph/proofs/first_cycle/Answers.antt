@@ -1,6 +1,5 @@
 -- `graph::first_cycle` meets its contract: the table has the edges of the shape. Assumes nothing.
 use mathlib.Core.Path.{◌∙◌}
-use borrow.Author.Rules.{rules}
 use Rattle.graph.proofs.Drawing.{drawn-none, drawn-cycle}
 use Rattle.graph.proofs.first_cycle.Goals as goal
 

@@ -1,17 +1,11 @@
 -- `graph::lowest_cycle` meets its contract: no channel below `start` can reach itself, and the rounds made from `start`
 -- have not led back to it. Assumes nothing.
-use mathlib.Core.Path.{◌≡◌}
-use mathlib.Core.Logic.{⊎_elim}
-use mathlib.Core.Bool.{false}
-use Prim.Native.Nat.{ℕ, ◌≤◌, ◌<◌, ◌-◌}
 use native.Mathlib.Omega.{arith}
 use borrow.Author.Count.{below_more}
 use Rattle.lists.specs.Laws.Bits.{bit_shifted}
 use Rattle.lists.specs.Laws.BitTests.{bit-yes, bit-no}
-use Rattle.graph.specs.Graph.{reaches_itself}
-use Rattle.graph.specs.Masks.{edge_at}
 use Rattle.lists.specs.Laws.First.{first-is}
-use Rattle.graph.proofs.Searching.{Searching, searching-none, searching-more, searching-hit, searching-miss, searching-closed}
+use Rattle.graph.proofs.Searching.{searching-none, searching-more, searching-hit, searching-miss, searching-closed}
 use Rattle.graph.proofs.lowest_cycle.Goals as goal
 use Rattle.graph.proofs.lowest_cycle.Goals.{else-loop-round-test, then-loop-round-test+else-next-start-eq1+then-next-seen}
 

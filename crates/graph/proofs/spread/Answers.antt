@@ -1,9 +1,8 @@
 -- `graph::spread` meets its contract: the edges from the channels below `b` are added. Assumes nothing.
-use Prim.Native.Nat.{◌-◌}
 use native.Mathlib.Omega.{arith}
-use Rattle.lists.specs.Laws.Walks.{Walk, walk_first, walk-on, walk-next}
-use Rattle.lists.specs.Laws.Through.{Through, through-next, through_here, through-all}
-use Rattle.graph.proofs.Spreading.{Spreading, spreading-none, spreading-skip, spreading-more, spreading-all}
+use Rattle.lists.specs.Laws.Walks.{walk_first, walk-on, walk-next}
+use Rattle.lists.specs.Laws.Through.{through-next, through_here, through-all}
+use Rattle.graph.proofs.Spreading.{spreading-none, spreading-skip, spreading-more, spreading-all}
 use Rattle.graph.proofs.spread.Goals as goal
 
 pub loop-b-init : goal.loop-b-init

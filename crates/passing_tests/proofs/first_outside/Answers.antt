@@ -1,10 +1,9 @@
 -- `passing_tests::first_outside` meets its contract. The loop's invariant: the parts before p open within their limits. Assumes nothing.
-use Prim.Native.Nat.{ℕ, ◌-◌, ◌≤◌, ◌<◌}
+use Prim.Native.Nat.{ℕ}
 use mathlib.Core.Path.{◌≡◌, sym, ap, ◌∙◌}
 use mathlib.Core.Bool.{Bool, true, false, not}
 use native.Mathlib.Omega.{arith}
 use borrow.Author.Count.{below_more}
-use borrow.Author.Rules.{rules}
 use Rattle.deck.specs.Deck.{Deck, N}
 use Rattle.lists.specs.Laws.First.{first-is}
 use Rattle.passing.specs.Check.{within, opening_values, outside}

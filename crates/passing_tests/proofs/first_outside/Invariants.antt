@@ -1,13 +1,8 @@
 -- `passing_tests::first_outside` meets its contract. The loop's invariant: the parts before p open within their limits. Assumes nothing.
 use Prim.Native.Nat.{ℕ, ◌-◌, ◌≤◌, ◌<◌}
-use mathlib.Core.Path.{◌≡◌, sym, ap, ◌∙◌}
-use mathlib.Core.Bool.{Bool, true, false, not}
-use native.Mathlib.Omega.{arith}
-use borrow.Author.Count.{below_more}
-use borrow.Author.Rules.{rules}
-use Rattle.deck.specs.Deck.{Deck, N}
-use Rattle.lists.specs.Laws.First.{first-is}
-use Rattle.passing.specs.Check.{within, opening_values, outside}
+use mathlib.Core.Path.{◌≡◌}
+use mathlib.Core.Bool.{false, not}
+use Rattle.passing.specs.Check.{within, opening_values}
 use Rattle.passing.specs.Tabled.{deck_of}
 use Rattle.passing_tests.proofs.first_outside.Given as goal
 

@@ -2,7 +2,6 @@
 use mathlib.Core.Path.{refl, sym, ◌∙◌}
 use mathlib.Core.Logic.{inl, inr}
 use native.Mathlib.Omega.{arith}
-use borrow.Author.Rules.{rules}
 use Rattle.passing.specs.Laws.Judged.{above_place, acyclic-tables, cycle-none, memo-zeros, memo-length}
 use Rattle.passing_tests.proofs.judge_rules.Goals as goal
 

@@ -1,6 +1,5 @@
 -- `passing_tests::judge_whole` meets its contract: 6, and then 7 and 8. Assumes nothing.
 use native.Mathlib.Omega.{arith}
-use borrow.Author.Rules.{rules}
 use Rattle.passing.specs.Tabled.{deck_of}
 use Rattle.passing.specs.Laws.Tabled.{tabled-kept}
 use Rattle.passing.specs.Laws.Judged.{parts-known, rules-sized, rules-known, outside-found, outside-none, outside-refused, rules-judged}

@@ -1,6 +1,6 @@
 -- `passing_tests::open_part` meets its contract. The loop's invariant: the first c numbers are the values, and the others are as they
 -- were. Assumes nothing.
-use Prim.Native.Nat.{◌+◌, ◌*◌, ◌-◌, ◌≤◌, ◌<◌}
+use Prim.Native.Nat.{◌+◌, ◌*◌, ◌<◌}
 use mathlib.Core.Path.{◌≡◌, refl, sym, ap, ◌∙◌}
 use mathlib.Core.List.{List, ◌++◌}
 use native.Mathlib.Nat.{zero-add}
@@ -11,7 +11,6 @@ use lib.ListN.{length, take, drop, get_or, length-set}
 use lib.Seq.{take-length, paste-suc}
 use mir.Syntax.{w32}
 use mir.ValLaws.{to_z-of_z}
-use borrow.Author.Rules.{rules}
 use Rattle.expression.specs.Reading.{signed}
 use Rattle.passing.specs.Stands.{values_from}
 use Rattle.passing.specs.Laws.Stands.{values_length, values-at, value-is}

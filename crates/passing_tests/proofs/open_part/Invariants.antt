@@ -1,20 +1,10 @@
 -- `passing_tests::open_part` meets its contract. The loop's invariant: the first c numbers are the values, and the others are as they
 -- were. Assumes nothing.
-use Prim.Native.Nat.{◌+◌, ◌*◌, ◌-◌, ◌≤◌, ◌<◌}
-use mathlib.Core.Path.{◌≡◌, refl, sym, ap, ◌∙◌}
-use mathlib.Core.List.{List, ◌++◌}
-use native.Mathlib.Nat.{zero-add}
-use native.Mathlib.Numerals.{add-one}
-use native.Mathlib.Omega.{arith}
-use lib.IntN.{ℤ, pos}
-use lib.ListN.{length, take, drop, get_or, length-set}
-use lib.Seq.{take-length, paste-suc}
-use mir.Syntax.{w32}
-use mir.ValLaws.{to_z-of_z}
-use borrow.Author.Rules.{rules}
-use Rattle.expression.specs.Reading.{signed}
+use Prim.Native.Nat.{◌-◌, ◌≤◌}
+use mathlib.Core.Path.{◌≡◌}
+use mathlib.Core.List.{◌++◌}
+use lib.ListN.{length, take, drop}
 use Rattle.passing.specs.Stands.{values_from}
-use Rattle.passing.specs.Laws.Stands.{values_length, values-at, value-is}
 use Rattle.passing_tests.proofs.open_part.Given as goal
 
 abbrev pub invariant-loop-c : goal.invariant-loop-c

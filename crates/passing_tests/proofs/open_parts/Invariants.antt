@@ -1,16 +1,9 @@
 -- `passing_tests::open_parts` meets its contract. The loop's invariant: the first p parts have their opening values. Assumes nothing.
-use Prim.Native.Nat.{ℕ, ◌+◌, ◌*◌, ◌-◌, ◌≤◌, ◌<◌}
-use mathlib.Core.Path.{◌≡◌, refl, sym, ap, ap₂, ◌∙◌}
-use mathlib.Core.List.{List, ◌++◌}
-use native.Mathlib.Omega.{arith}
-use borrow.Author.Rules.{rules}
-use lib.ListN.{length, take, drop, length-take, length-drop}
-use lib.IntN.{ℤ}
-use Rattle.deck.specs.Deck.{N}
-use Rattle.pool.specs.Places.{zeros}
-use Rattle.passing.specs.Tabled.{deck_of, PartsKnown}
-use Rattle.passing.specs.Laws.Opening.{zeros-length, open_to, open_none, open-length, open_next, open-all, known-part, opening-stands}
-use Rattle.deck.specs.declared.Deck as Counted
+use Prim.Native.Nat.{◌-◌, ◌≤◌}
+use mathlib.Core.Path.{◌≡◌}
+use lib.ListN.{length}
+use Rattle.passing.specs.Tabled.{deck_of}
+use Rattle.passing.specs.Laws.Opening.{open_to}
 use Rattle.deck.specs.Laws.Formed.{Formed}
 use Rattle.passing_tests.proofs.open_parts.Given as goal
 

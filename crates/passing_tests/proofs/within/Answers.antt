@@ -3,7 +3,6 @@ use Prim.Native.Nat.{◌+◌, ◌*◌, ◌≤◌, ◌<◌}
 use mathlib.Core.Path.{◌∙◌}
 use native.Mathlib.Omega.{arith}
 use native.Mathlib.Nat.{add-sub_cancel_left}
-use borrow.Author.Rules.{rules}
 use lib.ListN.{length}
 use Rattle.deck.specs.Deck.{R, N, part_at}
 use Rattle.passing.specs.Tabled.{deck_of}

@@ -1,6 +1,6 @@
 -- `pool::both_zero` meets its contract. The loop's invariant, for each list: no bit is set so far and the numbers from i on are zeros
 -- exactly if all are. Assumes nothing.
-use Prim.Native.Nat.{ℕ, ◌≤◌, ◌-◌}
+use Prim.Native.Nat.{ℕ}
 use mathlib.Core.Path.{◌≡◌, refl, ap₂, ◌∙◌}
 use mathlib.Core.Bool.{◌&&◌}
 use native.Mathlib.Omega.{arith}
@@ -10,9 +10,7 @@ use lib.IntN.{ℤ, pos}
 use mir.Syntax.{w32}
 use mir.Val.{Fits, SFits, of_z, to_z}
 use Rattle.std.proofs.Math.Facts.{of_z-to_z, Fits-or, Fits-of_z}
-use lib.ListN.{drop, get_or}
-use Rattle.lists.specs.Lists.{all_of}
-use Rattle.pool.specs.Places.{is_zero}
+use lib.ListN.{get_or}
 use Rattle.pool.proofs.Scanning.{or-none, zero_turn, zero-end}
 use Rattle.pool.proofs.both_zero.Goals as goal
 

@@ -1,16 +1,14 @@
 -- `pool::both_zero` meets its contract. The loop's invariant, for each list: no bit is set so far and the numbers from i on are zeros
 -- exactly if all are. Assumes nothing.
 use Prim.Native.Nat.{◌≤◌, ◌-◌}
-use mathlib.Core.Path.{◌≡◌, refl, ap₂, ◌∙◌}
+use mathlib.Core.Path.{◌≡◌}
 use mathlib.Core.Bool.{◌&&◌}
-use native.Mathlib.Omega.{arith}
 use lib.Dec.{eqb}
 use mir.Syntax.{w32}
 use mir.Val.{of_z}
 use lib.ListN.{drop}
 use Rattle.lists.specs.Lists.{all_of}
 use Rattle.pool.specs.Places.{is_zero}
-use Rattle.pool.proofs.Scanning.{or-none, zero_turn, zero-end}
 use Rattle.pool.proofs.both_zero.Given as goal
 
 abbrev pub invariant-loop-i : goal.invariant-loop-i

@@ -1,10 +1,8 @@
 -- `pool::clear` meets its contract. The loop's invariant: the first i numbers are zeros, and the others are as they were.
 -- Assumes nothing.
-use Prim.Native.Nat.{◌≤◌, ◌-◌}
-use mathlib.Core.Path.{◌≡◌, refl, ap, ◌∙◌}
-use mathlib.Core.List.{◌++◌}
+use mathlib.Core.Path.{refl, ap, ◌∙◌}
 use native.Mathlib.Omega.{arith}
-use lib.ListN.{length, drop, set, length-set}
+use lib.ListN.{set, length-set}
 use lib.IntN.{pos}
 use Rattle.pool.specs.Places.{zeros}
 use Rattle.pool.proofs.Writing.{zeros-next, zeros-all}

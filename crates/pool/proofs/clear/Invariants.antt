@@ -1,13 +1,10 @@
 -- `pool::clear` meets its contract. The loop's invariant: the first i numbers are zeros, and the others are as they were.
 -- Assumes nothing.
 use Prim.Native.Nat.{◌≤◌, ◌-◌}
-use mathlib.Core.Path.{◌≡◌, refl, ap, ◌∙◌}
+use mathlib.Core.Path.{◌≡◌}
 use mathlib.Core.List.{◌++◌}
-use native.Mathlib.Omega.{arith}
-use lib.ListN.{length, drop, set, length-set}
-use lib.IntN.{pos}
+use lib.ListN.{length, drop}
 use Rattle.pool.specs.Places.{zeros}
-use Rattle.pool.proofs.Writing.{zeros-next, zeros-all}
 use Rattle.pool.proofs.clear.Given as goal
 
 abbrev pub invariant-loop-i : goal.invariant-loop-i

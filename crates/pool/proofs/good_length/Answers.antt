@@ -1,7 +1,6 @@
 -- `pool::good_length` meets its contract. Assumes nothing.
 use mathlib.Core.Path.{sym}
 use native.Mathlib.Omega.{arith}
-use borrow.Author.Rules.{rules}
 use Rattle.pool.specs.Laws.Lengths.{length-low, length_high, length-mid}
 use Rattle.pool.proofs.good_length.Goals as goal
 

@@ -1,12 +1,11 @@
 -- `pool::move_down` meets its contract. The loop's invariant: the first i numbers are moved. Assumes nothing.
-use Prim.Native.Nat.{◌+◌, ◌≤◌, ◌<◌, ◌-◌}
+use Prim.Native.Nat.{◌+◌, ◌<◌}
 use mathlib.Core.Path.{◌≡◌, refl, ◌∙◌}
 use native.Mathlib.Omega.{arith}
 use lib.ListN.{length, drop, length-set}
 use lib.Seq.{paste-zero}
 use mir.Syntax.{w32}
 use mir.ValLaws.{to_z-of_z}
-use Rattle.pool.specs.Moves.{moved}
 use Rattle.pool.proofs.Writing.{moved-next}
 use Rattle.pool.proofs.move_down.Goals as goal
 

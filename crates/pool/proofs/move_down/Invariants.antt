@@ -1,13 +1,8 @@
 -- `pool::move_down` meets its contract. The loop's invariant: the first i numbers are moved. Assumes nothing.
-use Prim.Native.Nat.{◌+◌, ◌≤◌, ◌<◌, ◌-◌}
-use mathlib.Core.Path.{◌≡◌, refl, ◌∙◌}
-use native.Mathlib.Omega.{arith}
-use lib.ListN.{length, drop, length-set}
-use lib.Seq.{paste-zero}
-use mir.Syntax.{w32}
-use mir.ValLaws.{to_z-of_z}
+use Prim.Native.Nat.{◌≤◌, ◌-◌}
+use mathlib.Core.Path.{◌≡◌}
+use lib.ListN.{length}
 use Rattle.pool.specs.Moves.{moved}
-use Rattle.pool.proofs.Writing.{moved-next}
 use Rattle.pool.proofs.move_down.Given as goal
 
 abbrev pub invariant-loop-i : goal.invariant-loop-i

@@ -1,6 +1,5 @@
 -- `pool::push` meets its contract: the tail that was lent to the writer is back in the pool. Assumes nothing.
 use Prim.Native.Nat.{ℕ, ◌*◌}
-use borrow.Author.Rules.{rules}
 use Rattle.pool.proofs.Writing.{lent_written}
 use Rattle.pool.proofs.push.Goals as goal
 

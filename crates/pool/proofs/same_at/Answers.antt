@@ -1,12 +1,10 @@
 -- `pool::same_at` meets its contract. The loop's invariant: the numbers from i on are equal exactly if all are. Assumes
 -- nothing.
-use Prim.Native.Nat.{◌≤◌, ◌-◌}
-use mathlib.Core.Path.{◌≡◌, refl, sym, ap, ◌∙◌}
+use mathlib.Core.Path.{refl, sym, ap, ◌∙◌}
 use native.Mathlib.Omega.{arith}
 use lib.ListN.{take, drop}
 use mir.Syntax.{w32}
 use mir.Val.{of_z}
-use Rattle.lists.specs.Lists.{eq_z, eq_list}
 use Rattle.pool.proofs.Scanning.{bits-same, same_next, same_stop, same_end, place-size, place_at}
 use Rattle.pool.proofs.same_at.Goals as goal
 

@@ -2,13 +2,10 @@
 -- are in
 -- the first `to` places. Assumes nothing.
 use Prim.Native.Nat.{◌+◌, ◌*◌, ◌-◌, ◌≤◌}
-use mathlib.Core.Path.{◌≡◌, refl, sym, ◌∙◌}
+use mathlib.Core.Path.{◌≡◌}
 use native.Mathlib.Omega.{arith}
 use lib.ListN.{length}
-use mir.Syntax.{w64}
-use mir.Val.{Fits}
-use borrow.Author.Rules.{rules}
-use Rattle.pool_holes.specs.Laws.Gathering.{Passing, passing-starts, passing-low, passing-next, passing-room, moved-low, passing-ends}
+use Rattle.pool_holes.specs.Laws.Gathering.{passing-starts, passing-low, passing-next, passing-room, moved-low, passing-ends}
 use Rattle.pool_holes.proofs.gather.Goals as goal
 
 -- behind the loop

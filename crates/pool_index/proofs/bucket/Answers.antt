@@ -2,7 +2,6 @@
 use Prim.Native.Nat.{◌*◌, ◌/◌, ◌%◌}
 use mathlib.Core.Path.{ap}
 use native.Mathlib.Omega.{arith}
-use borrow.Author.Rules.{rules}
 use Rattle.pool_index.specs.Hash.{bucket_of}
 use Rattle.pool_index.specs.Laws.Entering.{bucket-low}
 use Rattle.pool_index.proofs.Hashing.{product-fits}

@@ -2,7 +2,6 @@
 use Prim.Native.Nat.{◌+◌, ◌*◌, ◌≤◌}
 use mathlib.Core.Path.{ap₂}
 use native.Mathlib.Omega.{arith}
-use borrow.Author.Rules.{rules}
 use Rattle.pool_index.specs.Hash.{factored}
 use Rattle.pool_index.proofs.Hashing.{product-low}
 use Rattle.pool_index.proofs.factors.Goals as goal

@@ -1,12 +1,7 @@
 -- `pool_index::find` meets its contract. The loop's invariant: the way from the slot in hand is the rest of the whole way, and comes to
 -- each
 -- place that has these numbers. Assumes nothing.
-use Prim.Native.Nat.{ℕ, suc, ◌+◌, ◌*◌, ◌-◌, ◌/◌, ◌<◌}
-use native.Mathlib.Omega.{arith}
-use lib.ListN.{length}
-use Rattle.pool_index.specs.Index.{heads_of}
-use Rattle.pool_index.proofs.Searching.{Searching, steps, searching-starts, searching-ends, step_is, step-inside, searching-less}
-use Rattle.pool_index.proofs.Searching.{searching-few, searching-low, searching-found, searching-next}
+use Rattle.pool_index.proofs.Searching.{Searching, steps}
 use Rattle.pool_index.proofs.find.Given as goal
 
 abbrev pub invariant-loop-i : goal.invariant-loop-i

@@ -3,7 +3,6 @@
 use Prim.Native.Nat.{◌+◌}
 use mathlib.Core.Path.{◌≡◌, ap₂, ◌∙◌}
 use native.Mathlib.Omega.{arith}
-use borrow.Author.Rules.{rules}
 use Rattle.pool_index.specs.Hash.{factored}
 use Rattle.pool_index.proofs.Hashing.{one-pair, more-pairs}
 use Rattle.pool_index.proofs.hash.Goals as goal

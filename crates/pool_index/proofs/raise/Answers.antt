@@ -2,7 +2,6 @@
 use mathlib.Core.Path.{ap}
 use lib.ListN.{get_or}
 use lib.IntN.{pos, nat_abs}
-use borrow.Author.Rules.{rules}
 use Rattle.pool_index.proofs.Raising.{raised-small, widens, sum_fits, sum_back, sum-natural}
 use Rattle.pool_index.proofs.raise.Goals as goal
 

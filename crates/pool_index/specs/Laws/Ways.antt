@@ -1,5 +1,5 @@
 -- Ways down the trees of an index, when a free slot is written. Assumes nothing.
-use Rattle.std.specs.Prelude.{ℕ, suc, ◌%◌, ◌≤◌, ◌<◌, ◌≡◌, ◌⊎◌, List, length, get_or, set, ℤ}
+use Rattle.std.specs.Prelude.{ℕ, suc, ◌%◌, ◌≤◌, ◌<◌, ◌≡◌, List, length, get_or, set, ℤ}
 use Rattle.std.proofs.Common.{ap, ◌∙◌, ⊎_elim, arith, get_or-set_same, get_or-set_other}
 use Rattle.pool_index.specs.Hash.{side_of}
 use Rattle.pool_index.specs.Index.{slot_of, owner_of, Leads, here, down, Ends, free, past, Ordered}

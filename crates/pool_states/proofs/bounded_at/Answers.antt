@@ -1,5 +1,4 @@
 -- `pool_states::bounded_at` meets its contract: a signed number is split by its sign. Assumes nothing.
-use borrow.Author.Rules.{rules}
 use lib.ListN.{get_or}
 use lib.IntN.{ℤ, pos}
 use mir.Syntax.{w32}

@@ -1,12 +1,12 @@
 -- `pool_states::channels_fit` meets its contract. The loop's invariant: the answer for the pairs from number i on, with the
 -- channels passed as a set, is the answer for all, and with their channels the set is that of all. Assumes nothing.
-use Prim.Native.Nat.{◌+◌, ◌*◌, ◌-◌, ◌<◌, ◌≤◌}
-use mathlib.Core.Path.{◌≡◌, sym, ap, ◌∙◌}
+use Prim.Native.Nat.{◌+◌, ◌*◌, ◌-◌, ◌<◌}
+use mathlib.Core.Path.{sym, ap, ◌∙◌}
 use native.Mathlib.Omega.{arith}
 use lib.ListN.{get_or, drop, length-drop}
 use lib.IntN.{pos}
 use lib.Bits.{bit_or}
-use Rattle.lists.specs.Bits.{mask_from, mask_of}
+use Rattle.lists.specs.Bits.{mask_from}
 use Rattle.lists.specs.Laws.Bits.{bit_shifted}
 use Rattle.lists.specs.Laws.BitTests.{bit-yes, bit-no}
 use Rattle.pool_states.specs.Fits.{channels_of, channels_fit}

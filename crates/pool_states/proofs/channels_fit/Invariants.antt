@@ -1,18 +1,10 @@
 -- `pool_states::channels_fit` meets its contract. The loop's invariant: the answer for the pairs from number i on, with the
 -- channels passed as a set, is the answer for all, and with their channels the set is that of all. Assumes nothing.
-use Prim.Native.Nat.{◌+◌, ◌*◌, ◌-◌, ◌<◌, ◌≤◌}
-use mathlib.Core.Path.{◌≡◌, sym, ap, ◌∙◌}
-use native.Mathlib.Omega.{arith}
-use lib.ListN.{get_or, drop, length-drop}
-use lib.IntN.{pos}
-use lib.Bits.{bit_or}
+use Prim.Native.Nat.{◌+◌, ◌*◌, ◌-◌, ◌≤◌}
+use mathlib.Core.Path.{◌≡◌}
+use lib.ListN.{drop}
 use Rattle.lists.specs.Bits.{mask_from, mask_of}
-use Rattle.lists.specs.Laws.Bits.{bit_shifted}
-use Rattle.lists.specs.Laws.BitTests.{bit-yes, bit-no}
 use Rattle.pool_states.specs.Fits.{channels_of, channels_fit}
-use Rattle.pool_states.proofs.Turns.{fit-start, fit_next, fit_wide, fit-twice, fit-end, set-start, set_next, set-end, within-most}
-use Rattle.pool_states.proofs.Deciding.{none-fit, channels-set}
-use Rattle.pool_states.proofs.bounded_at.Reads as bounded-at-reads
 use Rattle.pool_states.proofs.channels_fit.Given as goal
 
 abbrev pub invariant-loop-i : goal.invariant-loop-i

@@ -1,10 +1,7 @@
 -- `pool_states::channels_of` meets its contract. The loop's invariant: with the channels of the pairs from number i on, the set is
 -- that of all pairs. Assumes nothing.
 use Prim.Native.Nat.{◌-◌}
-use native.Mathlib.Omega.{arith}
-use Rattle.lists.specs.Laws.Bits.{bit_shifted}
-use Rattle.pool_states.specs.Laws.PairsHeld.{pairs-held}
-use Rattle.pool_states.proofs.Collecting.{Collected, collected-none, collected-low, collected-more, collected-all}
+use Rattle.pool_states.proofs.Collecting.{Collected}
 use Rattle.pool_states.proofs.channels_of.Given as goal
 
 abbrev pub invariant-loop-i : goal.invariant-loop-i

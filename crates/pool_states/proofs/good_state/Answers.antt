@@ -2,8 +2,6 @@
 use mathlib.Core.Path.{◌≡◌, refl, sym, ◌∙◌}
 use mathlib.Core.Bool.{true, ◌&&◌}
 use native.Mathlib.Omega.{arith}
-use borrow.Author.Rules.{rules}
-use borrow.Author.Tests.{not-true, not-false}
 use Rattle.deck.specs.Deck.{Deck}
 use Rattle.deck.specs.Shape.{shape}
 use Rattle.deck.specs.Laws.Shape.{counted-R, counted-N}

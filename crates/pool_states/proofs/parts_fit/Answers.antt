@@ -1,13 +1,9 @@
 -- `pool_states::parts_fit` meets its contract. The loop's invariant: the answer for the parts from p on is the answer for all.
 -- Assumes nothing.
-use Prim.Native.Nat.{◌*◌, ◌-◌, ◌≤◌}
+use Prim.Native.Nat.{◌*◌}
 use mathlib.Core.Bool.{not}
-use mathlib.Core.Path.{◌≡◌, refl, sym, ap, ◌∙◌}
+use mathlib.Core.Path.{refl, sym, ap, ◌∙◌}
 use native.Mathlib.Omega.{arith}
-use borrow.Author.Rules.{rules}
-use lib.ListN.{drop}
-use Rattle.deck.specs.Deck.{Deck, R, N}
-use Rattle.pool.specs.States.{unused_zero}
 use Rattle.pool_states.proofs.Turns.{part-next, part-stop, value-end}
 use Rattle.pool_states.proofs.parts_fit.Goals as goal
 

@@ -1,13 +1,10 @@
 -- `pool_states::parts_fit` meets its contract. The loop's invariant: the answer for the parts from p on is the answer for all.
 -- Assumes nothing.
 use Prim.Native.Nat.{◌*◌, ◌-◌, ◌≤◌}
-use mathlib.Core.Path.{◌≡◌, refl, sym, ◌∙◌}
-use native.Mathlib.Omega.{arith}
-use borrow.Author.Rules.{rules}
+use mathlib.Core.Path.{◌≡◌}
 use lib.ListN.{drop}
 use Rattle.deck.specs.Deck.{Deck, R, N}
 use Rattle.pool.specs.States.{unused_zero}
-use Rattle.pool_states.proofs.Turns.{part-next, part-stop, value-end}
 use Rattle.pool_states.proofs.parts_fit.Given as goal
 
 abbrev pub invariant-loop-p : goal.invariant-loop-p

@@ -1,6 +1,5 @@
 -- `pool_states::place_charge` meets its contract: part and channels of the place give the charge. Assumes nothing.
 use native.Mathlib.Omega.{arith}
-use borrow.Author.Rules.{rules}
 use Rattle.deck.specs.Laws.Shape.{counted-R, counted-N}
 use Rattle.pool.specs.Places.{update_of}
 use Rattle.pool_states.specs.Laws.PairsHeld.{known-low}

@@ -1,6 +1,5 @@
 -- `pool_states::place_fits` meets its contract: the part, and the pairs by their count. Assumes nothing.
 use native.Mathlib.Omega.{arith}
-use borrow.Author.Rules.{rules}
 use lib.ListN.{get_or}
 use lib.IntN.{pos}
 use Rattle.pool.proofs.Scanning.{bits-same}

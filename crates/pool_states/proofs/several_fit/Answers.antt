@@ -2,8 +2,6 @@
 use Prim.Native.Nat.{◌<◌}
 use mathlib.Core.Path.{sym, ◌∙◌}
 use native.Mathlib.Omega.{arith}
-use borrow.Author.Rules.{rules}
-use borrow.Author.Tests.{not-true, not-false}
 use Rattle.pool_states.proofs.Deciding.{none-fit, no_pairs, many-pairs, no-channels, no-zeros, all-pairs, pairs_set}
 use Rattle.pool_states.proofs.several_fit.Goals as goal
 

@@ -1,8 +1,6 @@
 -- `pool_states::state_fits` meets its contract: the tests are made one by one. Assumes nothing.
 use mathlib.Core.Path.{sym, ◌∙◌}
 use native.Mathlib.Omega.{arith}
-use borrow.Author.Rules.{rules}
-use borrow.Author.Tests.{not-true, not-false}
 use Rattle.lists.specs.Laws.Booleans.{contradiction}
 use Rattle.pool.specs.States.{Memory}
 use Rattle.pool_states.specs.Answer.{memory_of}

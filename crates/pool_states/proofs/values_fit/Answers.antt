@@ -3,8 +3,6 @@ use Prim.Native.Nat.{◌*◌}
 use mathlib.Core.Path.{◌≡◌, sym, ◌∙◌}
 use native.Mathlib.Omega.{arith}
 use lib.ListN.{length, take, length-take}
-use borrow.Author.Rules.{rules}
-use borrow.Author.Tests.{not-true, not-false}
 use Rattle.pool_states.proofs.Deciding.{tail-zeros}
 use Rattle.pool_states.proofs.Turns.{values-stop, values-last}
 use Rattle.pool_states.proofs.values_fit.Goals as goal

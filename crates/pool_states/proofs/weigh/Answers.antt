@@ -1,6 +1,6 @@
 -- `pool_states::weigh` meets its contract. The loop's invariant: the first k places fit and are different, the total is the charge of
 -- their updates, the memo is right, and the index has them. Assumes nothing.
-use Prim.Native.Nat.{ℕ, ◌+◌, ◌-◌, ◌<◌, ◌≤◌}
+use Prim.Native.Nat.{ℕ, ◌+◌, ◌<◌, ◌≤◌}
 use mathlib.Core.Path.{◌≡◌, sym, ◌∙◌}
 use mathlib.Core.Bool.{true, ◌&&◌}
 use mathlib.Core.List.{List}
@@ -26,7 +26,7 @@ use Rattle.pool_states.specs.Answer.{IfFit, HoldsKnown, PlaceGives}
 use Rattle.pool_states.specs.Laws.Places.{Place, place_of}
 use Rattle.pool_states.specs.Laws.Charges.{holds-part, holds-charge}
 use Rattle.pool_states.specs.Laws.PairsHeld.{holds-lives}
-use Rattle.pool_states.proofs.Adding.{Adding, lent, lent_length, adding-none, adding-unfit, adding-place, adding-heads}
+use Rattle.pool_states.proofs.Adding.{lent, lent_length, adding-none, adding-unfit, adding-place, adding-heads}
 use Rattle.pool_states.proofs.Adding.{adding-entering}
 use Rattle.pool_states.proofs.Adding.{adding-twice, adding-more, adding-all}
 use Rattle.pool_states.proofs.weigh.Goals as goal

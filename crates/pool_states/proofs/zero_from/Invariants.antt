@@ -1,16 +1,10 @@
 -- `pool_states::zero_from` meets its contract. The loop's invariant: the numbers from i on are zeros exactly if all are. Assumes
 -- nothing.
 use Prim.Native.Nat.{◌-◌}
-use mathlib.Core.Path.{◌≡◌, refl, ap, ◌∙◌}
-use mathlib.Core.Bool.{true}
-use native.Mathlib.Omega.{arith}
-use lib.ListN.{drop, get_or}
-use lib.IntN.{pos}
-use mir.Syntax.{w32}
-use mir.Val.{of_z}
+use mathlib.Core.Path.{◌≡◌}
+use lib.ListN.{drop}
 use Rattle.lists.specs.Lists.{all_of}
 use Rattle.pool.specs.Places.{is_zero}
-use Rattle.pool.proofs.Scanning.{bits-same, zero-next, zero-not, zero-end}
 use Rattle.pool_states.proofs.zero_from.Given as goal
 
 abbrev pub invariant-loop-i : goal.invariant-loop-i
