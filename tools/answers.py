@@ -158,7 +158,7 @@ class Function:
     def field(self, step):
         if "-" in step and step.replace("-", "_") in self.idents:
             return step.replace("-", "_")
-        return {"inv": "invariant", "pre": "requires", "post": "ensures", "good": "well_formed", "type-inv": "type_inv", "taken": "true", "left": "false"}.get(step, step)
+        return {"inv": "invariant", "pre": "requires", "post": "ensures", "good": "well_formed", "well-formed": "well_formed", "type-inv": "type_inv", "taken": "true", "left": "false"}.get(step, step)
 
     def rest(self, place, steps):
         """The fields of a path from a place on, in new names."""
@@ -277,6 +277,7 @@ class Function:
 
     def tests(self, text):
         """The test of `!f(x)` says what f's answer is: nothing is turned round."""
+        text = re.sub(r"\.[^\s.()]+-in-([A-Z]\w*)-\d+\.given\.1(?![\w.])", r".in-\1.is", text)
         return re.sub(r"not-(?:true|false) [^\s()]+ (\S*\.if-not-[^\s()]+\.(?:true|false))(?![\w.])", r"\1", text)
 
     def cited(self, name, goal):

@@ -14,6 +14,7 @@ use Rattle.firing_rules.specs.Reactions.{adds}
 use Rattle.firing_rules.specs.Laws.Turns.{turns, turned_none, turned-pass, turned-fail, offered-came, other, other-so, other-not}
 use Rattle.firing_rules.specs.Laws.Turns.{turned-others}
 use Rattle.firing_rules.proofs.fire_others.Goals as goal
+use Rattle.firing_rules.proofs.fire_others.Goals.{then-to-from, else-to-from}
 
 -- what the rule adds at each part
 abbrev given : goal.After-loop-to → ℕ → List Update
@@ -46,14 +47,14 @@ loop-to-preserved c =
     let p = c.args.turn.part in
     let q = c.loop-to.to in (
       omega arith,
-      ⊎_elim
-          (λ w.
-          offered-came w.10 (ap₂ held_of w.11 w.12) w.13
-          (turned-pass (other p) (given-3 c) q c.loop-to.invariant.1 (other-so p q w.0.true) w.4.ensures))
-          (λ w.
-          offered-came w.1 (ap₂ held_of w.2 w.3) w.4
-          (turned-fail (other p) (given-3 c) q c.loop-to.invariant.1 (other-not p q w.0.false)))
-          c.if-to-from.branch,
+      elim c.if-to-from.branch [
+        | then-to-from w ↦
+            offered-came w.memo-is (ap₂ held_of w.index-is w.pool-is) w.out-is
+            (turned-pass (other p) (given-3 c) q c.loop-to.invariant.1 (other-so p q w.if-to-from.true) w.fire_to-out.ensures)
+        | else-to-from w ↦
+            offered-came w.memo-is (ap₂ held_of w.index-is w.pool-is) w.out-is
+            (turned-fail (other p) (given-3 c) q c.loop-to.invariant.1 (other-not p q w.if-to-from.false))
+      ],
     )
 
 pub shape_of-memo : goal.shape_of-memo
