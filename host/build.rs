@@ -1,11 +1,11 @@
 //! Links the archive of the proved engine: the one in the folder `REACTION_ARCHIVE_DIR` where that is set; else the one that the
-//! kit built, in `target/`; where it built none, the stored one, in `dist/`. `reaction::ARCHIVE` says which.
+//! kit built, in `crates/abi/out/`; where it built none, the stored one, in `dist/`. `reaction::ARCHIVE` says which.
 
 use std::path::{Path, PathBuf};
 use std::{env, fs, process};
 
 const FOLDER: &str = "REACTION_ARCHIVE_DIR";
-const BUILT: &str = "../target/staticlib";
+const BUILT: &str = "../crates/abi/out";
 const STORED: &str = "../dist";
 
 /// An archive, the file `lib` NAME `.a` of a folder.
@@ -59,9 +59,7 @@ fn main() {
     let there: Vec<&Archive> = candidates.iter().filter(|archive| archive.path().is_file()).collect();
     let Some(taken) = there.first() else {
         eprintln!("There is no archive, neither {} nor {}.", candidates[0].shown(), candidates[1].shown());
-        eprintln!(
-            "`rt staticlib abi` at the root of the repository makes it; {FOLDER} names another folder."
-        );
+        eprintln!("`rt lib` in crates/abi makes it; {FOLDER} names another folder.");
         process::exit(1);
     };
     for archive in &there {

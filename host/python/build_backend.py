@@ -36,7 +36,7 @@ DAY = (1980, 1, 1, 0, 0, 0)
 SECONDS = 315_532_800
 
 NO_ARCHIVE = """There is no archive of the engine, neither {} nor {}.
-`rt staticlib abi` at the root of the repository makes it; REACTION_ARCHIVE_DIR names another folder.
+`rt lib` in crates/abi makes it; REACTION_ARCHIVE_DIR names another folder.
 A pip before 21.3 copies this folder before it builds: there REACTION_ARCHIVE_DIR has to name the
 repository's folder dist, from the root of the file system on."""
 
@@ -66,7 +66,7 @@ def archive() -> Path:
         candidates = [Path(named, "libabi.a"), Path(named, "libreaction.a")]
     else:
         root = HERE.parent.parent
-        candidates = [root / "target" / "staticlib" / "libabi.a", root / "dist" / "libreaction.a"]
+        candidates = [root / "crates" / "abi" / "out" / "libabi.a", root / "dist" / "libreaction.a"]
         candidates[:0] = [HERE / ENCLOSED] if (HERE / ENCLOSED).is_file() else []
     there = [path for path in candidates if path.is_file()]
     if not there:

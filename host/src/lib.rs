@@ -31,7 +31,7 @@ pub use deck::{Deck, Section};
 pub use refusal::Refusal;
 pub use rig::{Commit, Rig, Settle, Update};
 
-/// The archive that is linked: `target/staticlib/libabi.a` where the kit has built it, else `dist/libreaction.a`, or
+/// The archive that is linked: `crates/abi/out/libabi.a` where the kit has built it, else `dist/libreaction.a`, or
 /// the one in the folder that `REACTION_ARCHIVE_DIR` named.
 ///
 /// ```

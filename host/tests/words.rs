@@ -40,7 +40,8 @@ fn named(text: &str, separator: &str) -> Named {
 /// The names of the engine's code.
 fn names() -> Vec<Named> {
     let code = file("crates/refusals/src/lib.rt");
-    let lines = code.lines().filter(|line| !line.is_empty() && !line.starts_with("//"));
+    // But for comments and what is said of the whole crate, each line is a constant.
+    let lines = code.lines().filter(|line| !line.is_empty() && !line.starts_with(['/', '#']));
     lines.map(|line| named(stripped(line, "pub const ", ";"), ": u32 = ")).collect()
 }
 

@@ -98,7 +98,7 @@ class Archive(unittest.TestCase):
             self.assertEqual(build_backend.archive(), ROOT / "dist" / "libreaction.a")
 
     def test_the_enclosed_one_then_the_built_one_then_the_stored_one(self) -> None:
-        rising = ("dist/libreaction.a", "target/staticlib/libabi.a", "host/python/archive/libreaction.a")
+        rising = ("dist/libreaction.a", "crates/abi/out/libabi.a", "host/python/archive/libreaction.a")
         with tempfile.TemporaryDirectory() as folder, mock.patch.dict(os.environ):
             os.environ.pop("REACTION_ARCHIVE_DIR", None)
             for path in rising:

@@ -26,7 +26,7 @@ impl Definitions {
         let listed = fs::read_to_string(repository.join("crates.txt"))?;
         let (mut lines, mut texts) = (BTreeMap::new(), BTreeMap::new());
         for line in listed.lines().filter(|line| !line.starts_with('#')) {
-            let Some((name, _)) = line.split_once(':') else { continue };
+            let Some((name, _)) = line.split_once([':', ' ']) else { continue };
             lines.insert(name.to_string(), line.to_string());
             read_modules(repository, name, &mut texts)?;
         }
@@ -46,11 +46,11 @@ impl Definitions {
         let mut text = String::new();
         for line in template.lines() {
             if let Some(name) = cited(line) {
-                text += &line.replacen("specs", &format!("Rattle·{}.specs", self.the_one(name)?.0), 1);
+                text += &line.replacen("specs", &format!("Rattle.{}.specs", self.the_one(name)?.0), 1);
             } else if line == "use OPENERS" {
                 let uses = openers
                     .iter()
-                    .map(|((of, name), opener)| format!("use Rattle·{of}.specs.{name}.{{{opener}}}"));
+                    .map(|((of, name), opener)| format!("use Rattle.{of}.specs.{name}.{{{opener}}}"));
                 text += &uses.collect::<Vec<_>>().join("\n");
             } else {
                 let names: Vec<&str> = openers.iter().map(|(_, opener)| *opener).collect();
@@ -116,12 +116,11 @@ fn cited(line: &str) -> Option<&str> {
     line.strip_prefix("use specs.")?.split('.').next()
 }
 
-/// The module that a line of antt imports: `use Rattle·CRATE.specs.NAME`, or `use Rattle·CRATE·specs.specs.NAME`
-/// in its own crate.
+/// The module that a line of antt imports: `use Rattle.CRATE.specs.NAME`.
 fn imported(line: &str) -> Option<Module> {
-    let (of, rest) = line.strip_prefix("use Rattle·")?.split_once(".specs.")?;
+    let (of, rest) = line.strip_prefix("use Rattle.")?.split_once(".specs.")?;
     let name = rest.split(['.', ' ']).next()?;
-    Some((of.trim_end_matches("·specs").to_string(), name.to_string()))
+    Some((of.to_string(), name.to_string()))
 }
 
 /// The names that open definitions of a module on an `unfolding` line: `unfoldable pub NAME : Unit {0}`.

@@ -1,8 +1,9 @@
 //! Has the kit prove generated cases of the definitions by computing them.
 //!
 //! `antt_cases REPOSITORY DIR SEED COUNT` copies the crates of the repository that have the
-//! definitions to DIR, which must not exist yet, with what is proved of them already, writes the
-//! cases as crates over them, and has those proved. Status 1: a case is not proved.
+//! definitions to DIR, which must not exist yet, writes the cases as crates over them, and has those
+//! checked. What the kit keeps of checks in the repository it takes over by itself. DIR must lie
+//! outside of the repository, where no other crate's files may stand. Status 1: a case is not proved.
 
 mod definitions;
 mod render;
@@ -15,7 +16,7 @@ use std::io;
 use std::path::{Path, PathBuf};
 use std::process::{exit, Command};
 
-/// How many cases a crate of cases has: crates are proved side by side.
+/// How many cases a crate of cases has.
 const CASES_OF_A_CRATE: usize = 125;
 
 const USAGE: &str = "usage: antt_cases REPOSITORY DIR SEED COUNT";
@@ -73,18 +74,33 @@ fn prove(request: &Request) -> io::Result<bool> {
     let lines = used.values().map(|line| line.to_string());
     let lines = lines.chain(names.iter().map(|name| format!("{name}: {imported}")));
     fs::write(request.scratch.join("crates.txt"), lines.collect::<Vec<_>>().join("\n") + "\n")?;
-    let status = Command::new("rt").arg("check").args(&names).current_dir(&request.scratch).status()?;
-    Ok(status.success())
+    for name in &names {
+        if !is_proved(&request.scratch.join("crates").join(name))? {
+            return Ok(false);
+        }
+    }
+    Ok(true)
 }
 
-/// A crate, and what the kit has proved of it: where its files are still those, it is not proved again.
+/// Has the kit check a crate of cases and, before it, those below. What it says is shown where it fails.
+fn is_proved(folder: &Path) -> io::Result<bool> {
+    let output = Command::new("rt").arg("check").current_dir(folder).output()?;
+    let said = String::from_utf8_lossy(&output.stdout);
+    let verdict = said.lines().rfind(|line| line.starts_with("logic=")).unwrap_or_default();
+    let proved = output.status.success() && verdict.starts_with("logic=proved ");
+    if !proved {
+        print!("{said}{}", String::from_utf8_lossy(&output.stderr));
+    }
+    Ok(proved)
+}
+
+/// A crate's files, but for what the kit keeps of its checks.
 fn copy_crate(repository: &Path, scratch: &Path, name: &str) -> io::Result<()> {
     let inside = Path::new("crates").join(name);
-    copy(&repository.join(&inside), &scratch.join(&inside))?;
-    for proved in [format!("target/rlib/{name}.rlib"), format!("target/stamp/{name}")] {
-        let from = repository.join(&proved);
-        if from.exists() {
-            copy(&from, &scratch.join(&proved))?;
+    let (from, to) = (repository.join(&inside), scratch.join(&inside));
+    for part in ["src", "specs", "proofs"] {
+        if from.join(part).exists() {
+            copy(&from.join(part), &to.join(part))?;
         }
     }
     Ok(())
@@ -97,7 +113,7 @@ fn write_crates(scratch: &Path, header: &Header, cases: &[Case]) -> io::Result<V
         let folder = scratch.join("crates").join(&name);
         fs::create_dir_all(folder.join("src"))?;
         fs::create_dir_all(folder.join("specs"))?;
-        fs::write(folder.join("src/lib.rt"), "// Generated cases: see specs/.\n")?;
+        fs::write(folder.join("src/lib.rt"), "// Generated cases: see specs/.\n#![tactic(auto)]\n")?;
         fs::write(folder.join("specs/Lib.antt"), "pub mod Cases\n")?;
         let theorems = cases
             .iter()

@@ -50,7 +50,7 @@ fn section(name: &str, deck: &[u8], number: u32, answer: &Result<Range<usize>, R
     let (from, stretch, deck) = (range.start, bytes(&deck[range]), bytes(deck));
     let wanted = format!("record {{ stretch = {stretch}; number = {}; place = {} }}", refusal.0, refusal.1);
     theorem(name, &format!("section {deck} {number}"), &wanted)
-        + &theorem(&format!("{name}-from"), &format!("sectionFrom {deck} {number}"), &from.to_string())
+        + &theorem(&format!("{name}-from"), &format!("section_from {deck} {number}"), &from.to_string())
 }
 
 /// The calls on memory; and the definition of a list, where the start is accepted.
@@ -64,7 +64,7 @@ fn run(name: &str, case: &Case) -> String {
     let called = format!("ran (run {deck} (replicate {pool_length} (pos 7)) {calls})");
     let mut text = theorem(name, &called, &wanted);
     if start.is_ok() {
-        let listed = format!("listing-of (passing New {deck}) {pool_length} {calls}");
+        let listed = format!("listing_of (passing New {deck}) {pool_length} {calls}");
         text += &theorem(&format!("{name}-listed"), &listed, &wanted);
     }
     text
@@ -84,7 +84,7 @@ fn alone(name: &str, case: &Case) -> String {
     };
     let each = list((0..read.labels.len()).map(|channel| alone(1 << channel)));
     let (calls, answers) = (list(calls.iter().map(a_call)), list(answers.iter().map(answered)));
-    let found = format!("alone-by (passing New {}) (named {calls} {answers})", bytes(deck));
+    let found = format!("alone_by (passing New {}) (named {calls} {answers})", bytes(deck));
     let (names, alone) = (bytes(&names), alone(channel_set(&names)));
     let wanted = format!("record {{ names = {names}; alone = {alone}; each = {each} }}");
     theorem(&format!("{name}-alone"), &found, &wanted)
