@@ -313,7 +313,7 @@ def invariants(entry, found):
                     continue
                 names.append(name)
                 body = "\n".join(lines[1:])
-                k = re.match(rf"{re.escape(name)}((?: [^\s=]+)*) =\s*(.*)$", body, re.S)
+                k = re.match(rf"{re.escape(name)}((?:\s+[^\s=]+)*?)\s+=\s*(.*)$", body, re.S)
                 if not k:
                     raise ValueError(f"{name}: no clause")
                 given, text = k[1].split(), k[2]
