@@ -55,7 +55,7 @@ pub extern "C" fn reaction_section<'a>(
 ) -> u32
     ensures { (returned_section_of stretch.new.now result answer.new
         ≡ returned_section (Calls.section deck.now number))
-        × LiesAt deck.entry.ref_ptr stretch.new.ptr (Calls.section_from deck.now number) }
+        × LiesAt deck.entry.ref_ptr stretch.new.ref_ptr (Calls.section_from deck.now number) }
 {
     let mut refusal: u32 = 0;
     let mut place: u32 = 0;
