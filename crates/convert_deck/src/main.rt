@@ -2,8 +2,12 @@
 // `refused NUMBER PLACE` to standard error.
 #![tactic(auto)]
 
-ghost use Rattle.std.specs.Prelude.{◌≤◌, length};
+ghost use Rattle.std.specs.Prelude.{◌≡◌, ◌≤◌, IsTrue, OnOk, length, take};
+ghost use Rattle.std.specs.Io.KnownBytes.{Appends};
+ghost use Rattle.deck.specs.Limits.{limits};
+ghost use Rattle.conversion.specs.Conversion.{conversion};
 ghost use Rattle.conversion.specs.Laws.Tests.{Fits};
+ghost use Rattle.convert_deck.specs.Written.{Holds, Writes, written};
 
 use conversion::ConvertAnswer;
 use deck::Deck;
@@ -15,16 +19,21 @@ use std::io::{Read, Write};
 // Writes the first n bytes.
 fn write_first<W: Write>(to: &mut W, bytes: &[u8], n: usize) -> io::Result<()>
     requires { n ≤ length bytes.now }
+    ensures { OnOk result (Appends (W.contents to.old) (W.contents to.new) (take n bytes.now)) }
 {
     to.write_all(&bytes[..n])
 }
 
-fn write_deck<W: Write, E: Write>(out: &mut W, err: &mut E, deck: &[u8], n: usize)
+// Writes a deck, and answers whether it did.
+fn write_deck<W: Write, E: Write>(out: &mut W, err: &mut E, deck: &[u8], n: usize) -> bool
     requires { n ≤ length deck.now }
+    ensures { IsTrue result → Appends (W.contents out.old) (W.contents out.new) (take n deck.now) }
 {
     if let Err(why) = write_first(out, deck, n) {
         let _ = descriptors::fail(err, b"cannot write the deck", &why);
+        return false;
     }
+    true
 }
 
 fn refuse<E: Write>(err: &mut E, number: u32, place: u32) {
@@ -34,27 +43,36 @@ fn refuse<E: Write>(err: &mut E, number: u32, place: u32) {
 }
 
 fn convert_into(deck: &[u8], new: &mut [u8]) -> ConvertAnswer
-    ensures { Fits result (length new.old) }
+    ensures fits { Fits result (length new.old) }
+    ensures holds { Holds result new.new (conversion deck.now (length new.old)) }
 {
     engine::convert(deck, new)
 }
 
-// The conversion of a deck, with as much room as the longest new deck needs.
-fn convert<W: Write, E: Write>(deck: &[u8], out: &mut W, err: &mut E) {
+// The conversion of a deck, with as much room as the longest new deck needs. Answers whether what is to be written was.
+fn convert<W: Write, E: Write>(deck: &[u8], out: &mut W, err: &mut E) -> bool
+    ensures { IsTrue result → Appends (W.contents out.old) (W.contents out.new) (written deck.now) }
+{
     let mut new = [0u8; Deck::BYTES];
     match convert_into(deck, &mut new) {
         ConvertAnswer::Converted { length } => write_deck(out, err, &new, length as usize),
-        ConvertAnswer::Refused { number, place } => refuse(err, number, place),
+        ConvertAnswer::Refused { number, place } => {
+            refuse(err, number, place);
+            true
+        }
     }
 }
 
-// One byte more than the longest old deck already shows the fault.
-fn convert_from<R: Read, W: Write, E: Write>(from: &mut R, out: &mut W, err: &mut E) {
+// Reads an old deck and converts it. One byte more than the longest old deck already shows the fault.
+fn convert_from<R: Read, W: Write, E: Write>(from: &mut R, out: &mut W, err: &mut E) -> bool
+    ensures { IsTrue result → Writes (R.remaining from.old) (W.contents out.old) (W.contents out.new) }
+{
     let mut old = [0u8; Deck::OLD_BYTES + 1];
     match descriptors::read_all(from, &mut old) {
         Input::Bytes(n) => convert(&old[..n], out, err),
         Input::Failed(why) => {
             let _ = descriptors::fail(err, b"cannot read the deck", &why);
+            false
         }
     }
 }

@@ -1,3 +1,4 @@
--- What is promised of reading.
+-- What is promised of reading, and a law of it.
 pub mod Counts
 pub mod Input
+pub mod Laws

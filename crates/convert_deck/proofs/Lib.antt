@@ -1,0 +1,2 @@
+-- A law that the proofs cite.
+pub mod Made

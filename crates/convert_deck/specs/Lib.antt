@@ -1,0 +1,2 @@
+-- What is promised of what the program writes.
+pub mod Written
