@@ -4,29 +4,21 @@
 use std::io::Write;
 use std::rt::{Env, Files};
 
-// Checks the file that an argument names, and answers whether there is such an argument.
-fn check_file<R: Env + Files, W: Write, E: Write>(
-    rt: &R,
-    i: usize,
-    out: &mut W,
-    err: &mut E,
-) -> bool {
+fn check_file<R: Env + Files, W: Write, E: Write>(rt: &R, i: usize, out: &mut W, err: &mut E) {
     let mut name = [0u8; 4096];
-    let Some(n) = descriptors::argument(rt, i, &mut name) else {
-        return false;
-    };
+    let n = descriptors::argument(rt, i, &mut name);
     if let Some(mut file) = descriptors::open_named(rt, &name[..n], err) {
         let _ = out.write_all(&name[..n]);
         let _ = out.write_all(b" ");
         check_line::report(&mut file, out, err);
     }
-    true
 }
 
 fn main(rt: HostRuntime) {
     for i in 1..usize::MAX {
-        if !check_file(&rt, i, &mut rt.stdout(), &mut rt.stderr()) {
+        if !descriptors::has_argument(&rt, i) {
             return;
         }
+        check_file(&rt, i, &mut rt.stdout(), &mut rt.stderr());
     }
 }

@@ -25,8 +25,13 @@ fn write_first<W: Write>(to: &mut W, bytes: &[u8], n: usize) -> io::Result<()>
 }
 
 // Writes a deck, and answers whether it did.
-fn write_deck<W: Write, E: Write>(out: &mut W, err: &mut E, deck: &[u8], n: usize) -> bool
-    requires { n ≤ length deck.now }
+fn write_deck<W: Write, E: Write>(
+    out: &mut W,
+    err: &mut E,
+    deck: &[u8; Deck::BYTES],
+    n: usize,
+) -> bool
+    requires { n ≤ limits.deck }
     ensures { IsTrue result → Appends (W.contents out.old) (W.contents out.new) (take n deck.now) }
 {
     if let Err(why) = write_first(out, deck, n) {
@@ -36,10 +41,16 @@ fn write_deck<W: Write, E: Write>(out: &mut W, err: &mut E, deck: &[u8], n: usiz
     true
 }
 
+fn write_line<E: Write>(err: &mut E, text: &[u8; 64], n: usize)
+    requires { n ≤ 64 }
+{
+    let _ = write_first(err, text, n);
+}
+
 fn refuse<E: Write>(err: &mut E, number: u32, place: u32) {
     let mut text = [0u8; 64];
     let n = replay_text::answers::put_answer(Answer::Refused(number, place), &mut text);
-    let _ = write_first(err, &text, n);
+    write_line(err, &text, n);
 }
 
 fn convert_into(deck: &[u8], new: &mut [u8]) -> ConvertAnswer

@@ -1,7 +1,6 @@
 // Bytes read from a reader, files by the names that arguments have, and what is said of a call that failed.
 #![tactic(auto)]
 
-ghost use Rattle.std.specs.Prelude.{IfSome};
 ghost use Rattle.descriptors.specs.Counts.{IsPrefixLen};
 ghost use Rattle.descriptors.specs.Input.{Within, Gives, GivesAll};
 
@@ -54,15 +53,16 @@ pub fn fail<W: Write>(to: &mut W, what: &[u8], why: &Error) -> io::Result<()> {
     writeln!(to, ": {why}")
 }
 
-// Puts an argument at the start of buf, and answers its length: 0 where it is longer than buf, None where there is no such argument.
-pub fn argument<R: Env>(rt: &R, i: usize, buf: &mut [u8]) -> Option<usize>
-    ensures { IfSome result (λ n. IsPrefixLen n buf.new) }
+// Whether there is such an argument; 0 is the program's name.
+pub fn has_argument<R: Env>(rt: &R, i: usize) -> bool {
+    !matches!(rt.arg(i, &mut []), Err(FillError::NotPresent))
+}
+
+// Puts an argument at the start of buf, and answers its length: 0 where there is no such argument, or it is longer than buf.
+pub fn argument<R: Env>(rt: &R, i: usize, buf: &mut [u8]) -> usize
+    ensures { IsPrefixLen result buf.new }
 {
-    match rt.arg(i, buf) {
-        Ok(n) => Some(n),
-        Err(FillError::TooLong) => Some(0),
-        Err(FillError::NotPresent) => None,
-    }
+    rt.arg(i, buf).unwrap_or(0)
 }
 
 fn open<R: Files>(rt: &R, name: &[u8]) -> io::Result<R::File> {

@@ -7,8 +7,8 @@ use std::io::Write;
 fn main(rt: HostRuntime) {
     let mut err = rt.stderr();
     let mut name = [0u8; 4096];
-    let n = descriptors::argument(&rt, 1, &mut name).unwrap_or(0);
-    if n == 0 || descriptors::argument(&rt, 2, &mut []).is_some() {
+    let n = descriptors::argument(&rt, 1, &mut name);
+    if n == 0 || descriptors::has_argument(&rt, 2) {
         let _ = err.write_all(b"usage: replay DECKFILE\n");
         return;
     }

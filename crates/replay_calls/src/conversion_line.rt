@@ -2,6 +2,7 @@
 ghost use Rattle.std.specs.Prelude.{◌≤◌, length};
 ghost use Rattle.conversion.specs.Laws.Tests.{Fits};
 
+use crate::output;
 use crate::output::Output;
 use conversion::ConvertAnswer;
 use replay_text::answers::Answer;
@@ -34,11 +35,12 @@ fn print_changed<W: Write, E: Write>(
     out: &mut Output<W, E>,
 )
     requires { end ≤ 50000 }
+    ensures { out.new.waiting ≤ 65536 }
 {
     for i in from..end {
         let v = buffer[i];
         if v != LENT {
-            out.print(Answer::Buffer(i as u32, wide(v)));
+            output::print(Answer::Buffer(i as u32, wide(v)), out);
         }
     }
 }
@@ -61,23 +63,23 @@ pub fn convert<W: Write, E: Write>(
     out: &mut Output<W, E>,
 ) -> usize
     requires { size ≤ 50000 }
-    ensures { result ≤ 50000 }
+    ensures { (result ≤ 50000) × (out.new.waiting ≤ 65536) }
 {
     let n = length as usize;
     if n > HELD {
-        out.print(Answer::Unreadable);
+        output::print(Answer::Unreadable, out);
         return size;
     }
     let mut buffer = [LENT; HELD];
     match convert_into(deck, size, &mut buffer, n) {
         ConvertAnswer::Refused { number, place } => {
-            out.print(Answer::Refused(number, place));
+            output::print(Answer::Refused(number, place), out);
             print_changed(&buffer, 0, n, out);
             size
         }
         ConvertAnswer::Converted { length: new } => {
             let end = new as usize;
-            out.print(Answer::Converted(new));
+            output::print(Answer::Converted(new), out);
             print_changed(&buffer, end, n, out);
             take(deck, &buffer, end);
             end

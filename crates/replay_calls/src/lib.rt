@@ -34,12 +34,12 @@ fn end_call<W: Write, E: Write>(
     out: &mut Output<W, E>,
 ) -> Progress
     requires { (progress.host.length ≤ 700000) × (progress.size ≤ 50000) }
-    ensures { (result.host.length ≤ 700000) × (result.size ≤ 50000) }
+    ensures { (result.host.length ≤ 700000) × (out.new.waiting ≤ 65536) × (result.size ≤ 50000) }
 {
     let size = progress.size;
     let count = progress.line.kept();
     let turn = host::perform_on(deck, size, pool, progress.host, command, numbers, count);
-    out.print(turn.answer);
+    output::print(turn.answer, out);
     Progress {
         host: turn.host,
         size: size,
@@ -55,7 +55,7 @@ fn end_convert<W: Write, E: Write>(
     out: &mut Output<W, E>,
 ) -> Progress
     requires { (progress.host.length ≤ 700000) × (progress.size ≤ 50000) }
-    ensures { (result.host.length ≤ 700000) × (result.size ≤ 50000) }
+    ensures { (result.host.length ≤ 700000) × (out.new.waiting ≤ 65536) × (result.size ≤ 50000) }
 {
     let size = conversion_line::convert(deck, progress.size, length, out);
     Progress {
@@ -74,7 +74,7 @@ fn end_line<W: Write, E: Write>(
     out: &mut Output<W, E>,
 ) -> Progress
     requires { (progress.host.length ≤ 700000) × (progress.size ≤ 50000) }
-    ensures { (result.host.length ≤ 700000) × (result.size ≤ 50000) }
+    ensures { (result.host.length ≤ 700000) × (out.new.waiting ≤ 65536) × (result.size ≤ 50000) }
 {
     match progress.line.command(numbers) {
         Command::Convert(length) => end_convert(deck, progress, length, out),
@@ -92,7 +92,7 @@ fn play_bytes<W: Write, E: Write>(
     bytes: &[u8],
 ) -> Progress
     requires { (progress.host.length ≤ 700000) × (progress.size ≤ 50000) }
-    ensures { (result.host.length ≤ 700000) × (result.size ≤ 50000) }
+    ensures { (result.host.length ≤ 700000) × (out.new.waiting ≤ 65536) × (result.size ≤ 50000) }
 {
     let mut now = progress;
     for b in bytes {
@@ -122,7 +122,7 @@ fn play_some<C: Read, W: Write, E: Write>(
     calls: &mut C,
 ) -> Played
     requires { (progress.host.length ≤ 700000) × (progress.size ≤ 50000) }
-    ensures { (result.progress.host.length ≤ 700000) × (result.progress.size ≤ 50000) }
+    ensures { (result.progress.host.length ≤ 700000) × (out.new.waiting ≤ 65536) × (result.progress.size ≤ 50000) }
 {
     let mut bytes = [0u8; 65536];
     let n = match descriptors::read_some(calls, &mut bytes) {
@@ -155,7 +155,7 @@ fn play_text<C: Read, W: Write, E: Write>(
     calls: &mut C,
 ) -> Progress
     requires { (progress.host.length ≤ 700000) × (progress.size ≤ 50000) }
-    ensures { (result.host.length ≤ 700000) × (result.size ≤ 50000) }
+    ensures { (result.host.length ≤ 700000) × (out.new.waiting ≤ 65536) × (result.size ≤ 50000) }
 {
     let mut now = progress;
     for _ in 0..u64::MAX {
@@ -186,7 +186,7 @@ fn play<C: Read, W: Write, E: Write>(
     };
     let read = play_text(deck, &mut pool, first, &mut numbers, out, calls);
     let last = end_line(deck, &mut pool, read, &mut numbers, out);
-    out.finish(last.host, &pool);
+    output::finish(last.host, &pool, out);
 }
 
 // Reads a deck and goes through the calls that come from another reader. One byte more than the longest old deck already shows the
@@ -197,7 +197,7 @@ pub fn replay<D: Read, C: Read, W: Write + Drop, E: Write + Drop>(
     to: W,
     err: E,
 ) {
-    let mut out = Output::new(to, err);
+    let mut out = output::new(to, err);
     let mut buf = [0u8; HELD];
     match descriptors::read_all(deck, &mut buf) {
         Input::Bytes(n) => play(&mut buf, n, calls, &mut out),

@@ -19,6 +19,18 @@ pub struct Output<W, E> {
     ghost fits: { waiting ≤ 65536 },
 }
 
+// Nothing waits.
+pub fn new<W: Write, E: Write>(to: W, err: E) -> Output<W, E>
+    ensures { result.waiting ≡ 0 }
+{
+    Output {
+        to: to,
+        err: err,
+        buffer: [0u8; ROOM],
+        waiting: 0,
+    }
+}
+
 // Writes the first n bytes.
 fn write_first<W: Write, E: Write>(to: &mut W, err: &mut E, bytes: &[u8], n: usize)
     requires { n ≤ length bytes.now }
@@ -28,12 +40,48 @@ fn write_first<W: Write, E: Write>(to: &mut W, err: &mut E, bytes: &[u8], n: usi
     }
 }
 
+// Writes what waits.
+fn flush<W: Write, E: Write>(out: &mut Output<W, E>)
+    ensures { out.new.waiting ≡ 0 }
+{
+    write_first(&mut out.to, &mut out.err, &out.buffer, out.waiting);
+    out.waiting = 0;
+}
+
 // Puts the first n bytes of a text at a place, and answers the place after them.
 fn put_part(text: &[u8], n: usize, out: &mut [u8], at: usize) -> usize
     requires { (n ≤ length text.now) × (at + n ≤ length out.old) }
     ensures { result ≡ at + n }
 {
     decimal::put_text(out, at, &text[..n])
+}
+
+// Makes room for n bytes more.
+fn make_room<W: Write, E: Write>(out: &mut Output<W, E>, n: usize)
+    requires { n ≤ 65536 }
+    ensures { out.new.waiting + n ≤ 65536 }
+{
+    if ROOM - out.waiting < n {
+        flush(out);
+    }
+}
+
+// Puts the first n bytes of a text behind what waits.
+fn put<W: Write, E: Write>(text: &[u8; 64], n: usize, out: &mut Output<W, E>)
+    requires { n ≤ 64 }
+    ensures { out.new.waiting ≤ 65536 }
+{
+    make_room(out, n);
+    out.waiting = put_part(text, n, &mut out.buffer, out.waiting);
+}
+
+// Prints a line, where there is something to say.
+pub fn print<W: Write, E: Write>(answer: Answer, out: &mut Output<W, E>)
+    ensures { out.new.waiting ≤ 65536 }
+{
+    let mut text = [0u8; 64];
+    let n = replay_text::answers::put_answer(answer, &mut text);
+    put(&text, n, out);
 }
 
 // One number of the memory.
@@ -45,70 +93,38 @@ fn entry(is_pool: bool, i: usize, v: i32) -> Answer {
     Answer::Value(index, v)
 }
 
-impl<W: Write, E: Write> Output<W, E> {
-    // Nothing waits.
-    pub fn new(to: W, err: E) -> Output<W, E> {
-        Output {
-            to: to,
-            err: err,
-            buffer: [0u8; ROOM],
-            waiting: 0,
+// Prints each of the first n numbers that is not 0.
+fn print_numbers<W: Write, E: Write>(
+    is_pool: bool,
+    numbers: &[i32],
+    n: usize,
+    out: &mut Output<W, E>,
+)
+    requires { n ≤ length numbers.now }
+    ensures { out.new.waiting ≤ 65536 }
+{
+    for i in 0..n {
+        let v = numbers[i];
+        if v != 0 {
+            print(entry(is_pool, i, v), out);
         }
     }
+}
 
-    // Writes what waits.
-    fn flush(&mut self)
-        ensures { self.new.waiting ≡ 0 }
-    {
-        write_first(&mut self.to, &mut self.err, &self.buffer, self.waiting);
-        self.waiting = 0;
-    }
+fn print_values<W: Write, E: Write>(values: &[i32; Deck::VALUES], out: &mut Output<W, E>)
+    ensures { out.new.waiting ≤ 65536 }
+{
+    print_numbers(false, values, Deck::VALUES, out);
+}
 
-    // Makes room for n bytes more.
-    fn make_room(&mut self, n: usize)
-        requires { n ≤ 65536 }
-        ensures { self.new.waiting + n ≤ 65536 }
-    {
-        if ROOM - self.waiting < n {
-            self.flush();
-        }
-    }
-
-    // Puts the first n bytes of a text behind what waits.
-    fn put(&mut self, text: &[u8; 64], n: usize)
-        requires { n ≤ 64 }
-    {
-        self.make_room(n);
-        self.waiting = put_part(text, n, &mut self.buffer, self.waiting);
-    }
-
-    // Prints a line, where there is something to say.
-    pub fn print(&mut self, answer: Answer) {
-        let mut text = [0u8; 64];
-        let n = replay_text::answers::put_answer(answer, &mut text);
-        self.put(&text, n);
-    }
-
-    // Prints each of the first n numbers that is not 0.
-    fn print_numbers(&mut self, is_pool: bool, numbers: &[i32], n: usize)
-        requires { n ≤ length numbers.now }
-    {
-        for i in 0..n {
-            let v = numbers[i];
-            if v != 0 {
-                self.print(entry(is_pool, i, v));
-            }
-        }
-    }
-
-    // Prints what is left in memory, and writes all that waits.
-    pub fn finish(&mut self, host: Host, pool: &[i32; LONGEST_POOL])
-        requires { host.length ≤ 700000 }
-    {
-        let state = host.state;
-        self.print(Answer::Pending(state.pending));
-        self.print_numbers(false, &state.values, Deck::VALUES);
-        self.print_numbers(true, pool, host.length);
-        self.flush();
-    }
+// Prints what is left in memory, and writes all that waits.
+pub fn finish<W: Write, E: Write>(host: Host, pool: &[i32; LONGEST_POOL], out: &mut Output<W, E>)
+    requires { host.length ≤ 700000 }
+    ensures { out.new.waiting ≡ 0 }
+{
+    let state = host.state;
+    print(Answer::Pending(state.pending), out);
+    print_values(&state.values, out);
+    print_numbers(true, pool, host.length, out);
+    flush(out);
 }
