@@ -19,6 +19,8 @@ CAMEL = re.compile(r"^[a-z][A-Za-z0-9]*[A-Z][A-Za-z0-9]*'*$")
 DEFINITION = re.compile(r"^\s*(?:(?:unfoldable|abbrev) |pub (?=\S+ :))")
 # the field of a record of specs/ beside the field of the source that it describes
 SHARED = {"parts_at", "few_rules", "few_parts", "action_at", "condition_at"}
+# constructors that stand several on a line, and names that a `let` binds
+OTHERS = "aTruth anOwnChannel aFarChannel aLiteralByte gotCount ofPool ofUpdates onePart overParts".split()
 MADE = re.compile(r"^(?:loop|returns|overflow|index|shared|if|then|else|in|arm|match|invariant|decreases|cast|bounds|call|clause|mut|range)-|-requires$|-spec$|-\d+$")
 
 
@@ -70,6 +72,7 @@ def defined(root):
 
 def table(root):
     names, plain = defined(root)
+    names.update(OTHERS)
     turned = {}
     for name in names:
         if name[0].isupper() and "-" not in name or MADE.search(name):

@@ -9,7 +9,7 @@ use Rattle.expression.specs.declared.TruthOp.TheVariants as OfTruth
 
 -- what is awaited: a number or a truth, which begins with its operator; a channel's number; one byte of a literal
 pub data Awaited : Type 0 where
-  a_number aTruth anOwnChannel aFarChannel aLiteralByte : Awaited
+  a_number a_truth an_own_channel a_far_channel a_literal_byte : Awaited
 
 -- what a byte comes to where something is awaited: it is unknown; it is of the wrong type, or a far channel where none may stand;
 -- or it is taken, and these are awaited after it
@@ -34,16 +34,16 @@ other_number OfNum.Negation = mistyped
 other_number OfNum.Unknown = unknown
 
 abbrev pub four_bytes : List Awaited
-four_bytes = aLiteralByte ∷ aLiteralByte ∷ aLiteralByte ∷ aLiteralByte ∷ []
+four_bytes = a_literal_byte ∷ a_literal_byte ∷ a_literal_byte ∷ a_literal_byte ∷ []
 
 -- "a far channel that isn't allowed is placed at its operator byte": before its channel is looked at
 abbrev pub if_far_allowed : ℕ → Judgement
-if_far_allowed fars = cond (eqb fars 0) mistyped (asks_for (aFarChannel ∷ []))
+if_far_allowed fars = cond (eqb fars 0) mistyped (asks_for (a_far_channel ∷ []))
 
 -- what a number's operator asks for; `other` is what a byte comes to that is none
 abbrev pub as_number : Scope → NumOp → Judgement → Judgement
 as_number sc OfNum.Literal other = asks_for four_bytes
-as_number sc OfNum.Own other = asks_for (anOwnChannel ∷ [])
+as_number sc OfNum.Own other = asks_for (an_own_channel ∷ [])
 as_number sc OfNum.Far other = if_far_allowed sc.fars
 as_number sc (OfNum.Two k) other = asks_for (a_number ∷ a_number ∷ [])
 as_number sc OfNum.Negation other = asks_for (a_number ∷ [])
@@ -52,8 +52,8 @@ as_number sc OfNum.Unknown other = other
 -- and a truth's
 abbrev pub as_truth : TruthOp → Judgement → Judgement
 as_truth (OfTruth.Constant b) other = asks_for []
-as_truth OfTruth.Not other = asks_for (aTruth ∷ [])
-as_truth (OfTruth.Both k) other = asks_for (aTruth ∷ aTruth ∷ [])
+as_truth OfTruth.Not other = asks_for (a_truth ∷ [])
+as_truth (OfTruth.Both k) other = asks_for (a_truth ∷ a_truth ∷ [])
 as_truth (OfTruth.Two k) other = asks_for (a_number ∷ a_number ∷ [])
 as_truth OfTruth.Unknown other = other
 
@@ -65,10 +65,10 @@ if_known false = unknown
 -- what a byte comes to, by what is awaited there
 unfoldable pub judgement : Scope → Awaited → ℕ → Judgement
 judgement sc a_number b = as_number sc (num_op b) (other_truth (truth_op b))
-judgement sc aTruth b = as_truth (truth_op b) (other_number (num_op b))
-judgement sc anOwnChannel b = if_known (ltb b sc.owns)
-judgement sc aFarChannel b = if_known (ltb b sc.fars)
-judgement sc aLiteralByte b = asks_for []
+judgement sc a_truth b = as_truth (truth_op b) (other_number (num_op b))
+judgement sc an_own_channel b = if_known (ltb b sc.owns)
+judgement sc a_far_channel b = if_known (ltb b sc.fars)
+judgement sc a_literal_byte b = asks_for []
 
 -- no fault, or its number and place
 pub data Found : Type 0 where
@@ -95,7 +95,7 @@ abbrev pub num_fault : Scope → List ℕ → ℕ → Found
 num_fault sc s at = first_fault sc (a_number ∷ []) s at
 
 abbrev pub truth_fault : Scope → List ℕ → ℕ → Found
-truth_fault sc s at = first_fault sc (aTruth ∷ []) s at
+truth_fault sc s at = first_fault sc (a_truth ∷ []) s at
 
 -- to open all definitions of this file, on an `unfolding` line
 unfoldable pub faults : Unit {0}

@@ -2,7 +2,7 @@
 use Rattle.std.specs.Prelude.{ℕ, ◌-◌, ◌≤◌, ◌≡◌, Bool, true, false, List, [], ◌∷◌, ◌++◌, ltb, length, take, drop}
 use Rattle.refusals.specs.Numbers.{unknown_byte, wrong_type}
 use Rattle.expression.specs.Reading.{Scope}
-use Rattle.expression.specs.Faults.{Awaited, a_number, aTruth, four_bytes, Judgement, unknown, mistyped, asks_for, if_known, judgement}
+use Rattle.expression.specs.Faults.{Awaited, a_number, a_truth, four_bytes, Judgement, unknown, mistyped, asks_for, if_known, judgement}
 use Rattle.expression.specs.Faults.{Found, sound, faulty, first_fault}
 use Rattle.expression.specs.declared.Search.{Search}
 use Rattle.expression.specs.declared.Search.TheVariants as Of
@@ -45,7 +45,7 @@ WholeSearched s found r =
 
 -- what an expression is to be: a truth, or else a number
 abbrev pub awaited_for : Bool → Awaited
-awaited_for true = aTruth
+awaited_for true = a_truth
 awaited_for false = a_number
 
 -- what is found of the bytes of s from one place to another

@@ -19,7 +19,7 @@ use Rattle.expression.specs.declared.TruthOp.{TruthOp}
 use Rattle.expression.specs.declared.TruthOp.TheVariants as OfTruth
 use Rattle.expression.specs.declared.Search.{Search}
 use Rattle.expression.specs.declared.Search.TheVariants as Of
-use Rattle.expression.specs.Faults.{Awaited, a_number, aTruth, anOwnChannel, aFarChannel, Judgement, mistyped, asks_for}
+use Rattle.expression.specs.Faults.{Awaited, a_number, a_truth, an_own_channel, a_far_channel, Judgement, mistyped, asks_for}
 use Rattle.expression.specs.Faults.{if_far_allowed, other_truth, other_number, as_number, as_truth, judgement}
 use Rattle.expression.specs.Faults.{Found, sound, faulty, first_fault}
 use Rattle.expression.specs.Searching.{Searched, LiteralSearched, ChannelSearched, WholeSearched, refused_at, answer_for}
@@ -38,7 +38,7 @@ abbrev ANumber : Scope → List ℕ → ℕ → Search → Type 0
 ANumber sc s at r = Searched sc s (a_number ∷ []) at r
 
 abbrev ATruth : Scope → List ℕ → ℕ → Search → Type 0
-ATruth sc s at r = Searched sc s (aTruth ∷ []) at r
+ATruth sc s at r = Searched sc s (a_truth ∷ []) at r
 
 -- an operator, of a w, that has two operands, both of them v
 module _ (sc : Scope) (s : List ℕ) (w v : Awaited) (at : ℕ) (h : at < length s)
@@ -63,12 +63,12 @@ module _ {sc : Scope} {s : List ℕ} {at : ℕ} {op : NumOp} (h : Here num_op sc
   as-literal e {r} t = by-asking sc s a_number at h.inside (judged-as OfNum.Literal e) r (t sc)
 
   pub as_own : op ≡ OfNum.Own → {r : Search} → ChannelSearched s sc.owns (at + 1) r → ANumber sc s at r
-  as_own e {r} t = by-asking sc s a_number at h.inside (judged-as OfNum.Own e) r (t sc anOwnChannel (own-judged sc s))
+  as_own e {r} t = by-asking sc s a_number at h.inside (judged-as OfNum.Own e) r (t sc an_own_channel (own-judged sc s))
 
   pub as-far : op ≡ OfNum.Far → ¬ (sc.fars ≡ 0) → {r : Search} → ChannelSearched s sc.fars (at + 1) r → ANumber sc s at r
   as-far e some {r} t =
-      let stands = ap (λ b. cond b mistyped (asks_for (aFarChannel ∷ []))) (ne_eqb sc.fars 0 some) in
-      by-asking sc s a_number at h.inside (judged-as OfNum.Far e ∙ stands) r (t sc aFarChannel (far-judged sc s))
+      let stands = ap (λ b. cond b mistyped (asks_for (a_far_channel ∷ []))) (ne_eqb sc.fars 0 some) in
+      by-asking sc s a_number at h.inside (judged-as OfNum.Far e ∙ stands) r (t sc a_far_channel (far-judged sc s))
 
   pub as-no-far : op ≡ OfNum.Far → sc.fars ≡ 0 → ANumber sc s at (Of.Fault wrong_type at)
   as-no-far e none = by-mistyped sc s a_number at h.inside (judged-as OfNum.Far e ∙ ap if_far_allowed none)
@@ -88,35 +88,35 @@ module _ {sc : Scope} {s : List ℕ} {at : ℕ} {op : NumOp} (h : Here num_op sc
       subst (ANumber sc s at) (sym is) (by-other-truth sc s a_number at h.inside (truth_op (get_or s at 0)) (judged-as OfNum.Unknown e))
 
 module _ {sc : Scope} {s : List ℕ} {at : ℕ} {op : TruthOp} (h : Here truth_op sc s at op) where
-  judged-to : (o : TruthOp) → op ≡ o → judgement sc aTruth (get_or s at 0) ≡ as_truth o (other_number (num_op (get_or s at 0)))
+  judged-to : (o : TruthOp) → op ≡ o → judgement sc a_truth (get_or s at 0) ≡ as_truth o (other_number (num_op (get_or s at 0)))
   judged-to o e = truth-judged sc s at o (sym h.is ∙ e)
 
   pub as-constant : {b : Bool} → op ≡ OfTruth.Constant b → ATruth sc s at (Of.After (at + 1))
   as-constant {b} e =
-      by-asking sc s aTruth at h.inside (judged-to (OfTruth.Constant b) e) (Of.After (at + 1))
+      by-asking sc s a_truth at h.inside (judged-to (OfTruth.Constant b) e) (Of.After (at + 1))
       (none-awaited sc s (at + 1) (omega (arith, h.inside)))
 
   pub as-not : op ≡ OfTruth.Not → {r : Search} → ATruth sc s (at + 1) r → ATruth sc s at r
-  as-not e {r} t = by-asking sc s aTruth at h.inside (judged-to OfTruth.Not e) r t
+  as-not e {r} t = by-asking sc s a_truth at h.inside (judged-to OfTruth.Not e) r t
 
   pub as-both : {k : Join} → op ≡ OfTruth.Both k → {n : ℕ} → ATruth sc s (at + 1) (Of.After n) → {r : Search} → ATruth sc s n r
       → ATruth sc s at r
-  as-both {k} e = second-answers sc s aTruth aTruth at h.inside (judged-to (OfTruth.Both k) e)
+  as-both {k} e = second-answers sc s a_truth a_truth at h.inside (judged-to (OfTruth.Both k) e)
 
   pub as-both-first : {k : Join} → op ≡ OfTruth.Both k → {x p : ℕ} → ATruth sc s (at + 1) (Of.Fault x p) → ATruth sc s at (Of.Fault x p)
-  as-both-first {k} e = first-answers sc s aTruth aTruth at h.inside (judged-to (OfTruth.Both k) e)
+  as-both-first {k} e = first-answers sc s a_truth a_truth at h.inside (judged-to (OfTruth.Both k) e)
 
   pub as-compared : {k : Compare} → op ≡ OfTruth.Two k → {n : ℕ} → ANumber sc s (at + 1) (Of.After n) → {r : Search} → ANumber sc s n r
       → ATruth sc s at r
-  as-compared {k} e = second-answers sc s aTruth a_number at h.inside (judged-to (OfTruth.Two k) e)
+  as-compared {k} e = second-answers sc s a_truth a_number at h.inside (judged-to (OfTruth.Two k) e)
 
   pub as-compared-first : {k : Compare} → op ≡ OfTruth.Two k → {x p : ℕ} → ANumber sc s (at + 1) (Of.Fault x p)
       → ATruth sc s at (Of.Fault x p)
-  as-compared-first {k} e = first-answers sc s aTruth a_number at h.inside (judged-to (OfTruth.Two k) e)
+  as-compared-first {k} e = first-answers sc s a_truth a_number at h.inside (judged-to (OfTruth.Two k) e)
 
   pub as-no-truth : op ≡ OfTruth.Unknown → {r : Search} → r ≡ refused_at at (other_number (num_op (get_or s at 0))) → ATruth sc s at r
   as-no-truth e is =
-      subst (ATruth sc s at) (sym is) (by-other-number sc s aTruth at h.inside (num_op (get_or s at 0)) (judged-to OfTruth.Unknown e))
+      subst (ATruth sc s at) (sym is) (by-other-number sc s a_truth at h.inside (num_op (get_or s at 0)) (judged-to OfTruth.Unknown e))
 
 -- ---- whole bytes
 

@@ -5,7 +5,7 @@
 ghost use Rattle.std.specs.Prelude.{◌≡◌, ◌≤◌, [], ◌∷◌, length};
 ghost use Rattle.expression.specs.Reading.{num_op, truth_op};
 ghost use Rattle.expression.specs.Answers.{scope};
-ghost use Rattle.expression.specs.Faults.{a_number, aTruth, other_truth, other_number, first_fault};
+ghost use Rattle.expression.specs.Faults.{a_number, a_truth, other_truth, other_number, first_fault};
 ghost use Rattle.expression.specs.Searching.{Searched, LiteralSearched, ChannelSearched, WholeSearched};
 ghost use Rattle.expression.specs.Searching.{refused_at, answer_for, awaited_for, found_between};
 
@@ -102,7 +102,7 @@ fn num_fault(s: &[u8], at: usize, own: usize, far: usize) -> Search
 
 // The same of the truth that begins there.
 fn truth_fault(s: &[u8], at: usize, own: usize, far: usize) -> Search
-    ensures { Searched (scope own far) s.now (aTruth ∷ []) at result }
+    ensures { Searched (scope own far) s.now (a_truth ∷ []) at result }
 {
     if s.len() <= at {
         return Search::Fault(refusals::WRONG_END, at);

@@ -54,13 +54,13 @@ module _ (d : Deck) where
 
   pub largest-charge : (b : ℕ) → (largest_charge d ≤ b) ↔ AtMost d b
   largest-charge b =
-      let overParts = largest-bound (λ p. largest (rule_charge d p) (carried_at p)) (below (N d)) b in
+      let over_parts = largest-bound (λ p. largest (rule_charge d p) (carried_at p)) (below (N d)) b in
       rw largest-is (
         λ h p r l m c.
-            (largest-bound (rule_charge d p) (carried_at p) b).0 (overParts.0 h p ((below-member (N d) p).0 l)) r
+            (largest-bound (rule_charge d p) (carried_at p) b).0 (over_parts.0 h p ((below-member (N d) p).0 l)) r
             ((in-carried p r).1 (m, c)),
         λ h.
-            overParts.1
+            over_parts.1
             (λ p l.
             (largest-bound (rule_charge d p) (carried_at p) b).1
             (λ r m. let k = (in-carried p r).0 m in h p r ((below-member (N d) p).1 l) k.0 k.1)),

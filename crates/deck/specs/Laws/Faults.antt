@@ -20,7 +20,7 @@ use Rattle.refusals.specs.Numbers.{deck_ends, out_of_range, repeated_target, byt
 use Rattle.refusals.specs.Laws.Outcomes.{refused≢accepted, accepted-inj, number-inj, place-inj}
 use Rattle.expression.specs.Reading.{Read, got, nothing, Scope, whole_num, whole_truth}
 use Rattle.expression.specs.Answers.{is_got}
-use Rattle.expression.specs.Faults.{a_number, aTruth, Found, sound, faulty, first_fault, num_fault, truth_fault}
+use Rattle.expression.specs.Faults.{a_number, a_truth, Found, sound, faulty, first_fault, num_fault, truth_fault}
 use Rattle.expression.specs.ExactByte.{InExpression}
 use Rattle.expression.specs.Searching.{awaited_for}
 use Rattle.expression.specs.Laws.Sound.{num-agrees, truth-agrees, nothing-if-faulty}
@@ -344,9 +344,9 @@ module _ (form : Form) where
 
     truths-find : Finds (truths sc)
     truths-find = record {
-      shown = shown-at sc (aTruth ∷ []);
+      shown = shown-at sc (a_truth ∷ []);
       none = λ s at. nothing-if-faulty (whole_truth sc s) (truth_fault sc s at) (truth-agrees sc s at);
-      first = λ s at e. record { truth = true; scope = sc; known = own; found = fault-at-0 sc (aTruth ∷ []) s at e };
+      first = λ s at e. record { truth = true; scope = sc; known = own; found = fault-at-0 sc (a_truth ∷ []) s at e };
     }
 
   -- the bytes behind a length byte

@@ -304,9 +304,9 @@ sections-ranged f s at =
     then-accepts _ (repeats-each (known_rule r.value) (rule f r.value) (rule-under f r.value) m.value m.rest
     m.at) λ rules k.
     then-accepts _ (anything (number 1 17 rules.rest rules.at)) λ n _.
-    let onePart = part r.value m.value in
+    let one_part = part r.value m.value in
     let known = part-under r.value m.value in
-    then-accepts _ (repeats-each (known_part m.value) onePart known n.value n.rest n.at) λ parts h.
+    then-accepts _ (repeats-each (known_part m.value) one_part known n.value n.rest n.at) λ parts h.
     then-accepts _ (anything (end parts.rest parts.at)) λ _ _.
     let d : Deck = record { labels = labels.value; rules = rules.value; parts = parts.value } in
     accepting

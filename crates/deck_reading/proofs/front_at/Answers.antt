@@ -46,9 +46,9 @@ rules_at-last-requires c =
     let channels = number-below 1 33 a.s.now 0 _ got in
     let labels = rw c.in-Next-after.is at c.labels_at-after.ensures in
     let count = rw c.in-Next-count.is at c.number_at-m.ensures in
-    let gotCount = got-value a.s.now c.in-Next-count.from c.number_at-m.result.value count in
-    let rules = number-below 0 65 (drop c.in-Next-after.rules_at a.s.now) c.in-Next-after.rules_at _ gotCount in
-    let told = (count-read a.s.now _ got _ labels.1 _ gotCount).1 in
+    let got_count = got-value a.s.now c.in-Next-count.from c.number_at-m.result.value count in
+    let rules = number-below 0 65 (drop c.in-Next-after.rules_at a.s.now) c.in-Next-after.rules_at _ got_count in
+    let told = (count-read a.s.now _ got _ labels.1 _ got_count).1 in
     (count.2, omega (arith, channels), omega (arith, told, c.requires (omega (arith, told, rules))))
 
 pub returns : goal.returns
@@ -59,11 +59,11 @@ returns c =
     let channels = number-below 1 33 a.s.now 0 _ got in
     let labels = rw c.in-Next-after.is at c.labels_at-after.ensures in
     let count = rw c.in-Next-count.is at c.number_at-m.ensures in
-    let gotCount = got-value a.s.now c.in-Next-count.from c.number_at-m.result.value count in
-    let rules = number-below 0 65 (drop c.in-Next-after.rules_at a.s.now) c.in-Next-after.rules_at _ gotCount in
+    let got_count = got-value a.s.now c.in-Next-count.from c.number_at-m.result.value count in
+    let rules = number-below 0 65 (drop c.in-Next-after.rules_at a.s.now) c.in-Next-after.rules_at _ got_count in
     front_read a.form a.s.now c.number_at-r.result.value c.in-Next.labels got
     labels.0 c.in-Next-after.rules_at labels.1
-    c.number_at-m.result.value c.in-Next-count.from gotCount
+    c.number_at-m.result.value c.in-Next-count.from got_count
     _ _ c.rules_at-last.result
     (λ ms p. (refl, refl, refl, omega (arith, channels), omega (arith, rules), p))
     c.rules_at-last.ensures

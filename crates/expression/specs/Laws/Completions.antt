@@ -10,17 +10,17 @@ use Rattle.expression.specs.declared.NumOp.{NumOp}
 use Rattle.expression.specs.declared.NumOp.TheVariants as OfNum
 use Rattle.expression.specs.declared.TruthOp.{TruthOp}
 use Rattle.expression.specs.declared.TruthOp.TheVariants as OfTruth
-use Rattle.expression.specs.Faults.{Awaited, a_number, aTruth, anOwnChannel, aFarChannel, aLiteralByte}
+use Rattle.expression.specs.Faults.{Awaited, a_number, a_truth, an_own_channel, a_far_channel, a_literal_byte}
 use Rattle.expression.specs.Faults.{Judgement, unknown, mistyped, asks_for, other_truth, other_number, as_number, as_truth}
 use Rattle.expression.specs.Faults.{if_known, judgement, sound, placed, first_fault}
 
 -- a channel can stand where one is known
 abbrev pub Possible : Scope → Awaited → Type 0
 Possible sc a_number = Unit {0}
-Possible sc aTruth = Unit {0}
-Possible sc anOwnChannel = 0 < sc.owns
-Possible sc aFarChannel = 0 < sc.fars
-Possible sc aLiteralByte = Unit {0}
+Possible sc a_truth = Unit {0}
+Possible sc an_own_channel = 0 < sc.owns
+Possible sc a_far_channel = 0 < sc.fars
+Possible sc a_literal_byte = Unit {0}
 
 abbrev pub Open : Scope → List Awaited → Type 0
 Open sc [] = Unit {0}
@@ -29,10 +29,10 @@ Open sc (w ∷ ws) = Possible sc w × Open sc ws
 -- the literal 0, `false`, channel 0, a literal's byte
 abbrev pub filling : Awaited → List ℕ → List ℕ
 filling a_number s = 0 ∷ 0 ∷ 0 ∷ 0 ∷ 0 ∷ s
-filling aTruth s = 16 ∷ s
-filling anOwnChannel s = 0 ∷ s
-filling aFarChannel s = 0 ∷ s
-filling aLiteralByte s = 0 ∷ s
+filling a_truth s = 16 ∷ s
+filling an_own_channel s = 0 ∷ s
+filling a_far_channel s = 0 ∷ s
+filling a_literal_byte s = 0 ∷ s
 
 abbrev pub fill : List Awaited → List ℕ
 fill [] = []
@@ -42,17 +42,17 @@ pub fill-bytes : (ws : List Awaited) → all_of (λ b. ltb b 256) (fill ws) ≡ 
 unfolding all_of
 fill-bytes [] = refl
 fill-bytes (a_number ∷ ws) = fill-bytes ws
-fill-bytes (aTruth ∷ ws) = fill-bytes ws
-fill-bytes (anOwnChannel ∷ ws) = fill-bytes ws
-fill-bytes (aFarChannel ∷ ws) = fill-bytes ws
-fill-bytes (aLiteralByte ∷ ws) = fill-bytes ws
+fill-bytes (a_truth ∷ ws) = fill-bytes ws
+fill-bytes (an_own_channel ∷ ws) = fill-bytes ws
+fill-bytes (a_far_channel ∷ ws) = fill-bytes ws
+fill-bytes (a_literal_byte ∷ ws) = fill-bytes ws
 
 pub fill-some : (w : Awaited) (ws : List Awaited) → 0 < length (fill (w ∷ ws))
 fill-some a_number ws = omega arith
-fill-some aTruth ws = omega arith
-fill-some anOwnChannel ws = omega arith
-fill-some aFarChannel ws = omega arith
-fill-some aLiteralByte ws = omega arith
+fill-some a_truth ws = omega arith
+fill-some an_own_channel ws = omega arith
+fill-some a_far_channel ws = omega arith
+fill-some a_literal_byte ws = omega arith
 
 module _ (sc : Scope) where
   channel-filled : (w : Awaited) (n : ℕ) → ((b : ℕ) → judgement sc w b ≡ if_known (ltb b n)) → 0 < n
@@ -64,12 +64,12 @@ module _ (sc : Scope) where
   unfolding judgement first_fault
   fill-sound [] o at = refl
   fill-sound (a_number ∷ ws) o at = fill-sound ws o.1 (suc (suc (suc (suc (suc at)))))
-  fill-sound (aTruth ∷ ws) o at = fill-sound ws o.1 (suc at)
-  fill-sound (anOwnChannel ∷ ws) o at =
-      channel-filled anOwnChannel sc.owns (λ b. refl) o.0 ws (fill ws) at ∙ fill-sound ws o.1 (suc at)
-  fill-sound (aFarChannel ∷ ws) o at =
-      channel-filled aFarChannel sc.fars (λ b. refl) o.0 ws (fill ws) at ∙ fill-sound ws o.1 (suc at)
-  fill-sound (aLiteralByte ∷ ws) o at = fill-sound ws o.1 (suc at)
+  fill-sound (a_truth ∷ ws) o at = fill-sound ws o.1 (suc at)
+  fill-sound (an_own_channel ∷ ws) o at =
+      channel-filled an_own_channel sc.owns (λ b. refl) o.0 ws (fill ws) at ∙ fill-sound ws o.1 (suc at)
+  fill-sound (a_far_channel ∷ ws) o at =
+      channel-filled a_far_channel sc.fars (λ b. refl) o.0 ws (fill ws) at ∙ fill-sound ws o.1 (suc at)
+  fill-sound (a_literal_byte ∷ ws) o at = fill-sound ws o.1 (suc at)
 
   -- ---- it stays possible
 
@@ -99,7 +99,7 @@ module _ (sc : Scope) where
     other-number-open OfNum.Negation = tt
     other-number-open OfNum.Unknown = tt
 
-    far-open : (b : Bool) → eqb sc.fars 0 ≡ b → OpenAfter (cond b mistyped (asks_for (aFarChannel ∷ [])))
+    far-open : (b : Bool) → eqb sc.fars 0 ≡ b → OpenAfter (cond b mistyped (asks_for (a_far_channel ∷ [])))
     far-open true e = tt
     far-open false e = (let h = eqb-false sc.fars 0 e in omega arith, tt)
 
@@ -125,7 +125,7 @@ module _ (sc : Scope) where
     pub judged-open : (w : Awaited) (b : ℕ) → OpenAfter (judgement sc w b)
     unfolding judgement
     judged-open a_number b = number-open (num_op b) (other_truth (truth_op b)) (other-truth-open (truth_op b))
-    judged-open aTruth b = truth-open (truth_op b) (other_number (num_op b)) (other-number-open (num_op b))
-    judged-open anOwnChannel b = known-open (ltb b sc.owns)
-    judged-open aFarChannel b = known-open (ltb b sc.fars)
-    judged-open aLiteralByte b = tt
+    judged-open a_truth b = truth-open (truth_op b) (other_number (num_op b)) (other-number-open (num_op b))
+    judged-open an_own_channel b = known-open (ltb b sc.owns)
+    judged-open a_far_channel b = known-open (ltb b sc.fars)
+    judged-open a_literal_byte b = tt

@@ -8,7 +8,7 @@ use Rattle.std.proofs.Math.Seq.{take-length}
 use Rattle.refusals.specs.Numbers.{unknown_byte, wrong_type, wrong_end}
 use Rattle.expression.specs.Reading.{Scope, whole_num, whole_truth}
 use Rattle.expression.specs.Answers.{is_got}
-use Rattle.expression.specs.Faults.{Awaited, a_number, aTruth, Judgement, unknown, mistyped, asks_for, judgement}
+use Rattle.expression.specs.Faults.{Awaited, a_number, a_truth, Judgement, unknown, mistyped, asks_for, judgement}
 use Rattle.expression.specs.Faults.{Found, sound, faulty, placed, first_fault, num_fault, truth_fault}
 use Rattle.expression.specs.ExactByte.{InExpression, Completed, ExactByte}
 use Rattle.expression.specs.Laws.Sound.{moved, fault-from-0, num-agrees, truth-agrees, sound≢faulty, got-if-sound, nothing-if-faulty}
@@ -250,6 +250,6 @@ module _ (sc : Scope) (own : 0 < sc.owns) (s : List ℕ) (n p : ℕ) where
 
   pub truth-exact-byte : truth_fault sc s 0 ≡ faulty n p → ExactByte (λ s. is_got (whole_truth sc s)) (λ s. truth_fault sc s 0) s n p
   truth-exact-byte =
-      exact sc own (aTruth ∷ []) (tt, tt) (λ s. is_got (whole_truth sc s))
+      exact sc own (a_truth ∷ []) (tt, tt) (λ s. is_got (whole_truth sc s))
       (λ s. got-if-sound (whole_truth sc s) (truth_fault sc s 0) (truth-agrees sc s 0))
       (λ s n p. nothing-if-faulty (whole_truth sc s) (truth_fault sc s 0) (truth-agrees sc s 0)) s n p

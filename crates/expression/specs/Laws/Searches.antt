@@ -7,7 +7,7 @@ use Rattle.std.proofs.Common.{sym, subst, ◌∙◌, drop_of_length-le, drop-con
 use native.Mathlib.Omega.{arith}
 use Rattle.refusals.specs.Numbers.{unknown_byte, wrong_type, wrong_end}
 use Rattle.expression.specs.Reading.{Scope, num_op, truth_op}
-use Rattle.expression.specs.Faults.{Awaited, a_number, aTruth, anOwnChannel, aFarChannel, aLiteralByte, four_bytes}
+use Rattle.expression.specs.Faults.{Awaited, a_number, a_truth, an_own_channel, a_far_channel, a_literal_byte, four_bytes}
 use Rattle.expression.specs.Faults.{Judgement, unknown, mistyped, asks_for, other_truth, other_number, as_number, as_truth}
 use Rattle.expression.specs.Faults.{if_known, judgement, placed, first_fault}
 use Rattle.expression.specs.Searching.{fault_from, Searched, LiteralSearched, ChannelSearched, refused_at}
@@ -93,21 +93,21 @@ module _ (sc : Scope) (s : List ℕ) where
   number-judged at o e = ap (λ o. as_number sc o (other_truth (truth_op (get_or s at 0)))) e
 
   pub truth-judged : (at : ℕ) (o : TruthOp) → truth_op (get_or s at 0) ≡ o
-      → judgement sc aTruth (get_or s at 0) ≡ as_truth o (other_number (num_op (get_or s at 0)))
+      → judgement sc a_truth (get_or s at 0) ≡ as_truth o (other_number (num_op (get_or s at 0)))
   unfolding judgement
   truth-judged at o e = ap (λ o. as_truth o (other_number (num_op (get_or s at 0)))) e
 
-  pub own-judged : (b : ℕ) → judgement sc anOwnChannel b ≡ if_known (ltb b sc.owns)
+  pub own-judged : (b : ℕ) → judgement sc an_own_channel b ≡ if_known (ltb b sc.owns)
   unfolding judgement
   own-judged b = refl
 
-  pub far-judged : (b : ℕ) → judgement sc aFarChannel b ≡ if_known (ltb b sc.fars)
+  pub far-judged : (b : ℕ) → judgement sc a_far_channel b ≡ if_known (ltb b sc.fars)
   unfolding judgement
   far-judged b = refl
 
-  a_byte : (at : ℕ) → at < length s → Searched sc s (aLiteralByte ∷ []) at (Of.After (at + 1))
+  a_byte : (at : ℕ) → at < length s → Searched sc s (a_literal_byte ∷ []) at (Of.After (at + 1))
   unfolding judgement
-  a_byte at h = by-asking aLiteralByte at h {us = []} refl (Of.After (at + 1)) (none-awaited (at + 1) (omega arith))
+  a_byte at h = by-asking a_literal_byte at h {us = []} refl (Of.After (at + 1)) (none-awaited (at + 1) (omega arith))
 
 -- ---- a literal's bytes
 
@@ -115,26 +115,26 @@ pub literal-ends : (s : List ℕ) (at : ℕ) → at + 4 ≤ length s → Literal
 literal-ends s at h sc =
     let e : at + 1 + 1 + 1 + 1 ≡ at + 4 = omega arith in
     subst (λ n. Searched sc s four_bytes at (Of.After n)) e
-    (by_two sc s aLiteralByte _ at (a_byte sc s at (omega arith)) _
-    (by_two sc s aLiteralByte _ (at + 1) (a_byte sc s (at + 1) (omega arith)) _
-    (by_two sc s aLiteralByte _ (at + 1 + 1) (a_byte sc s (at + 1 + 1) (omega arith)) _
+    (by_two sc s a_literal_byte _ at (a_byte sc s at (omega arith)) _
+    (by_two sc s a_literal_byte _ (at + 1) (a_byte sc s (at + 1) (omega arith)) _
+    (by_two sc s a_literal_byte _ (at + 1 + 1) (a_byte sc s (at + 1 + 1) (omega arith)) _
     (a_byte sc s (at + 1 + 1 + 1) (omega arith)))))
 
 -- n of a literal's bytes are awaited, and fewer are left
 few : (sc : Scope) (s : List ℕ) (vs : List Awaited) (k at : ℕ) → at + k ≡ length s → k < length vs
-    → ((n : ℕ) → get_or vs n aLiteralByte ≡ aLiteralByte) → Searched sc s vs at (Of.Fault wrong_end (length s))
+    → ((n : ℕ) → get_or vs n a_literal_byte ≡ a_literal_byte) → Searched sc s vs at (Of.Fault wrong_end (length s))
 few sc s [] k at e l only = absurd (omega arith)
 few sc s (v ∷ vs) zero at e l only =
     subst (λ n. Searched sc s (v ∷ vs) at (Of.Fault wrong_end n)) (omega arith) (missing sc s v vs at (omega arith))
 few sc s (v ∷ vs) (suc k) at e l only =
     subst (λ w. Searched sc s (w ∷ vs) at (Of.Fault wrong_end (length s))) (sym (only 0))
-    (by_two sc s aLiteralByte vs at (a_byte sc s at (omega arith)) (Of.Fault wrong_end (length s))
+    (by_two sc s a_literal_byte vs at (a_byte sc s at (omega arith)) (Of.Fault wrong_end (length s))
     (few sc s vs k (at + 1) (omega arith) (omega arith) (λ n. only (suc n))))
 
 pub literal-cut : (s : List ℕ) (at : ℕ) → at ≤ length s → length s - at < 4 → LiteralSearched s at (Of.Fault wrong_end (length s))
 literal-cut s at h l sc = few sc s four_bytes (length s - at) at (omega arith) l only
   where
-    only : (n : ℕ) → get_or four_bytes n aLiteralByte ≡ aLiteralByte
+    only : (n : ℕ) → get_or four_bytes n a_literal_byte ≡ a_literal_byte
     only zero = refl
     only (suc zero) = refl
     only (suc (suc zero)) = refl

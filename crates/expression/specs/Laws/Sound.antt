@@ -12,7 +12,7 @@ use Rattle.expression.specs.Syntax.{Num, Truth, literal, own, far, two, negation
 use Rattle.expression.specs.Reading.{Read, got, nothing, only_if, then, word, signed, literal_at, channel_at, Scope, num_op, truth_op}
 use Rattle.expression.specs.Reading.{num_operands, truth_operands, num, truth, exactly, whole_num, whole_truth}
 use Rattle.expression.specs.Answers.{is_got}
-use Rattle.expression.specs.Faults.{Awaited, a_number, aTruth, anOwnChannel, aFarChannel, four_bytes, if_far_allowed, if_known}
+use Rattle.expression.specs.Faults.{Awaited, a_number, a_truth, an_own_channel, a_far_channel, four_bytes, if_far_allowed, if_known}
 use Rattle.expression.specs.Faults.{Judgement, unknown, mistyped, asks_for, other_truth, other_number, judgement}
 use Rattle.expression.specs.Faults.{Found, sound, faulty, placed, first_fault, num_fault, truth_fault}
 use Rattle.expression.specs.Searching.{Searched, refused_at}
@@ -157,11 +157,11 @@ module _ (sc : Scope) (s : List ℕ) where
 
       go : (b : Bool) → eqb sc.fars 0 ≡ b → Tells (a_number ∷ []) at (then (channel_at sc.fars s (at + 1)) (λ c n. got (far c) n))
       go false f =
-          asked h (is ∙ ap (λ b. cond b mistyped (asks_for (aFarChannel ∷ []))) f) _
-          (made far (channel_at sc.fars s (at + 1)) (channel-tells aFarChannel sc.fars (far-judged sc s) (at + 1)))
+          asked h (is ∙ ap (λ b. cond b mistyped (asks_for (a_far_channel ∷ []))) f) _
+          (made far (channel_at sc.fars s (at + 1)) (channel-tells a_far_channel sc.fars (far-judged sc s) (at + 1)))
       go true f =
           subst (λ (r : Read Num). Tells (a_number ∷ []) at r) (sym (no-far (at + 1) sc.fars (eqb-true sc.fars 0 f)))
-          (fails (by-mistyped sc s a_number at h (is ∙ ap (λ b. cond b mistyped (asks_for (aFarChannel ∷ []))) f)))
+          (fails (by-mistyped sc s a_number at h (is ∙ ap (λ b. cond b mistyped (asks_for (a_far_channel ∷ []))) f)))
 
   -- ---- numbers
 
@@ -190,7 +190,7 @@ module _ (sc : Scope) (s : List ℕ) where
         asked h (number-judged sc s at OfNum.Literal e) _ (made literal (literal_at s (at + 1)) (literal-tells (at + 1) (omega arith)))
     numbers-tell OfNum.Own e go t =
         asked h (number-judged sc s at OfNum.Own e) _
-        (made own (channel_at sc.owns s (at + 1)) (channel-tells anOwnChannel sc.owns (own-judged sc s) (at + 1)))
+        (made own (channel_at sc.owns s (at + 1)) (channel-tells an_own_channel sc.owns (own-judged sc s) (at + 1)))
     numbers-tell OfNum.Far e go t = far-tells at h e
     numbers-tell (OfNum.Two k) e go t =
         asked h (number-judged sc s at (OfNum.Two k) e) _
@@ -202,21 +202,21 @@ module _ (sc : Scope) (s : List ℕ) where
         (by-other-truth sc s a_number at h (truth_op (get_or s at 0)) (number-judged sc s at OfNum.Unknown e))
 
     truths-tell : (o : TruthOp) → truth_op (get_or s at 0) ≡ o → (go : ℕ → Read Truth) (go_num : ℕ → Read Num)
-        → ((n : ℕ) → at + 1 ≤ n → Tells (aTruth ∷ []) n (go n)) → ((n : ℕ) → at + 1 ≤ n → Tells (a_number ∷ []) n (go_num n))
-        → Tells (aTruth ∷ []) at (truth_operands o (at + 1) go go_num)
+        → ((n : ℕ) → at + 1 ≤ n → Tells (a_truth ∷ []) n (go n)) → ((n : ℕ) → at + 1 ≤ n → Tells (a_number ∷ []) n (go_num n))
+        → Tells (a_truth ∷ []) at (truth_operands o (at + 1) go go_num)
     truths-tell (OfTruth.Constant b) e go go_num t u =
         asked h (truth-judged sc s at (OfTruth.Constant b) e) _ (ends (none-awaited sc s (at + 1) (omega arith)))
     truths-tell OfTruth.Not e go go_num t u =
         asked h (truth-judged sc s at OfTruth.Not e) _ (made opposite (go (at + 1)) (t (at + 1) (omega arith)))
     truths-tell (OfTruth.Both k) e go go_num t u =
         asked h (truth-judged sc s at (OfTruth.Both k) e) _
-        (made-of-two aTruth (at + 1) (both k) go (go (at + 1)) (t (at + 1) (omega arith)) t)
+        (made-of-two a_truth (at + 1) (both k) go (go (at + 1)) (t (at + 1) (omega arith)) t)
     truths-tell (OfTruth.Two k) e go go_num t u =
         asked h (truth-judged sc s at (OfTruth.Two k) e) _
         (made-of-two a_number (at + 1) (compared k) go_num (go_num (at + 1)) (u (at + 1) (omega arith)) u)
     truths-tell OfTruth.Unknown e go go_num t u =
-        no_truth aTruth at (num_op (get_or s at 0))
-        (by-other-number sc s aTruth at h (num_op (get_or s at 0)) (truth-judged sc s at OfTruth.Unknown e))
+        no_truth a_truth at (num_op (get_or s at 0))
+        (by-other-number sc s a_truth at h (num_op (get_or s at 0)) (truth-judged sc s at OfTruth.Unknown e))
 
   -- whatever the fuel, if that is enough
   num-tells : (fuel at : ℕ) → length s ≤ at + fuel → Tells (a_number ∷ []) at (num sc fuel s at)
@@ -229,19 +229,19 @@ module _ (sc : Scope) (s : List ℕ) where
       go true e t = numbers-tell at (ltb-true at (length s) e) (num_op (get_or s at 0)) refl (λ n. num sc fuel s n) t
       go false e t = fails (missing sc s a_number [] at (ltb-false at (length s) e))
 
-  truth-tells : (fuel at : ℕ) → length s ≤ at + fuel → Tells (aTruth ∷ []) at (truth sc fuel s at)
+  truth-tells : (fuel at : ℕ) → length s ≤ at + fuel → Tells (a_truth ∷ []) at (truth sc fuel s at)
   unfolding truth
-  truth-tells zero at h = fails (missing sc s aTruth [] at (omega arith))
+  truth-tells zero at h = fails (missing sc s a_truth [] at (omega arith))
   truth-tells (suc fuel) at h =
       go (ltb at (length s)) refl (λ n l. truth-tells fuel n (omega arith)) (λ n l. num-tells fuel n (omega arith))
     where
-      go : (b : Bool) → ltb at (length s) ≡ b → ((n : ℕ) → at + 1 ≤ n → Tells (aTruth ∷ []) n (truth sc fuel s n))
+      go : (b : Bool) → ltb at (length s) ≡ b → ((n : ℕ) → at + 1 ≤ n → Tells (a_truth ∷ []) n (truth sc fuel s n))
           → ((n : ℕ) → at + 1 ≤ n → Tells (a_number ∷ []) n (num sc fuel s n))
-          → Tells (aTruth ∷ []) at
+          → Tells (a_truth ∷ []) at
           (only_if b (truth_operands (truth_op (get_or s at 0)) (at + 1) (λ n. truth sc fuel s n) (λ n. num sc fuel s n)))
       go true e t u =
           truths-tell at (ltb-true at (length s) e) (truth_op (get_or s at 0)) refl (λ n. truth sc fuel s n) (λ n. num sc fuel s n) t u
-      go false e t u = fails (missing sc s aTruth [] at (ltb-false at (length s) e))
+      go false e t u = fails (missing sc s a_truth [] at (ltb-false at (length s) e))
 
   -- ---- whole expressions
 
@@ -272,9 +272,9 @@ module _ (sc : Scope) (s : List ℕ) (at : ℕ) where
   pub truth-agrees : Agrees (whole_truth sc s) (truth_fault sc s at)
   unfolding whole_truth
   truth-agrees =
-      subst (Agrees (whole_truth sc s)) (sym (fault-from-0 sc at s (aTruth ∷ [])))
+      subst (Agrees (whole_truth sc s)) (sym (fault-from-0 sc at s (a_truth ∷ [])))
       (moved-agrees at (whole_truth sc s) (truth_fault sc s 0)
-      (whole_tells sc s aTruth (truth sc (length s) s 0) (truth-tells sc s (length s) 0 (omega arith))))
+      (whole_tells sc s a_truth (truth sc (length s) s 0) (truth-tells sc s (length s) 0 (omega arith))))
 
 -- ---- what follows from it
 

@@ -1,7 +1,7 @@
 -- `expression_faults::truth_fault` meets its contract. It calls itself where fewer bytes are left. Assumes nothing.
 use mathlib.Core.List.{[]}
 use Rattle.expression.specs.Answers.{scope}
-use Rattle.expression.specs.Faults.{aTruth}
+use Rattle.expression.specs.Faults.{a_truth}
 use Rattle.expression.specs.Laws.Searches.{missing}
 use Rattle.expression_faults.proofs.Operators.{as-constant, as-not, as-both, as-both-first, as-compared, as-compared-first}
 use Rattle.expression_faults.proofs.Operators.{as-no-truth}
@@ -9,7 +9,7 @@ use Rattle.expression_faults.proofs.+truth_fault.Goals as goal
 
 pub returns-then-s-at : goal.returns-then-s-at
 returns-then-s-at t c =
-    missing (scope c.args.own c.args.far) c.args.s.now aTruth [] c.args.at c.if-s-at.true
+    missing (scope c.args.own c.args.far) c.args.s.now a_truth [] c.args.at c.if-s-at.true
 
 pub returns-in_default : goal.returns-in_default
 returns-in_default t c =

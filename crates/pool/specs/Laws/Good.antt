@@ -163,17 +163,17 @@ good-tests d m h =
     let written : Bool = all_of well_written (places m.state.pending m.pool) in
     let behind : Bool = all_of is_zero (drop (10 * m.state.pending) m.pool) in
     let in_pool : Bool = long && unused && few && written && behind in
-    let ofUpdates = four in_pool (all_of (known d) us) (all_different us) (leb (charge d us) (capacity (length m.pool))) h in
-    let ofPool = five long unused few written behind ofUpdates.0 in
+    let of_updates = four in_pool (all_of (known d) us) (all_different us) (leb (charge d us) (capacity (length m.pool))) h in
+    let of_pool = five long unused few written behind of_updates.0 in
     record {
-      long = ofPool.0;
-      unused = ofPool.1;
-      few = ofPool.2;
-      written = ofPool.3;
-      behind = ofPool.4;
-      known = ofUpdates.1;
-      different = ofUpdates.2;
-      bounded = ofUpdates.3;
+      long = of_pool.0;
+      unused = of_pool.1;
+      few = of_pool.2;
+      written = of_pool.3;
+      behind = of_pool.4;
+      known = of_updates.1;
+      different = of_updates.2;
+      bounded = of_updates.3;
     }
 
 module _ (d : Deck) (m : Memory) (h : good d m ≡ true) where
