@@ -3,4 +3,3 @@ pub mod Calls
 pub mod Answers
 pub mod Requests
 pub mod Line
-pub mod Laws

@@ -2,5 +2,3 @@
 pub mod Charge
 pub mod Memo
 pub mod Answer
-pub mod Cases
-pub mod Laws

@@ -8,7 +8,7 @@ use Rattle.deck.specs.Deck.{Deck, M, N}
 use Rattle.deck.specs.Shape.{bits_of, shape}
 use Rattle.deck.specs.declared.Deck as Counted
 use Rattle.graph.specs.Masks.{carried_at}
-use Rattle.graph.specs.Laws.Cycles.{KnownTargets, Acyclic}
+use Rattle.graph.specs.Acyclic.{KnownTargets, Acyclic}
 use Rattle.charge.specs.Charge.{update_charge, rule_charge}
 
 -- column 7 of row c has the carried rules that have channel c among their events

@@ -12,13 +12,13 @@ use Rattle.lists.specs.Laws.Booleans.{contradiction}
 use Rattle.deck.specs.Deck.{Deck, M, N, carries}
 use Rattle.deck.specs.Shape.{shape}
 use Rattle.deck.specs.declared.Deck as Counted
-use Rattle.deck.specs.Laws.Shape.{counted-M, counted-N, shape-carries}
+use Rattle.deck.proofs.Laws.Shape.{counted-M, counted-N, shape-carries}
 use Rattle.graph.specs.Masks.{carried_at}
 use Rattle.charge.specs.declared.Bound.TheVariants.{Within}
 use Rattle.charge.specs.Charge.{largest_charge}
 use Rattle.charge.specs.Memo.{AcyclicTables, Memo, RowKnown, RowLargest, capped}
 use Rattle.charge.specs.Answer.{bound_of, LargestBelow, LargestOfRules}
-use Rattle.charge.specs.Laws.Largest.{largest-charge}
+use Rattle.charge.proofs.Laws.Largest.{largest-charge}
 use Rattle.charge_listeners.specs.Laws.Listening.{carried-by}
 use Rattle.charge_tables.specs.Laws.Entries.{known_at}
 use Rattle.charge_bound.proofs.Search.{few_rules, is-place, passed-all}

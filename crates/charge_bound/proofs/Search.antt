@@ -13,13 +13,13 @@ use Rattle.lists.specs.Laws.Booleans.{contradiction}
 use Rattle.deck.specs.Deck.{Deck, M, N, carries}
 use Rattle.deck.specs.Shape.{shape}
 use Rattle.deck.specs.declared.Deck as Counted
-use Rattle.deck.specs.Laws.Shape.{counted-M, counted-N, shape-carries}
+use Rattle.deck.proofs.Laws.Shape.{counted-M, counted-N, shape-carries}
 use Rattle.charge.specs.declared.Bound.TheVariants.{Within, Above}
 use Rattle.charge.specs.Charge.{rule_charge, carried_charges, largest_charge, above_bound}
 use Rattle.charge.specs.Memo.{AcyclicTables, capped}
 use Rattle.charge.specs.Answer.{bound_by, bound_of, LargestBelow}
-use Rattle.charge.specs.Laws.Largest.{AtMost, largest-charge}
-use Rattle.charge.specs.Laws.Bound.{FirstAbove, none_above, first_above}
+use Rattle.charge.proofs.Laws.Largest.{AtMost, largest-charge}
+use Rattle.charge.proofs.Laws.Bound.{FirstAbove, none_above, first_above}
 
 -- rule r is carried at part p
 abbrev pub Carried : Deck → ℕ → ℕ → Type 0

@@ -20,7 +20,7 @@ use Rattle.lists.specs.Laws.Bits.{bit-or, bit-zero, bit-power}
 use Rattle.deck.specs.Shape.{bits_of}
 use Rattle.graph.specs.Masks.{carried_at}
 use Rattle.charge.specs.Memo.{Noted, OthersKept, Cleared, RuleNoted, ListenersAre}
-use Rattle.charge.specs.Laws.Tables.{first-kept}
+use Rattle.charge.proofs.Laws.Tables.{first-kept}
 
 pub kept_same : {rules : List ℕ} → OthersKept rules rules
 kept_same = record { long = refl; each = λ r k l. refl }

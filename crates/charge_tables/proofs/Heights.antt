@@ -10,11 +10,12 @@ use Rattle.lists.specs.Laws.Below.{select-below}
 use Rattle.lists.specs.Laws.Sums.{largest-member, largest-bound}
 use Rattle.deck.specs.Deck.{Deck, R, M, N, active}
 use Rattle.graph.specs.Graph.{edge, assigns}
-use Rattle.graph.specs.Laws.Reach.{height, height-falls}
-use Rattle.graph.specs.Laws.Edges.{carried-intro, edge-intro}
-use Rattle.graph.specs.Laws.Cycles.{KnownTargets, Acyclic, edge-inside}
-use Rattle.charge.specs.Laws.Active.{active-member}
-use Rattle.charge.specs.Laws.Equations.{defaults, actions}
+use Rattle.graph.proofs.Laws.Reach.{height, height-falls}
+use Rattle.graph.proofs.Laws.Edges.{carried-intro, edge-intro}
+use Rattle.graph.proofs.Laws.Cycles.{edge-inside}
+use Rattle.graph.specs.Acyclic.{KnownTargets, Acyclic}
+use Rattle.charge.proofs.Laws.Active.{active-member}
+use Rattle.charge.proofs.Laws.Equations.{defaults, actions}
 use Rattle.charge_tables.proofs.Terms.{listens}
 
 module _ (d : Deck) where

@@ -15,7 +15,7 @@ use Rattle.lists.specs.Laws.Steps.{sum_of-start, sum_of-next, sum_of-only}
 use Rattle.deck.specs.Deck.{Deck, N}
 use Rattle.deck.specs.Shape.{bits_of, shape}
 use Rattle.deck.specs.declared.Deck as Counted
-use Rattle.deck.specs.Laws.Shape.{counted-N, shape-kind}
+use Rattle.deck.proofs.Laws.Shape.{counted-N, shape-kind}
 use Rattle.charge.specs.Charge.{unless_empty, update_charge, rule_charge}
 use Rattle.charge.specs.Memo.{AcyclicTables, Memo, RowSmall, RowKnown, RowAdded, RowPut, Keeps, Begun, UpdatesGive, RulesGive, listening}
 use Rattle.charge.specs.Memo.{capped}

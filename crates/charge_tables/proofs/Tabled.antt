@@ -12,11 +12,11 @@ use Rattle.lists.specs.Laws.Below.{any_of-below}
 use Rattle.deck.specs.Deck.{Deck, N}
 use Rattle.deck.specs.Shape.{bits_of, shape}
 use Rattle.deck.specs.declared.Deck as Counted
-use Rattle.deck.specs.Laws.Shape.{counted-M, counted-N}
+use Rattle.deck.proofs.Laws.Shape.{counted-M, counted-N}
 use Rattle.graph.specs.Masks.{carried_at}
 use Rattle.charge.specs.Charge.{unless_empty, update_charge, rule_charge}
 use Rattle.charge.specs.Memo.{AcyclicTables, hearing, listening}
-use Rattle.charge.specs.Laws.Equations.{defaults, actions}
+use Rattle.charge.proofs.Laws.Equations.{defaults, actions}
 use Rattle.charge_listeners.specs.Laws.Listening.{carried-by}
 use Rattle.charge_tables.proofs.Terms.{heard, own, given, sent, when-no, when-yes, update-is, rule-is, defaults-are, actions-are}
 use Rattle.charge_tables.proofs.Terms.{listens-is}

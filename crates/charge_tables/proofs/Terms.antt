@@ -12,10 +12,10 @@ use Rattle.lists.specs.Bits.{bit}
 use Rattle.lists.specs.Laws.Steps.{sum_of-filtered, sum_of-only}
 use Rattle.deck.specs.Deck.{Deck, M, N, rule_at, carries, targets, active}
 use Rattle.deck.specs.Shape.{bits_of, rule_shape, shape_of}
-use Rattle.deck.specs.Laws.Shape.{setting-targets, shape-rule, shape-carries}
-use Rattle.graph.specs.Laws.Cycles.{KnownTargets, Acyclic}
+use Rattle.deck.proofs.Laws.Shape.{setting-targets, shape-rule, shape-carries}
+use Rattle.graph.specs.Acyclic.{KnownTargets, Acyclic}
 use Rattle.charge.specs.Charge.{others, receivers, unless_empty, update_charge, rule_charge}
-use Rattle.charge.specs.Laws.Equations.{defaults, actions, charge-of-update, charge-of-rule}
+use Rattle.charge.proofs.Laws.Equations.{defaults, actions, charge-of-update, charge-of-rule}
 
 module _ (d : Deck) where
   -- rule r at part p listens to an update of u; what it adds to the update's charge

@@ -1,3 +1,2 @@
 -- Document 01, "Expressions": each operation works on whole numbers, then clamps.
 pub mod Clamp
-pub mod Cases

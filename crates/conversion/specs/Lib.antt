@@ -1,5 +1,4 @@
 -- Document 02, Req 03: the conversion of old decks.
 pub mod Converted
 pub mod Conversion
-pub mod Laws
-pub mod Cases
+pub mod Fits

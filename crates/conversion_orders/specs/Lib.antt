@@ -1,3 +1,1 @@
 -- Document 02, Req 03: a converted deck gives what the old one gave.
-pub mod Laws
-pub mod Cases

@@ -6,7 +6,7 @@ ghost use Rattle.std.specs.Prelude.{◌≡◌, ◌≤◌, IsTrue, OnOk, length, 
 ghost use Rattle.std.specs.Io.KnownBytes.{Appends};
 ghost use Rattle.deck.specs.Limits.{limits};
 ghost use Rattle.conversion.specs.Conversion.{conversion};
-ghost use Rattle.conversion.specs.Laws.Tests.{Fits};
+ghost use Rattle.conversion.specs.Fits.{Fits};
 ghost use Rattle.convert_deck.specs.Written.{Holds, Writes, written};
 
 use conversion::ConvertAnswer;

@@ -7,7 +7,7 @@ use Rattle.refusals.specs.Numbers.{repeated_target, default_retired}
 use Rattle.expression.specs.Syntax.{Num, Truth}
 use Rattle.expression.specs.Reading.{Read, got, nothing, Scope, whole_num, whole_truth}
 use Rattle.expression.specs.Faults.{Found, sound, faulty, num_fault, truth_fault}
-use Rattle.expression.specs.Laws.Sound.{num-has-fault, truth-has-fault}
+use Rattle.expression.proofs.Laws.Sound.{num-has-fault, truth-has-fault}
 use Rattle.deck.specs.Limits.{limits}
 use Rattle.deck.specs.declared.Form.{Form}
 use Rattle.deck.specs.declared.Form.TheVariants.{Old, New}

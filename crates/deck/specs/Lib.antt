@@ -10,5 +10,4 @@ pub mod Stretch
 pub mod Marks
 pub mod Shape
 pub mod Tables
-pub mod Laws
-pub mod Cases
+pub mod Facts

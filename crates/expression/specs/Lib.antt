@@ -7,5 +7,4 @@ pub mod Faults
 pub mod ExactByte
 pub mod Answers
 pub mod Searching
-pub mod Laws
-pub mod Cases
+pub mod Bytes

@@ -23,10 +23,10 @@ use Rattle.expression.specs.Faults.{Awaited, a_number, a_truth, an_own_channel, 
 use Rattle.expression.specs.Faults.{if_far_allowed, other_truth, other_number, as_number, as_truth, judgement}
 use Rattle.expression.specs.Faults.{Found, sound, faulty, first_fault}
 use Rattle.expression.specs.Searching.{Searched, LiteralSearched, ChannelSearched, WholeSearched, refused_at, answer_for}
-use Rattle.expression.specs.Laws.Searches.{none-awaited, by-asking, by-mistyped, by-other-truth, by-other-number, by_two, by_first}
-use Rattle.expression.specs.Laws.Searches.{number-judged, truth-judged, own-judged, far-judged}
-use Rattle.expression.specs.Laws.Sound.{moved, fault-from-0}
-use Rattle.expression.specs.Laws.Exact.{shown-at}
+use Rattle.expression.proofs.Laws.Searches.{none-awaited, by-asking, by-mistyped, by-other-truth, by-other-number, by_two, by_first}
+use Rattle.expression.proofs.Laws.Searches.{number-judged, truth-judged, own-judged, far-judged}
+use Rattle.expression.proofs.Laws.Sound.{moved, fault-from-0}
+use Rattle.expression.proofs.Laws.Exact.{shown-at}
 
 -- in the arm of the operator p, where the operator is p, and that of the byte is q
 pub in-its-arm : {Op : Type 0} (other : Op → Judgement) (at : ℕ) {o p q : Op} → o ≡ p → o ≡ q

@@ -18,9 +18,9 @@ use Rattle.expression.specs.declared.NumOp.{NumOp}
 use Rattle.expression.specs.declared.NumOp.TheVariants as OfNum
 use Rattle.expression.specs.declared.TruthOp.{TruthOp}
 use Rattle.expression.specs.declared.TruthOp.TheVariants as OfTruth
-use Rattle.expression.specs.Laws.Readings.{Reader, map_two, map_same, map-map, map-one, map-two, ahead-map, literal-ahead, channel-ahead}
-use Rattle.expression.specs.Laws.Readings.{num-outside, truth-outside, num-inside, truth-inside}
-use Rattle.expression.specs.Laws.Readings.{with_none, with-one, with_two, without-first}
+use Rattle.expression.proofs.Laws.Readings.{Reader, map_two, map_same, map-map, map-one, map-two, ahead-map, literal-ahead, channel-ahead}
+use Rattle.expression.proofs.Laws.Readings.{num-outside, truth-outside, num-inside, truth-inside}
+use Rattle.expression.proofs.Laws.Readings.{with_none, with-one, with_two, without-first}
 
 -- the answer of a place that is not 0
 pub an-end : (n : ℕ) → ¬ (n ≡ 0) → of_end n ≡ got tt n

@@ -20,9 +20,9 @@ use Rattle.expression.specs.declared.NumOp.{NumOp}
 use Rattle.expression.specs.declared.NumOp.TheVariants as OfNum
 use Rattle.expression.specs.declared.TruthOp.{TruthOp}
 use Rattle.expression.specs.declared.TruthOp.TheVariants as OfTruth
-use Rattle.expression.specs.Laws.Readings.{map_two, map_same, map-map, map-one, map-two, literal-ahead, channel-ahead}
-use Rattle.expression.specs.Laws.Readings.{num-outside, truth-outside, num-inside, truth-inside}
-use Rattle.expression.specs.Laws.Readings.{with_none, with-one, with_two, without-first}
+use Rattle.expression.proofs.Laws.Readings.{map_two, map_same, map-map, map-one, map-two, literal-ahead, channel-ahead}
+use Rattle.expression.proofs.Laws.Readings.{num-outside, truth-outside, num-inside, truth-inside}
+use Rattle.expression.proofs.Laws.Readings.{with_none, with-one, with_two, without-first}
 
 -- what follows an operator, evaluated; `go` and `go_num` evaluate an operand at a place
 abbrev pub num_step : List ℤ → List ℤ → NumOp → List ℕ → ℕ → (ℕ → Read ℤ) → Read ℤ

@@ -7,7 +7,7 @@ use Rattle.expression.specs.Reading.{whole_num}
 use Rattle.expression.specs.Answers.{scope, num_in}
 use Rattle.deck.specs.Deck.{Action}
 use Rattle.deck.specs.Layout.{action}
-use Rattle.deck.specs.Laws.Points.{ReadsAt}
+use Rattle.deck.specs.Facts.{ReadsAt}
 use Rattle.pool.specs.Updates.{Pair, Update, value_at}
 use Rattle.pool.specs.Places.{place, pairs_of}
 use Rattle.passing.specs.Stands.{Stands}

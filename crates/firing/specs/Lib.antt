@@ -1,5 +1,3 @@
 -- Document 01, "Calls": the firing, and one commit.
 pub mod Firing
 pub mod Evaluated
-pub mod Cases
-pub mod Laws

@@ -13,11 +13,11 @@ use mir.ValLaws.{to_z-of_z}
 use Rattle.expression.specs.Answers.{scope}
 use Rattle.deck.specs.Deck.{Action}
 use Rattle.deck.specs.Layout.{action}
-use Rattle.deck.specs.Laws.Points.{ReadsAt}
+use Rattle.deck.specs.Facts.{ReadsAt}
 use Rattle.pool.specs.Places.{place}
 use Rattle.firing.specs.Evaluated.{NumberIs, update_by}
-use Rattle.firing.specs.Laws.Lined.{ActionStands, action-stands}
-use Rattle.firing.specs.Laws.Written.{Writing, Turn, writing-none, writing-next, writing-end}
+use Rattle.firing.proofs.Laws.Lined.{ActionStands, action-stands}
+use Rattle.firing.proofs.Laws.Written.{Writing, Turn, writing-none, writing-next, writing-end}
 use Rattle.firing_actions.proofs.Naturals.{cast-small}
 
 -- the target and the value of a turn

@@ -3,12 +3,12 @@
 use Rattle.std.specs.Prelude.{ℕ, ◌≡◌, List, length, ℤ}
 use Rattle.deck.specs.Deck.{Deck}
 use Rattle.deck.specs.declared.Deck as Counted
-use Rattle.graph.specs.Laws.Cycles.{Acyclic}
-use Rattle.deck.specs.Laws.Forms.{NoDefaults}
+use Rattle.graph.specs.Acyclic.{Acyclic}
+use Rattle.deck.specs.Facts.{NoDefaults}
 use Rattle.charge.specs.Memo.{Ready}
 use Rattle.pool.specs.Updates.{charge}
 use Rattle.pool.specs.States.{Machine}
-use Rattle.pool.specs.Laws.Good.{Fine}
+use Rattle.pool.specs.Fine.{Fine}
 use Rattle.passing.specs.Tabled.{deck_of, Tabled}
 use Rattle.pool_holes.specs.Slots.{Slot, standing, holes}
 use Rattle.firing_queue.specs.Queue.{Held, Kept, Room}

@@ -10,7 +10,7 @@ use Rattle.charge.specs.Memo.{Memo, Ready}
 use Rattle.pool.specs.Updates.{Update, charge}
 use Rattle.pool.specs.Places.{update_of}
 use Rattle.pool_states.specs.Answer.{HoldsKnown}
-use Rattle.deck.specs.Laws.Forms.{NoDefaults}
+use Rattle.deck.specs.Facts.{NoDefaults}
 use Rattle.passing.specs.Tabled.{deck_of, Tabled}
 use Rattle.deck.specs.Shape.{shape}
 use Rattle.firing.specs.Firing.{holds, sent, fired_here, fired_there, fired}

@@ -5,7 +5,7 @@ ghost use mathlib.Core.List.{flat_map};
 ghost use Rattle.std.specs.Prelude.{◌≡◌, true, not, ℕ, ◌<◌, length};
 ghost use Rattle.lists.specs.Lists.{is_empty};
 ghost use Rattle.deck.specs.Deck.{rule_at};
-ghost use Rattle.deck.specs.Laws.Forms.{NoDefaults};
+ghost use Rattle.deck.specs.Facts.{NoDefaults};
 ghost use Rattle.charge.specs.Charge.{others};
 ghost use Rattle.charge.specs.Memo.{ActiveIs};
 ghost use Rattle.passing.specs.Tabled.{deck_of, Tabled};

@@ -11,12 +11,12 @@ use Rattle.lists.specs.Bits.{bit}
 use Rattle.lists.specs.Laws.Agreement.{any_of-more}
 use Rattle.lists.specs.Laws.Bits.{bit-or, bit-zero}
 use Rattle.deck.specs.Shape.{shape_of}
-use Rattle.deck.specs.Laws.Shape.{shape-R}
+use Rattle.deck.proofs.Laws.Shape.{shape-R}
 use Rattle.graph.specs.Graph.{edge, reaches_itself, cyclic}
 use Rattle.graph.specs.FirstCycle.{first_cycle}
 use Rattle.graph.specs.Masks.{edge_at, Added, carried_at, drawn_by, Drawn}
-use Rattle.graph.specs.Laws.Agreement.{cyclic-agree}
-use Rattle.graph.specs.Laws.Shape.{shape-edge}
+use Rattle.graph.proofs.Laws.Agreement.{cyclic-agree}
+use Rattle.graph.proofs.Laws.Shape.{shape-edge}
 
 pub drawn-none : (rules parts : List ℕ) (n : ℕ) → Drawn rules parts n 0 (replicate 32 0)
 unfolding edge_at lists

@@ -3,3 +3,6 @@ pub mod Adding
 pub mod Drawing
 pub mod Spreading
 pub mod Searching
+pub mod Cases
+pub mod Laws
+pub mod TableCases

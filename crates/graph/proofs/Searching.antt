@@ -17,9 +17,9 @@ use Rattle.lists.specs.Laws.Below.{below-member}
 use Rattle.lists.specs.Laws.Bits.{bit-zero, bit-power, bit-xor}
 use Rattle.graph.specs.Graph.{Reaches, one, more, reached, reaches_itself}
 use Rattle.graph.specs.Masks.{edge_at, inner, Spread}
-use Rattle.graph.specs.Laws.Rounds.{in-round, last-edge}
-use Rattle.graph.specs.Laws.Reach.{reaches-itself}
-use Rattle.graph.specs.Laws.Agreement.{itself-agree, inner_below, inner-edge}
+use Rattle.graph.proofs.Laws.Rounds.{in-round, last-edge}
+use Rattle.graph.proofs.Laws.Reach.{reaches-itself}
+use Rattle.graph.proofs.Laws.Agreement.{itself-agree, inner_below, inner-edge}
 
 -- a round from a makes t of the set s: it adds what one edge more leads to, and nothing that a cannot reach
 record Round (n : ℕ) (e : ℕ → ℕ → Bool) (a s t : ℕ) : Type 0 where

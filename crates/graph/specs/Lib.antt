@@ -2,6 +2,4 @@
 pub mod Graph
 pub mod FirstCycle
 pub mod Masks
-pub mod Cases
-pub mod TableCases
-pub mod Laws
+pub mod Acyclic

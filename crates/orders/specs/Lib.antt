@@ -4,6 +4,3 @@ pub mod Listed
 pub mod Order
 pub mod Calculus
 pub mod StaysPut
-pub mod Laws
-pub mod Cases
-pub mod StaysPutCases

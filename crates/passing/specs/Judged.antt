@@ -2,13 +2,13 @@
 use Rattle.std.specs.Prelude.{ℕ, ◌≤◌, ◌<◌, ◌≡◌, ◌⊎◌, List, [], length, replicate}
 use Rattle.refusals.specs.Outcome.{refused, accepted}
 use Rattle.refusals.specs.Numbers.{cyclic_graph, overcharged}
-use Rattle.expression.specs.Laws.Bytes.{Bytes}
+use Rattle.expression.specs.Bytes.{Bytes}
 use Rattle.deck.specs.declared.Form.{Form}
 use Rattle.deck.specs.Layout.{read}
 use Rattle.deck.specs.Shape.{shape}
 use Rattle.deck.specs.Marks.{RulesFit, Marked, marked_sections}
 use Rattle.deck.specs.declared.Deck as Counted
-use Rattle.graph.specs.Laws.Cycles.{KnownTargets}
+use Rattle.graph.specs.Acyclic.{KnownTargets}
 use Rattle.graph.specs.FirstCycle.{first_cycle}
 use Rattle.graph.specs.Masks.{Sized}
 use Rattle.charge.specs.Charge.{largest_charge}

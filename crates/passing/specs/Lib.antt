@@ -3,5 +3,3 @@ pub mod Check
 pub mod Stands
 pub mod Tabled
 pub mod Judged
-pub mod Cases
-pub mod Laws

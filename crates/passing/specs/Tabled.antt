@@ -7,10 +7,10 @@ use Rattle.deck.specs.Reader.{repeats, value}
 use Rattle.deck.specs.Layout.{truths, Layout, expression, own_only, task_scope, action, read}
 use Rattle.deck.specs.Tables.{TablesOf, Ranged}
 use Rattle.deck.specs.declared.Deck as Counted
-use Rattle.deck.specs.Laws.Points.{ReadsAt}
+use Rattle.deck.specs.Facts.{ReadsAt}
 use Rattle.deck.specs.declared.Form.TheVariants.{Old, New}
-use Rattle.deck.specs.Laws.Formed.{Formed}
-use Rattle.deck.specs.Laws.Scoped.{Scoped}
+use Rattle.deck.specs.Facts.{Formed}
+use Rattle.deck.specs.Facts.{Scoped}
 
 -- what was read, or a deck without channels, rules and parts where nothing was
 abbrev pub layout_in : Outcome Layout → Layout

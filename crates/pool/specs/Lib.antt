@@ -3,5 +3,4 @@ pub mod Updates
 pub mod Places
 pub mod States
 pub mod Moves
-pub mod Laws
-pub mod Cases
+pub mod Fine

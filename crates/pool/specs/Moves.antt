@@ -4,7 +4,7 @@ use Rattle.std.proofs.Math.Seq.{paste}
 use Rattle.lists.specs.Lists.{all_of}
 use Rattle.pool.specs.Updates.{Update}
 use Rattle.pool.specs.Places.{pool_of}
-use Rattle.pool.specs.Laws.Places.{short}
+use Rattle.pool.specs.Fine.{short}
 
 -- ten numbers written at an index
 abbrev pub written : List ℤ → ℕ → List ℤ → List ℤ

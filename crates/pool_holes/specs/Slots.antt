@@ -6,7 +6,7 @@ use Rattle.lists.specs.Lists.{all_of, is_empty}
 use Rattle.pool.specs.Updates.{Update}
 use Rattle.pool.specs.Places.{zeros, place}
 use Rattle.pool.specs.Moves.{moved, Laid}
-use Rattle.pool.specs.Laws.Places.{short}
+use Rattle.pool.specs.Fine.{short}
 
 pub data Slot : Type 0 where
   hole : Slot

@@ -13,7 +13,7 @@ use Rattle.lists.specs.Laws.Anys.{any_of-append}
 use Rattle.lists.specs.Laws.Statements.{same_test}
 use Rattle.pool.specs.Updates.{Update, eq_update, is_among, all_different}
 use Rattle.pool.specs.Places.{update_of, well_written, places, updates_of}
-use Rattle.pool.specs.Laws.Equal.{update-true, update-refl, numbers-among}
+use Rattle.pool.proofs.Laws.Equal.{update-true, update-refl, numbers-among}
 use Rattle.pool_index.specs.Laws.Front.{take-map, places-take, places-end}
 
 equal-sym : (u w : Update) → eq_update u w ≡ eq_update w u

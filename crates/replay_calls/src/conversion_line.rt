@@ -1,6 +1,6 @@
 // The conversion of the deck in hand: what its line prints, and the deck that is in hand then.
 ghost use Rattle.std.specs.Prelude.{◌≤◌, length};
-ghost use Rattle.conversion.specs.Laws.Tests.{Fits};
+ghost use Rattle.conversion.specs.Fits.{Fits};
 
 use crate::output;
 use crate::output::Output;

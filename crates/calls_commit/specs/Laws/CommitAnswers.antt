@@ -10,7 +10,7 @@ use Rattle.pool.specs.States.{Memory, load, store}
 use Rattle.passing.specs.Tabled.{deck_of}
 use Rattle.firing.specs.Firing.{committed, may_take}
 use Rattle.pool_holes.specs.Slots.{whole}
-use Rattle.pool_holes.specs.Laws.Standing.{whole_length}
+use Rattle.pool_holes.proofs.Laws.Standing.{whole_length}
 use Rattle.deck.specs.declared.Deck as Counted
 use Rattle.firing_queue.specs.Queue.{held_of}
 use Rattle.firing_queue.specs.Stored.{Stored}

@@ -7,7 +7,7 @@ use native.Mathlib.Omega.{arith}
 use lib.ListN.{length}
 use borrow.Author.Rules.{rules}
 use Rattle.refusals.specs.Outcome.{refused}
-use Rattle.passing.specs.Laws.Judged.{parts-known}
+use Rattle.passing.proofs.Laws.Judged.{parts-known}
 use Rattle.calls.specs.Requests.{outcome_to}
 use Rattle.calls.specs.declared.Request.TheVariants as Asked
 use Rattle.calls.specs.declared.Response.{Response}

@@ -13,19 +13,19 @@ use Rattle.pool.specs.Updates.{Update, assign, charge}
 use Rattle.pool.specs.Places.{zeros, capacity, pool_of, pairs_of}
 use Rattle.pool.specs.States.{Machine}
 use Rattle.pool.specs.Moves.{Laid}
-use Rattle.pool.specs.Laws.Values.{assign-length}
-use Rattle.pool.specs.Laws.Good.{count-bounded}
-use Rattle.pool.specs.Laws.Laid.{laid-cleared, cleared-length}
+use Rattle.pool.proofs.Laws.Values.{assign-length}
+use Rattle.pool.proofs.Laws.Good.{count-bounded}
+use Rattle.pool.proofs.Laws.Laid.{laid-cleared, cleared-length}
 use Rattle.passing.specs.Check.{within}
 use Rattle.passing.specs.Tabled.{deck_of}
 use Rattle.deck.specs.Shape.{shape}
 use Rattle.firing.specs.Firing.{fired, changed, enqueue, set_and_fire}
 use Rattle.firing.specs.Evaluated.{Assignable, Compared}
-use Rattle.firing.specs.Laws.Commits.{set-grows}
-use Rattle.firing.specs.Laws.Setting.{compared-changed}
+use Rattle.firing.proofs.Laws.Commits.{set-grows}
+use Rattle.firing.proofs.Laws.Setting.{compared-changed}
 use Rattle.firing_queue.specs.declared.Queue.{Queue}
 use Rattle.pool_holes.specs.Slots.{whole}
-use Rattle.pool_holes.specs.Laws.Standing.{whole_append, whole_length, whole-standing}
+use Rattle.pool_holes.proofs.Laws.Standing.{whole_append, whole_length, whole-standing}
 use Rattle.firing_queue.specs.Queue.{Held, held_of, Kept, Grown}
 use Rattle.firing_queue.specs.Laws.Kept.{kept-laid}
 use Rattle.firing_rules.specs.Reactions.{Reacting, Reacted, Reacts}
@@ -36,7 +36,7 @@ use Rattle.calls.specs.Calls.{Answer, added, Done, good_input}
 use Rattle.calls_tests.specs.Laws.Entering.{enter-room}
 use Rattle.calls_tests.specs.Tested.{Entering, Left}
 use Rattle.calls_input.specs.Entered.{GoodInput, entered, Leaves, Enters}
-use Rattle.calls.specs.Laws.Inputs.{input-even, input-few, input-known, input-different}
+use Rattle.calls.proofs.Laws.Inputs.{input-even, input-few, input-known, input-different}
 use Rattle.calls_input.specs.Laws.InputTests.{input-assignable}
 
 -- ---- what the definition makes of an input

@@ -23,7 +23,7 @@ use Rattle.pool_states.specs.Laws.Fits.{numbers, known-fit, fit-known}
 use Rattle.pool_states.specs.Fits as Fits
 use Rattle.firing.specs.Evaluated.{Assignable}
 use Rattle.calls.specs.Calls.{channels_of, good_input}
-use Rattle.calls.specs.Laws.Inputs.{inside, inside-known, input-inside}
+use Rattle.calls.proofs.Laws.Inputs.{inside, inside-known, input-inside}
 
 -- ---- the number of pairs
 

@@ -1,7 +1,7 @@
 -- `calls_lent::call_few` meets its contract: the tables are as long as the deck needs them, and the rest is the same. Assumes nothing.
 use mathlib.Core.Path.{refl}
 use borrow.Author.Rules.{rules}
-use Rattle.passing.specs.Laws.Tables.{zero-rules, zero-memo}
+use Rattle.passing.proofs.Laws.Tables.{zero-rules, zero-memo}
 use Rattle.calls_lent.proofs.call_few.Goals as goal
 
 pub slice_bounds-call_short-end : goal.slice_bounds-call_short-end

@@ -1,7 +1,7 @@
 -- `calls_lent::call_on` meets its contract: the tests, and for each of their answers what the call answers. Assumes nothing.
 use mathlib.Core.Path.{refl}
 use borrow.Author.Rules.{rules}
-use Rattle.calls.specs.Laws.Requests.{requested-declined}
+use Rattle.calls.proofs.Laws.Requests.{requested-declined}
 use Rattle.calls_lent.proofs.call_on.Goals as goal
 
 pub slice_bounds-test_lent-end : goal.slice_bounds-test_lent-end

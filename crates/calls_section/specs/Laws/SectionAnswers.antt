@@ -10,14 +10,14 @@ use Rattle.deck.specs.Deck.{Deck}
 use Rattle.deck.specs.Encoding.{encode_channels, encode_rules, encode_parts, encode}
 use Rattle.deck.specs.Sections.{offset_of, stretch_of}
 use Rattle.deck.specs.declared.Deck as Counted
-use Rattle.deck.specs.Laws.Reading.{read-encoded, sections-exactly}
+use Rattle.deck.proofs.Laws.Reading.{read-encoded, sections-exactly}
 use Rattle.passing.specs.Check.{passing}
 use Rattle.passing.specs.Tabled.{layout_of}
 use Rattle.passing.specs.Judged.{Passed}
-use Rattle.passing.specs.Laws.Passing.{passing-clean}
+use Rattle.passing.proofs.Laws.Passing.{passing-clean}
 use Rattle.calls.specs.Calls.{section_at, section_ends, section_reply, section, stretch_from, section_from, stretches}
 use Rattle.calls.specs.Answers.{section_of}
-use Rattle.calls.specs.Laws.Sections.{ends-refused, ends-unknown, ends-known}
+use Rattle.calls.proofs.Laws.Sections.{ends-refused, ends-unknown, ends-known}
 
 -- what is handed back, and where it begins
 pub record Handed (s : List ℕ) (k : ℕ) (stretch : List ℕ) (from number place : ℕ) : Type 0 where

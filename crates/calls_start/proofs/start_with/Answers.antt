@@ -3,7 +3,7 @@ use mathlib.Core.Path.{refl, sym, ap, ◌∙◌}
 use borrow.Author.Rules.{rules}
 use borrow.Author.Tests.{not-true, not-false}
 use Rattle.pool.specs.Places.{zeros}
-use Rattle.passing.specs.Laws.Judged.{parts-known}
+use Rattle.passing.proofs.Laws.Judged.{parts-known}
 use Rattle.calls_start.specs.Laws.StartAnswers.{reply-is, start-declined, start-pool, start-done}
 use Rattle.calls_start.proofs.start_with.Goals as goal
 

@@ -7,18 +7,20 @@ use Rattle.lists.specs.Laws.Alls.{all_of-weaken}
 use Rattle.refusals.specs.Outcome.{refused, accepted, outcomes}
 use Rattle.refusals.specs.Numbers.{bad_pool, bad_state}
 use Rattle.deck.specs.declared.Form.TheVariants.{New}
-use Rattle.deck.specs.Laws.Forms.{NoDefaults, new_none}
+use Rattle.deck.proofs.Laws.Forms.{new_none}
+use Rattle.deck.specs.Facts.{NoDefaults}
 use Rattle.deck.specs.Deck.{Deck}
 use Rattle.deck.specs.declared.Deck as Counted
-use Rattle.graph.specs.Laws.Cycles.{Acyclic, no-cycle}
-use Rattle.graph.specs.Laws.Targets.{known-targets}
+use Rattle.graph.proofs.Laws.Cycles.{no-cycle}
+use Rattle.graph.specs.Acyclic.{Acyclic}
+use Rattle.graph.proofs.Laws.Targets.{known-targets}
 use Rattle.charge.specs.Memo.{Ready}
 use Rattle.pool.specs.Updates.{charge}
 use Rattle.pool.specs.Places.{places, capacity, updates_of}
 use Rattle.pool.specs.States.{Memory, load, known, good_length, good}
-use Rattle.pool.specs.Laws.Good.{fine-loaded, updates-length}
-use Rattle.pool.specs.Laws.Laid.{laid-good}
-use Rattle.pool.specs.Laws.Lengths.{length-bounded, capacity-places}
+use Rattle.pool.proofs.Laws.Good.{fine-loaded, updates-length}
+use Rattle.pool.proofs.Laws.Laid.{laid-good}
+use Rattle.pool.proofs.Laws.Lengths.{length-bounded, capacity-places}
 use Rattle.pool_states.specs.Answer.{Fresh, goodness_of}
 use Rattle.pool_states.specs.Laws.Judged.{good-answer, bad-answer}
 use Rattle.pool_states.specs.Laws.Shape.{shape-goodness}
@@ -27,9 +29,9 @@ use Rattle.passing.specs.Check.{passing}
 use Rattle.passing.specs.Tabled.{layout_of, deck_of}
 use Rattle.passing.specs.Judged as Judging
 use Rattle.deck.specs.Shape.{shape}
-use Rattle.passing.specs.Laws.Passing.{passing-clean}
+use Rattle.passing.proofs.Laws.Passing.{passing-clean}
 use Rattle.pool_holes.specs.Slots.{Slot, holes, whole}
-use Rattle.pool_holes.specs.Laws.Standing.{whole-standing, whole_length, whole-holes}
+use Rattle.pool_holes.proofs.Laws.Standing.{whole-standing, whole_length, whole-holes}
 use Rattle.pool_index.specs.Index.{heads_of, Indexed, Roomy}
 use Rattle.firing_queue.specs.Queue.{held_of}
 use Rattle.firing_queue.specs.Stored.{Stored}

@@ -6,7 +6,7 @@ use Rattle.deck.specs.declared.Deck as Counted
 use Rattle.pool.specs.Places.{capacity}
 use Rattle.pool.specs.States.{Machine, Memory, load}
 use Rattle.pool_holes.specs.Slots.{standing, whole}
-use Rattle.pool_holes.specs.Laws.Standing.{whole-standing}
+use Rattle.pool_holes.proofs.Laws.Standing.{whole-standing}
 use Rattle.firing.specs.Firing.{committed}
 use Rattle.calls_tests.specs.Tested.{TestsPassed}
 use Rattle.calls_turns.specs.Turns.{Beginning, Repeats, none, more}

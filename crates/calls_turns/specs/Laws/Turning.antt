@@ -7,10 +7,10 @@ use Rattle.deck.specs.declared.Deck as Counted
 use Rattle.pool.specs.Updates.{Update}
 use Rattle.pool.specs.States.{Machine}
 use Rattle.pool.specs.Moves.{Laid}
-use Rattle.pool.specs.Laws.Good.{count-bounded}
+use Rattle.pool.proofs.Laws.Good.{count-bounded}
 use Rattle.pool_holes.specs.Slots.{Slot, hole, standing, holes, whole, before, Edges, Scattered, Gathers}
-use Rattle.pool_holes.specs.Laws.Standing.{parted, parted-before, parted-at, parted-emptied, parted-standing, parted-holes, parted-length}
-use Rattle.pool_holes.specs.Laws.Standing.{parted-edges, whole_append, whole_length}
+use Rattle.pool_holes.proofs.Laws.Standing.{parted, parted-before, parted-at, parted-emptied, parted-standing, parted-holes, parted-length}
+use Rattle.pool_holes.proofs.Laws.Standing.{parted-edges, whole_append, whole_length}
 use Rattle.passing.specs.Tabled.{deck_of}
 use Rattle.deck.specs.Shape.{shape}
 use Rattle.firing.specs.Firing.{committed}

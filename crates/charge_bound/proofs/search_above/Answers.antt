@@ -4,7 +4,7 @@ use mathlib.Core.Path.{◌≡◌, sym, ◌∙◌, subst}
 use native.Mathlib.Omega.{arith}
 use Rattle.deck.specs.Deck.{Deck}
 use Rattle.deck.specs.Shape.{shape}
-use Rattle.deck.specs.Laws.Shape.{counted-N}
+use Rattle.deck.proofs.Laws.Shape.{counted-N}
 use Rattle.charge.specs.Answer.{PartBound}
 use Rattle.charge.specs.declared.Bound.{Bound}
 use Rattle.charge_bound.proofs.Search.{few_rules, passed_none, passed-all}

@@ -13,7 +13,7 @@ use Rattle.lists.specs.Laws.Agreement.{any_of-agree}
 use Rattle.lists.specs.Laws.Bits.{bit-and}
 use Rattle.deck.specs.Shape.{bits_of}
 use Rattle.deck.specs.declared.Deck as Counted
-use Rattle.deck.specs.Laws.Shape.{bits-member}
+use Rattle.deck.proofs.Laws.Shape.{bits-member}
 use Rattle.graph.specs.Masks.{carried_at}
 use Rattle.charge.specs.Memo.{ListenersAre, AcyclicTables, hearing, listening}
 

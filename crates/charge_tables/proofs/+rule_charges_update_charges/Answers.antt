@@ -9,7 +9,7 @@ use lib.ListN.{get_or}
 use Rattle.lists.specs.Laws.Through.{through-next, through_here, through-all}
 use Rattle.lists.specs.Laws.Walks.{walk_first, walk-on, walk-next}
 use Rattle.charge.specs.Memo.{counts_of}
-use Rattle.charge.specs.Laws.Tables.{entry}
+use Rattle.charge.proofs.Laws.Tables.{entry}
 use Rattle.charge_listeners.specs.Laws.Listening.{is-listener}
 use Rattle.charge_tables.specs.Laws.Entries.{row_room}
 use Rattle.charge_tables.proofs.Tabled.{own_is, given_is, first-falls, second-falls, listening-falls, listening-carried}

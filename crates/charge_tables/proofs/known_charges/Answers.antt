@@ -1,5 +1,5 @@
 -- `charge_tables::known_charges` meets its contract: the memo has the row, or `rule_charges` writes it. Assumes nothing.
-use Rattle.charge.specs.Laws.Tables.{Entry, entry, ready-counted, counted-gives}
+use Rattle.charge.proofs.Laws.Tables.{Entry, entry, ready-counted, counted-gives}
 use Rattle.charge_tables.proofs.RowCharges.{gives-known}
 use Rattle.charge_tables.proofs.known_charges.Goals as goal
 

@@ -5,10 +5,10 @@ use Rattle.std.specs.Int.{w64}
 use Rattle.deck.specs.Deck.{Deck, N}
 use Rattle.deck.specs.Shape.{shape}
 use Rattle.deck.specs.declared.Deck as Counted
-use Rattle.deck.specs.Laws.Shape.{counted-N}
+use Rattle.deck.proofs.Laws.Shape.{counted-N}
 use Rattle.charge.specs.Charge.{rule_charge}
 use Rattle.charge.specs.Memo.{AcyclicTables, Memo, Answered, RowKnown, RulesGive, capped}
-use Rattle.charge.specs.Laws.Tables.{memo-long, memo-room}
+use Rattle.charge.proofs.Laws.Tables.{memo-long, memo-room}
 
 -- what code computes for part q in a row of 16, and at rule r in a memo
 pub record Column (m : List ℕ) (r q : ℕ) : Type 0 where

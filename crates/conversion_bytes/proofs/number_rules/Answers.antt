@@ -8,7 +8,7 @@ use lib.ListN.{length, get_or, length-set}
 use lib.Seq.{get_or-set_same}
 use Rattle.deck.specs.Deck.{Rule}
 use Rattle.deck.specs.Encoding.{encode_rule}
-use Rattle.conversion.specs.Laws.Renumbering.{no_rule}
+use Rattle.conversion.proofs.Laws.Renumbering.{no_rule}
 use Rattle.conversion_bytes.specs.Stands.{Listed}
 use Rattle.conversion_bytes.specs.Pieces.{becomes}
 use Rattle.conversion_bytes.specs.Laws.Stands.{walked_none}

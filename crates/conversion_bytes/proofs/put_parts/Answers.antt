@@ -7,7 +7,7 @@ use native.Mathlib.Omega.{arith}
 use lib.ListN.{length, get_or}
 use Rattle.deck.specs.Deck.{Part, Deck}
 use Rattle.deck.specs.Encoding.{encode_part}
-use Rattle.deck.specs.Laws.Formed.{formed}
+use Rattle.deck.proofs.Laws.Formed.{formed}
 use Rattle.conversion_bytes.specs.Pieces.{PartStands, new_part_bytes}
 use Rattle.conversion_bytes.specs.Decks.{Numbered, PartsIn}
 use Rattle.conversion_bytes.specs.Laws.Written.{written-length, written_is, written-first, written_next, written_all, room_next}

@@ -8,7 +8,7 @@ use lib.ListN.{length, get_or}
 use Rattle.deck.specs.Deck.{Rule}
 use Rattle.deck.specs.Encoding.{encode_rule}
 use Rattle.conversion.specs.Converted.{split}
-use Rattle.conversion.specs.Laws.Renumbering.{no_rule, flat_map-flat_map}
+use Rattle.conversion.proofs.Laws.Renumbering.{no_rule, flat_map-flat_map}
 use Rattle.conversion_bytes.specs.Stands.{Listed}
 use Rattle.conversion_bytes.specs.Pieces.{new_rule_bytes}
 use Rattle.conversion_bytes.specs.Laws.Written.{written-length, written_is, written-first, written_next, written_all, room_next}

@@ -7,12 +7,12 @@ use Rattle.std.proofs.lemmas.List.{length-map}
 use Rattle.deck.specs.declared.Form.TheVariants.{Old}
 use Rattle.deck.specs.Deck.{Deck, M, N, decks}
 use Rattle.deck.specs.Encoding.{encode_rule, encode_part, encode_channels, encode_rules, encode_parts, encode}
-use Rattle.deck.specs.Laws.Formed.{formed}
-use Rattle.deck.specs.Laws.Forms.{suits-old}
-use Rattle.deck.specs.Laws.Reading.{encoded_layout, read-encode}
+use Rattle.deck.proofs.Laws.Formed.{formed}
+use Rattle.deck.proofs.Laws.Forms.{suits-old}
+use Rattle.deck.proofs.Laws.Reading.{encoded_layout, read-encode}
 use Rattle.deck.specs.declared.Deck as Counted
 use Rattle.conversion.specs.Converted.{split, new_number, renumbered, converted}
-use Rattle.conversion.specs.Laws.Renumbering.{flat_map-map, number-of-rules}
+use Rattle.conversion.proofs.Laws.Renumbering.{flat_map-map, number-of-rules}
 use Rattle.conversion_bytes.specs.Stands.{stretch, Stands, Listed, Walked}
 use Rattle.conversion_bytes.specs.Pieces.{PartStands, new_part_bytes}
 use Rattle.conversion_bytes.specs.Decks.{Encodes, Numbered, Sums, PartsIn}

@@ -13,10 +13,10 @@ use Rattle.expression.specs.Syntax.{constant}
 use Rattle.expression.specs.Encoding.{encode_value, encode_truth}
 use Rattle.deck.specs.Deck.{Part, Deck, R, M, N, rule_at}
 use Rattle.deck.specs.Encoding.{encode_expression, encode_part, is_rising, good_part, well_formed}
-use Rattle.deck.specs.Laws.Rules.{encode-part}
-use Rattle.deck.specs.Laws.Formed.{rising-head, part-tests, deck-tests}
+use Rattle.deck.proofs.Laws.Rules.{encode-part}
+use Rattle.deck.proofs.Laws.Formed.{rising-head, part-tests, deck-tests}
 use Rattle.conversion.specs.Converted.{split, new_number, new_numbers, renumbered}
-use Rattle.conversion.specs.Laws.Renumbering.{from-append, flat_map-cong, next-number}
+use Rattle.conversion.proofs.Laws.Renumbering.{from-append, flat_map-cong, next-number}
 use Rattle.conversion_bytes.specs.Stands.{stretch, Stands}
 use Rattle.conversion_bytes.specs.Pieces.{opening_bytes, limit_bytes, PartStands, PartEndings}
 use Rattle.conversion_bytes.specs.Pieces.{renewed, Known, part_bytes, new_part_bytes, PutsPart}

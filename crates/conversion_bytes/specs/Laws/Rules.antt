@@ -11,7 +11,7 @@ use Rattle.expression.specs.Encoding.{encode_num, encode_truth, encoding_express
 use Rattle.deck.specs.Deck.{Assignment, Action, Rule}
 use Rattle.deck.specs.Encoding.{encode_expression, encode_assignment, encode_action, kind_byte, encode_rule}
 use Rattle.conversion.specs.Converted.{default_rule, task_rule, split_by, split}
-use Rattle.conversion.specs.Laws.Renumbering.{no_rule}
+use Rattle.conversion.proofs.Laws.Renumbering.{no_rule}
 use Rattle.conversion_bytes.specs.Stands.{stretch, Stands, Walked}
 use Rattle.conversion_bytes.specs.Pieces.{event_bytes, task_bytes, RuleEnds, becomes, none_bytes, here_bytes, split_bytes, new_rule_bytes}
 use Rattle.conversion_bytes.specs.Decks.{Sums}

@@ -5,7 +5,7 @@ use Rattle.std.proofs.Math.Path.{ap}
 use mathlib.Core.List.{List, [], ◌∷◌, ◌++◌, append_assoc, append-nil, flat_map}
 use Rattle.std.proofs.Math.Nat.{sub-zero}
 use Rattle.std.proofs.lemmas.List.{take-append-le, set_split}
-use Rattle.conversion.specs.Laws.Renumbering.{flat_map-append}
+use Rattle.conversion.proofs.Laws.Renumbering.{flat_map-append}
 use Rattle.conversion_bytes.specs.Written.{Written}
 use Rattle.conversion_bytes.specs.Stands.{stretch}
 

@@ -5,10 +5,10 @@ use native.Mathlib.Omega.{arith}
 use borrow.Author.Rules.{rules}
 use lib.ListN.{get_or}
 use Rattle.deck.specs.Deck.{M}
-use Rattle.deck.specs.Laws.Formed.{formed}
+use Rattle.deck.proofs.Laws.Formed.{formed}
 use Rattle.passing.specs.Tabled.{deck_of}
 use Rattle.conversion.specs.Converted.{new_number, converted}
-use Rattle.conversion.specs.Laws.Renumbering.{number-of-rules}
+use Rattle.conversion.proofs.Laws.Renumbering.{number-of-rules}
 use Rattle.conversion_bytes.specs.Decks.{Numbered}
 use Rattle.conversion_call.specs.Laws.Answers.{convert-many}
 use Rattle.conversion_call.proofs.convert_passed.Goals as goal

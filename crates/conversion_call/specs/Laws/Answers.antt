@@ -9,15 +9,15 @@ use Rattle.deck.specs.Limits.{limits}
 use Rattle.deck.specs.Deck.{Deck, M}
 use Rattle.deck.specs.Encoding.{encode}
 use Rattle.deck.specs.declared.Deck as Counted
-use Rattle.deck.specs.Laws.Prefix.{encode-length}
+use Rattle.deck.proofs.Laws.Prefix.{encode-length}
 use Rattle.passing.specs.Check.{passing}
 use Rattle.passing.specs.Judged.{Passed}
-use Rattle.passing.specs.Laws.Passes.{passes-exactly}
+use Rattle.passing.proofs.Laws.Passes.{passes-exactly}
 use Rattle.passing.specs.Tabled.{layout_of, deck_of}
 use Rattle.conversion.specs.Converted.{converted}
 use Rattle.conversion.specs.Conversion.{reply, convert, reply_of}
-use Rattle.conversion.specs.Laws.Formed.{converted-formed, converted-suits}
-use Rattle.conversion.specs.Laws.Tests.{conversion-declines, too-many-rules, buffer-too-short, conversion-writes}
+use Rattle.conversion.proofs.Laws.Formed.{converted-formed, converted-suits}
+use Rattle.conversion.proofs.Laws.Tests.{conversion-declines, too-many-rules, buffer-too-short, conversion-writes}
 use Rattle.conversion_call.specs.Passed.{OldDeck}
 
 -- what the old check found

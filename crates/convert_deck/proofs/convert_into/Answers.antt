@@ -1,6 +1,6 @@
 -- `convert_deck::convert_into` meets its contract. Assumes nothing.
 use Rattle.std.proofs.Common.{refl}
-use Rattle.conversion.specs.Laws.Tests.{answer-fits}
+use Rattle.conversion.proofs.Laws.Tests.{answer-fits}
 use Rattle.convert_deck.proofs.Made.{answer-holds}
 use Rattle.convert_deck.proofs.convert_into.Goals as goal
 

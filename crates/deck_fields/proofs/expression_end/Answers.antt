@@ -3,8 +3,8 @@ use native.Mathlib.Omega.{arith}
 use native.Mathlib.Nat.{add-sub_cancel_left}
 use mathlib.Core.Path.{sym, ◌∙◌}
 use Rattle.deck.specs.Marks.{scope_of}
-use Rattle.deck.specs.Laws.Turns.{number-reads}
-use Rattle.deck.specs.Laws.Offsets.{expression-good}
+use Rattle.deck.proofs.Laws.Turns.{number-reads}
+use Rattle.deck.proofs.Laws.Offsets.{expression-good}
 use Rattle.deck_fields.proofs.expression_end.Goals as goal
 
 pub returns-then-is_whole : goal.returns-then-is_whole

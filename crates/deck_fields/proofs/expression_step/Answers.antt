@@ -3,8 +3,8 @@ use native.Mathlib.Omega.{arith}
 use native.Mathlib.Nat.{add-sub_cancel_left}
 use lib.ListN.{drop}
 use Rattle.deck.specs.Marks.{scope_of}
-use Rattle.deck.specs.Laws.Turns.{got-value}
-use Rattle.deck.specs.Laws.Offsets.{expression-fault, expression-ends, expression-searched}
+use Rattle.deck.proofs.Laws.Turns.{got-value}
+use Rattle.deck.proofs.Laws.Offsets.{expression-fault, expression-ends, expression-searched}
 use Rattle.deck_fields.proofs.expression_step.Goals as goal
 
 pub returns-in_default : goal.returns-in_default

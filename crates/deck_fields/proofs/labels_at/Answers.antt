@@ -1,7 +1,7 @@
 -- `deck_fields::labels_at` meets its contract. The loop's invariant: i labels were read. Assumes nothing.
 use native.Mathlib.Omega.{arith}
 use native.Mathlib.Nat.{sub-zero}
-use Rattle.deck.specs.Laws.Turns.{turns-none, repeats-next, repeats-fault, repeats-end}
+use Rattle.deck.proofs.Laws.Turns.{turns-none, repeats-next, repeats-fault, repeats-end}
 use Rattle.deck_fields.proofs.labels_at.Goals as goal
 
 pub loop-i-init : goal.loop-i-init

@@ -2,7 +2,7 @@
 use Prim.Native.Nat.{◌≤◌, ◌-◌}
 use lib.ListN.{length, drop}
 use Rattle.deck.specs.Reader.{repeats, label}
-use Rattle.deck.specs.Laws.Turns.{Turns}
+use Rattle.deck.proofs.Laws.Turns.{Turns}
 use Rattle.deck_fields.proofs.labels_at.Given as goal
 
 abbrev pub invariant-loop-i : goal.invariant-loop-i

@@ -1,7 +1,7 @@
 -- `deck_fields::number_at` meets its contract: where the deck ends, where the byte is too small or too large, and where it is read.
 -- Assumes nothing.
 use native.Mathlib.Omega.{arith}
-use Rattle.deck.specs.Laws.Turns.{number-ends, number_small, number-large, number-reads}
+use Rattle.deck.proofs.Laws.Turns.{number-ends, number_small, number-large, number-reads}
 use Rattle.deck_fields.proofs.number_at.Goals as goal
 
 pub returns-then-s-at : goal.returns-then-s-at

@@ -6,7 +6,7 @@ use native.Mathlib.Omega.{arith}
 use native.Mathlib.Nat.{sub-zero}
 use lib.Bits.{bit_or}
 use Rattle.lists.specs.Laws.Bits.{bit_shifted, mask-add, mask-empty}
-use Rattle.deck.specs.Laws.Turns.{turns-none, number-below, got-value, rising-next, rising-fault, rising-end}
+use Rattle.deck.proofs.Laws.Turns.{turns-none, number-below, got-value, rising-next, rising-fault, rising-end}
 use Rattle.deck_fields.proofs.rising_at.Goals as goal
 
 pub loop-i-init : goal.loop-i-init

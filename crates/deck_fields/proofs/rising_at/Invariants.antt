@@ -5,7 +5,7 @@ use mathlib.Core.Path.{◌≡◌}
 use lib.ListN.{length, drop}
 use Rattle.lists.specs.Bits.{mask_of}
 use Rattle.deck.specs.Reader.{rising}
-use Rattle.deck.specs.Laws.Turns.{Turns}
+use Rattle.deck.proofs.Laws.Turns.{Turns}
 use Rattle.deck_fields.proofs.rising_at.Given as goal
 
 abbrev pub invariant-loop-i : goal.invariant-loop-i

@@ -1,7 +1,7 @@
 -- `deck_parts::part_at` meets its contract: opening values, count, carried rules and limit, one after the other. Assumes nothing.
 use native.Mathlib.Numerals.{add-one}
-use Rattle.deck.specs.Laws.Turns.{got-value}
-use Rattle.deck.specs.Laws.PartSteps.{no-values, no-count, no-carried, part-read}
+use Rattle.deck.proofs.Laws.Turns.{got-value}
+use Rattle.deck.proofs.Laws.PartSteps.{no-values, no-count, no-carried, part-read}
 use Rattle.deck_parts.proofs.part_at.Goals as goal
 
 pub returns-in_default : goal.returns-in_default

@@ -11,7 +11,7 @@ use Rattle.refusals.specs.Outcome.{accepted}
 use Rattle.deck.specs.declared.Form.{Form}
 use Rattle.deck.specs.Reader.{Got}
 use Rattle.deck.specs.Marks.{Marked, marked_sections, rules_at, FewRules}
-use Rattle.deck.specs.Laws.RuleCount.{rule-count}
+use Rattle.deck.proofs.Laws.RuleCount.{rule-count}
 use Rattle.deck_reading.proofs.few_rules.Goals as goal
 
 -- no deck: the answer is no

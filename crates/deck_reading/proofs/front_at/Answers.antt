@@ -2,9 +2,9 @@
 use mathlib.Core.Path.{refl}
 use native.Mathlib.Omega.{arith}
 use lib.ListN.{drop}
-use Rattle.deck.specs.Laws.Turns.{got-value, number-below}
-use Rattle.deck.specs.Laws.RuleCount.{count-read}
-use Rattle.deck.specs.Laws.DeckSteps.{no-channels, no-labels, no-rules, front_read}
+use Rattle.deck.proofs.Laws.Turns.{got-value, number-below}
+use Rattle.deck.proofs.Laws.RuleCount.{count-read}
+use Rattle.deck.proofs.Laws.DeckSteps.{no-channels, no-labels, no-rules, front_read}
 use Rattle.deck_reading.proofs.front_at.Goals as goal
 
 pub returns-in_default : goal.returns-in_default

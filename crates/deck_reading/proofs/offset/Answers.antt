@@ -3,7 +3,7 @@ use mathlib.Core.Path.{sym}
 use native.Mathlib.Omega.{arith}
 use borrow.Author.Rules.{rules}
 use Rattle.deck.specs.Sections.{offset_of}
-use Rattle.deck.specs.Laws.Stretches.{offset-end}
+use Rattle.deck.proofs.Laws.Stretches.{offset-end}
 use Rattle.deck_reading.proofs.offset.Goals as goal
 
 pub returns-then-number-eq0 : goal.returns-then-number-eq0

@@ -4,8 +4,8 @@ use mathlib.Core.Path.{◌≡◌, ◌∙◌}
 use native.Mathlib.Omega.{arith}
 use lib.ListN.{length, drop, drop_of_length-le}
 use lib.Seq.{drop-cons}
-use Rattle.deck.specs.Laws.Turns.{got-value, number-below}
-use Rattle.deck.specs.Laws.DeckSteps.{no_front, no-parts, same_parts, bad-part, bytes-follow, sections-end, same-deck}
+use Rattle.deck.proofs.Laws.Turns.{got-value, number-below}
+use Rattle.deck.proofs.Laws.DeckSteps.{no_front, no-parts, same_parts, bad-part, bytes-follow, sections-end, same-deck}
 use Rattle.deck_reading.proofs.read.Goals as goal
 
 pub returns-in_default : goal.returns-in_default

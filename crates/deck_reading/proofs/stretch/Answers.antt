@@ -5,7 +5,7 @@ use native.Mathlib.Omega.{arith}
 use native.Mathlib.Numerals.{add-one}
 use lib.ListN.{length, take, drop}
 use Rattle.deck.specs.Sections.{offset_of, stretch_of}
-use Rattle.deck.specs.Laws.Stretches.{offset-order}
+use Rattle.deck.proofs.Laws.Stretches.{offset-order}
 use Rattle.deck_reading.proofs.stretch.Goals as goal
 
 -- the part's two ends are in order

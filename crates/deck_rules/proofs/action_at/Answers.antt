@@ -5,8 +5,8 @@ use native.Mathlib.Omega.{arith}
 use native.Mathlib.Nat.{sub-zero}
 use Rattle.lists.specs.Laws.Bits.{bit_shifted}
 use Rattle.deck.specs.Marks.{scope_of}
-use Rattle.deck.specs.Laws.Turns.{got-value}
-use Rattle.deck.specs.Laws.ActionTurns.{action-fault, action-none, assigning-next, assigning-fault, assigning-end}
+use Rattle.deck.proofs.Laws.Turns.{got-value}
+use Rattle.deck.proofs.Laws.ActionTurns.{action-fault, action-none, assigning-next, assigning-fault, assigning-end}
 use Rattle.deck_rules.proofs.action_at.Goals as goal
 
 pub returns-in_default : goal.returns-in_default

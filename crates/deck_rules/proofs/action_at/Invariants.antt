@@ -4,7 +4,7 @@ use Prim.Native.Nat.{◌≤◌, ◌-◌}
 use lib.ListN.{length, drop}
 use Rattle.deck.specs.Layout.{action}
 use Rattle.deck.specs.Marks.{scope_of}
-use Rattle.deck.specs.Laws.ActionTurns.{Assigning}
+use Rattle.deck.proofs.Laws.ActionTurns.{Assigning}
 use Rattle.deck_rules.proofs.action_at.Given as goal
 
 abbrev pub invariant-loop-i : goal.invariant-loop-i

@@ -6,8 +6,8 @@ use lib.ListN.{drop}
 use borrow.Author.Tests.{eq-eqb, ne_eqb}
 use Rattle.lists.specs.Bits.{bit}
 use Rattle.deck.specs.Marks.{scope_of}
-use Rattle.deck.specs.Laws.Turns.{number-below, got-value}
-use Rattle.deck.specs.Laws.Offsets.{assignment-fault, assignment-repeated, assignment-value}
+use Rattle.deck.proofs.Laws.Turns.{number-below, got-value}
+use Rattle.deck.proofs.Laws.Offsets.{assignment-fault, assignment-repeated, assignment-value}
 use Rattle.deck_rules.proofs.assignment_at.Goals as goal
 
 pub returns-in_default : goal.returns-in_default

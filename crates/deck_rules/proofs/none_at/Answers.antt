@@ -6,8 +6,8 @@ use lib.ListN.{drop}
 use Rattle.lists.specs.Lists.{lists}
 use Rattle.lists.specs.Laws.Bits.{mask-empty}
 use Rattle.deck.specs.Deck.{targets}
-use Rattle.deck.specs.Laws.Turns.{got-value}
-use Rattle.deck.specs.Laws.Forms.{default-count, default_none, default-some}
+use Rattle.deck.proofs.Laws.Turns.{got-value}
+use Rattle.deck.proofs.Laws.Forms.{default-count, default_none, default-some}
 use Rattle.deck_rules.proofs.none_at.Goals as goal
 
 pub returns-in_default : goal.returns-in_default

@@ -2,8 +2,8 @@
 -- nothing.
 use native.Mathlib.Omega.{arith}
 use lib.ListN.{drop}
-use Rattle.deck.specs.Laws.Turns.{got-value}
-use Rattle.deck.specs.Laws.RuleOffsets.{rule-fault, events-fault, default-fault, rule-reads}
+use Rattle.deck.proofs.Laws.Turns.{got-value}
+use Rattle.deck.proofs.Laws.RuleOffsets.{rule-fault, events-fault, default-fault, rule-reads}
 use Rattle.deck_rules.proofs.rule_at.Goals as goal
 
 pub returns-in_default : goal.returns-in_default

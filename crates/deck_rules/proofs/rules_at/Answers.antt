@@ -6,8 +6,8 @@ use native.Mathlib.Nat.{sub-zero}
 use lib.ListN.{length, length-take, length-drop}
 use borrow.Author.Rules.{rules}
 use Rattle.deck.specs.Marks.{marked_rule, rule_row}
-use Rattle.deck.specs.Laws.Turns.{turns-none, repeats-next, repeats-fault, repeats-end}
-use Rattle.deck.specs.Laws.Rows.{filled_none, filled_next, filled-all}
+use Rattle.deck.proofs.Laws.Turns.{turns-none, repeats-next, repeats-fault, repeats-end}
+use Rattle.deck.proofs.Laws.Rows.{filled_none, filled_next, filled-all}
 use Rattle.deck_rules.proofs.rules_at.Goals as goal
 
 pub loop-i-init : goal.loop-i-init

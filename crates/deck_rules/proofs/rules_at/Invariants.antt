@@ -5,8 +5,8 @@ use mathlib.Core.Path.{◌≡◌}
 use lib.ListN.{length, drop}
 use Rattle.deck.specs.Reader.{repeats}
 use Rattle.deck.specs.Marks.{marked_rule, rule_row}
-use Rattle.deck.specs.Laws.Turns.{Turns}
-use Rattle.deck.specs.Laws.Rows.{Filled}
+use Rattle.deck.proofs.Laws.Turns.{Turns}
+use Rattle.deck.proofs.Laws.Rows.{Filled}
 use Rattle.deck_rules.proofs.rules_at.Given as goal
 
 abbrev pub invariant-loop-i : goal.invariant-loop-i

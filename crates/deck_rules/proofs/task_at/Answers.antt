@@ -4,8 +4,8 @@ use Prim.Native.Nat.{◌≤◌}
 use native.Mathlib.Omega.{arith}
 use native.Mathlib.Nat.{mul-le-mul}
 use lib.ListN.{drop}
-use Rattle.deck.specs.Laws.Turns.{number-below, got-value}
-use Rattle.deck.specs.Laws.RuleOffsets.{task-fault, condition-fault, task-reads}
+use Rattle.deck.proofs.Laws.Turns.{number-below, got-value}
+use Rattle.deck.proofs.Laws.RuleOffsets.{task-fault, condition-fault, task-reads}
 use Rattle.deck_rules.proofs.task_at.Goals as goal
 
 pub returns-in_default : goal.returns-in_default

@@ -1,5 +1,5 @@
 -- `expression::num_op` meets its contract. Assumes nothing.
-use Rattle.expression.specs.Laws.OperatorBytes.{num-unknown}
+use Rattle.expression.proofs.Laws.OperatorBytes.{num-unknown}
 use Rattle.expression.proofs.num_op.Goals as goal
 
 pub returns-in_default : goal.returns-in_default

@@ -1,5 +1,5 @@
 -- `expression::truth_op` meets its contract. Assumes nothing.
-use Rattle.expression.specs.Laws.OperatorBytes.{truth-unknown}
+use Rattle.expression.proofs.Laws.OperatorBytes.{truth-unknown}
 use Rattle.expression.proofs.truth_op.Goals as goal
 
 pub returns-in_default : goal.returns-in_default

@@ -2,7 +2,7 @@
 use mathlib.Core.List.{[]}
 use Rattle.expression.specs.Answers.{scope}
 use Rattle.expression.specs.Faults.{a_number}
-use Rattle.expression.specs.Laws.Searches.{missing}
+use Rattle.expression.proofs.Laws.Searches.{missing}
 use Rattle.expression_faults.proofs.Operators.{as-literal, as_own, as-far, as-no-far, as-two, as-two-first, as-negation}
 use Rattle.expression_faults.proofs.Operators.{as-no-number}
 use Rattle.expression_faults.proofs.+num_fault.Goals as goal

@@ -2,7 +2,7 @@
 use mathlib.Core.List.{[]}
 use Rattle.expression.specs.Answers.{scope}
 use Rattle.expression.specs.Faults.{a_truth}
-use Rattle.expression.specs.Laws.Searches.{missing}
+use Rattle.expression.proofs.Laws.Searches.{missing}
 use Rattle.expression_faults.proofs.Operators.{as-constant, as-not, as-both, as-both-first, as-compared, as-compared-first}
 use Rattle.expression_faults.proofs.Operators.{as-no-truth}
 use Rattle.expression_faults.proofs.+truth_fault.Goals as goal

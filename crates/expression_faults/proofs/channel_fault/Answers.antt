@@ -1,5 +1,5 @@
 -- `expression_faults::channel_fault` meets its contract. Assumes nothing.
-use Rattle.expression.specs.Laws.Searches.{no-channel, a-channel, unknown-channel}
+use Rattle.expression.proofs.Laws.Searches.{no-channel, a-channel, unknown-channel}
 use Rattle.expression_faults.proofs.channel_fault.Goals as goal
 
 pub returns-then-s-at : goal.returns-then-s-at

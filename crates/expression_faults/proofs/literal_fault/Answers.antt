@@ -1,6 +1,6 @@
 -- `expression_faults::literal_fault` meets its contract. Assumes nothing.
 use native.Mathlib.Omega.{arith}
-use Rattle.expression.specs.Laws.Searches.{literal-ends, literal-cut}
+use Rattle.expression.proofs.Laws.Searches.{literal-ends, literal-cut}
 use Rattle.expression_faults.proofs.literal_fault.Goals as goal
 
 pub returns-then-s-at-lt4 : goal.returns-then-s-at-lt4

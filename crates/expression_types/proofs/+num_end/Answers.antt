@@ -2,7 +2,7 @@
 use mathlib.Core.Path.{sym, ap}
 use native.Mathlib.Omega.{arith}
 use Rattle.expression.specs.Reading.{num_op}
-use Rattle.expression.specs.Laws.OperatorBytes.{num-past}
+use Rattle.expression.proofs.Laws.OperatorBytes.{num-past}
 use Rattle.expression_types.proofs.Checking.{here, no-num, operation, as-two, as-two-nothing, as-negation, as-unknown}
 use Rattle.expression_types.proofs.+num_end.Goals as goal
 

@@ -1,7 +1,7 @@
 -- `expression_types::is_num` meets its contract. Assumes nothing.
 use mathlib.Core.Path.{◌∙◌}
 use Rattle.expression.specs.Answers.{scope}
-use Rattle.expression.specs.Laws.WholeAnswers.{ends-num}
+use Rattle.expression.proofs.Laws.WholeAnswers.{ends-num}
 use Rattle.expression_types.proofs.is_num.Goals as goal
 
 pub returns : goal.returns

@@ -1,7 +1,7 @@
 -- `expression_types::is_truth` meets its contract. Assumes nothing.
 use mathlib.Core.Path.{◌∙◌}
 use Rattle.expression.specs.Answers.{scope}
-use Rattle.expression.specs.Laws.WholeAnswers.{ends-truth}
+use Rattle.expression.proofs.Laws.WholeAnswers.{ends-truth}
 use Rattle.expression_types.proofs.is_truth.Goals as goal
 
 pub returns : goal.returns

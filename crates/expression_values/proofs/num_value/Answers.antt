@@ -6,7 +6,7 @@ use mir.ValLaws.{to_z-of_z}
 use borrow.Author.Rules.{rules}
 use borrow.Author.Tests.{eq-eqb, ne_eqb}
 use Rattle.expression.specs.declared.NumValue.TheVariants.{Value}
-use Rattle.expression.specs.Laws.WholeAnswers.{whole-num}
+use Rattle.expression.proofs.Laws.WholeAnswers.{whole-num}
 use Rattle.expression_values.proofs.num_value.Goals as goal
 
 pub returns-then-n-s : goal.returns-then-n-s

@@ -1,6 +1,6 @@
 -- `expression_values::truth_value` meets its contract. Assumes nothing.
 use borrow.Author.Tests.{eq-eqb, ne_eqb}
-use Rattle.expression.specs.Laws.WholeAnswers.{whole-truth}
+use Rattle.expression.proofs.Laws.WholeAnswers.{whole-truth}
 use Rattle.expression_values.proofs.truth_value.Goals as goal
 
 pub returns-then-n-s : goal.returns-then-n-s

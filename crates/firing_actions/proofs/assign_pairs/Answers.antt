@@ -8,7 +8,7 @@ use lib.IntN.{ℤ, pos, nat_abs}
 use mir.Syntax.{w32}
 use mir.Val.{to_z, of_z}
 use mir.ValLaws.{to_z-of_z}
-use Rattle.firing.specs.Laws.Pairs.{assign-next, assign_end}
+use Rattle.firing.proofs.Laws.Pairs.{assign-next, assign_end}
 use Rattle.firing_actions.proofs.Naturals.{index-there, index_is}
 use Rattle.firing_actions.proofs.assign_pairs.Goals as goal
 

@@ -11,7 +11,7 @@ use mir.Val.{to_z, of_z}
 use mir.ValLaws.{to_z-of_z}
 use Rattle.lists.specs.Laws.Bits.{bit_shifted}
 use Rattle.pool.specs.Updates.{updates}
-use Rattle.firing.specs.Laws.Pairs.{Comparing, comparing-none, comparing-other, comparing-same, compared, unequal, equal}
+use Rattle.firing.proofs.Laws.Pairs.{Comparing, comparing-none, comparing-other, comparing-same, compared, unequal, equal}
 use Rattle.firing_actions.proofs.Bits.{bits-same}
 use Rattle.firing_actions.proofs.Naturals.{back-small, index-there, index_is}
 use Rattle.firing_actions.proofs.changed_by.Goals as goal

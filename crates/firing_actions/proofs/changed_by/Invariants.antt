@@ -2,7 +2,7 @@
 use Prim.Native.Nat.{◌-◌, ◌≤◌}
 use mathlib.Core.Path.{◌≡◌}
 use lib.ListN.{length}
-use Rattle.firing.specs.Laws.Pairs.{Comparing}
+use Rattle.firing.proofs.Laws.Pairs.{Comparing}
 use Rattle.firing_actions.proofs.changed_by.Given as goal
 
 abbrev pub invariant-loop-i : goal.invariant-loop-i

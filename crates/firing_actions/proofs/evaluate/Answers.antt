@@ -6,8 +6,8 @@ use native.Mathlib.Omega.{arith}
 use lib.ListN.{length, get_or}
 use Rattle.expression.specs.Answers.{scope}
 use Rattle.deck.specs.Deck.{Action}
-use Rattle.firing.specs.Laws.Lined.{ActionStands}
-use Rattle.firing.specs.Laws.Written.{Turn}
+use Rattle.firing.proofs.Laws.Lined.{ActionStands}
+use Rattle.firing.proofs.Laws.Written.{Turn}
 use Rattle.firing_actions.proofs.Rows.{Reading, stands-there, row-begun, row-turn, row-turned, row-ended}
 use Rattle.firing_actions.proofs.evaluate.Goals as goal
 

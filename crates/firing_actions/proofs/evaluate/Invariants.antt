@@ -4,7 +4,7 @@ use Prim.Native.Nat.{◌-◌, ◌≤◌}
 use mathlib.Core.Path.{◌≡◌}
 use lib.ListN.{get_or}
 use Rattle.deck.specs.Deck.{Action}
-use Rattle.firing.specs.Laws.Written.{Writing}
+use Rattle.firing.proofs.Laws.Written.{Writing}
 use Rattle.firing_actions.proofs.Rows.{Reading}
 use Rattle.firing_actions.proofs.evaluate.Given as goal
 

@@ -8,7 +8,7 @@ use lib.IntN.{ℤ, pos}
 use mir.Syntax.{w32}
 use mir.Val.{to_z}
 use Rattle.deck.specs.Deck.{Action}
-use Rattle.firing.specs.Laws.Written.{Turn}
+use Rattle.firing.proofs.Laws.Written.{Turn}
 use Rattle.firing_actions.proofs.Rows.{Reading, row-begun, row-turn, row-turned, row-ended}
 use Rattle.firing_actions.proofs.evaluate_one.Goals as goal
 

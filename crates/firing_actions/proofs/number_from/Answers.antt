@@ -6,7 +6,7 @@ use mir.Syntax.{w32}
 use mir.Val.{SFits}
 use mir.ValLaws.{to_z-of_z}
 use borrow.Author.Rules.{rules}
-use Rattle.firing.specs.Laws.Evaluated.{number-there, told, not_none}
+use Rattle.firing.proofs.Laws.Evaluated.{number-there, told, not_none}
 use Rattle.firing_actions.proofs.number_from.Goals as goal
 
 pub bounds-deck-at : goal.bounds-deck-at

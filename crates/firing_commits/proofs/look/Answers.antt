@@ -8,7 +8,7 @@ use lib.ListN.{length, get_or, take, drop}
 use lib.IntN.{ℤ, pos}
 use borrow.Author.Rules.{rules}
 use Rattle.deck.specs.Deck.{Deck, R, N}
-use Rattle.deck.specs.Laws.Shape.{shape-R, shape-N}
+use Rattle.deck.proofs.Laws.Shape.{shape-R, shape-N}
 use Rattle.pool.specs.Places.{update_of}
 use Rattle.pool_states.specs.Fits.{within}
 use Rattle.pool_states.specs.Answer.{HoldsKnown}

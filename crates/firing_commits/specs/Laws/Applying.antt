@@ -10,17 +10,18 @@ use Rattle.lists.specs.Bits.{mask_of}
 use Rattle.deck.specs.Deck.{Deck, R, N}
 use Rattle.pool.specs.Updates.{Update, channels, assign}
 use Rattle.pool.specs.Places.{zeros, place, pairs_of, update_of, pools}
-use Rattle.pool.specs.Laws.Places.{short, numbers-length}
-use Rattle.pool.specs.Laws.Good.{written_same, place_short}
+use Rattle.pool.proofs.Laws.Places.{numbers-length}
+use Rattle.pool.specs.Fine.{short}
+use Rattle.pool.proofs.Laws.Good.{written_same, place_short}
 use Rattle.pool_states.specs.Answer.{HoldsKnown}
 use Rattle.pool_states.specs.Fits.{within}
 use Rattle.pool_states.specs.Laws.Fits.{within-pos}
 use Rattle.pool_states.specs.Laws.PairsHeld.{known-low}
 use Rattle.firing.specs.Firing.{changed}
 use Rattle.firing.specs.Evaluated.{Assignable, held_pairs, channels_set, Compared}
-use Rattle.firing.specs.Laws.Commits.{Known, known-has}
-use Rattle.firing.specs.Laws.Pairs.{numbers, pairs-numbers, numbers-assignable}
-use Rattle.firing.specs.Laws.Setting.{set_back, compared-changed}
+use Rattle.firing.proofs.Laws.Commits.{Known, known-has}
+use Rattle.firing.proofs.Laws.Pairs.{numbers, pairs-numbers, numbers-assignable}
+use Rattle.firing.proofs.Laws.Setting.{set_back, compared-changed}
 
 -- the first numbers of a place, and the pairs behind them
 module _ (u : Update) (s : short u ≡ true) where

@@ -8,26 +8,27 @@ use Rattle.lists.specs.Bits.{mask_of}
 use Rattle.lists.specs.Laws.Alls.{all_of-weaken}
 use Rattle.deck.specs.Deck.{Deck}
 use Rattle.deck.specs.declared.Deck as Counted
-use Rattle.deck.specs.Laws.Forms.{NoDefaults}
-use Rattle.deck.specs.Laws.Shape.{shape-R, shape-N}
-use Rattle.graph.specs.Laws.Cycles.{Acyclic}
-use Rattle.charge.specs.Laws.Equations.{update-at-least-one}
+use Rattle.deck.specs.Facts.{NoDefaults}
+use Rattle.deck.proofs.Laws.Shape.{shape-R, shape-N}
+use Rattle.graph.specs.Acyclic.{Acyclic}
+use Rattle.charge.proofs.Laws.Equations.{update-at-least-one}
 use Rattle.pool.specs.Updates.{Update, channels, value_at, assign, charge}
 use Rattle.pool.specs.Places.{zeros, pairs_of}
 use Rattle.pool.specs.States.{Machine, known}
 use Rattle.pool.specs.Moves.{written}
-use Rattle.pool.specs.Laws.Values.{assign-length}
-use Rattle.pool.specs.Laws.Good.{Fine, count-bounded}
+use Rattle.pool.proofs.Laws.Values.{assign-length}
+use Rattle.pool.proofs.Laws.Good.{count-bounded}
+use Rattle.pool.specs.Fine.{Fine}
 use Rattle.pool_holes.specs.Slots.{Slot, hole, standing, holes, whole, before}
-use Rattle.pool_holes.specs.Laws.Standing.{standing-pick, standing-inside, standing-emptied, holes-emptied}
-use Rattle.pool_holes.specs.Laws.Spread.{emptied-length}
+use Rattle.pool_holes.proofs.Laws.Standing.{standing-pick, standing-inside, standing-emptied, holes-emptied}
+use Rattle.pool_holes.proofs.Laws.Spread.{emptied-length}
 use Rattle.pool_states.specs.Laws.Shape.{same_known, shape-charge}
 use Rattle.passing.specs.Check.{within}
 use Rattle.passing.specs.Tabled.{deck_of, Tabled}
 use Rattle.deck.specs.Shape.{shape}
 use Rattle.firing.specs.Firing.{fired, changed, enqueue, set_and_fire, pick, without, committed}
 use Rattle.firing.specs.Evaluated.{Assignable}
-use Rattle.firing.specs.Laws.Commits.{Known, pick_known, commit-falls, commit-fine, without-charge}
+use Rattle.firing.proofs.Laws.Commits.{Known, pick_known, commit-falls, commit-fine, without-charge}
 use Rattle.charge.specs.Charge.{update_charge}
 use Rattle.charge.specs.Memo.{Memo, Ready, capped}
 use Rattle.pool_index.specs.Index.{Roomy}

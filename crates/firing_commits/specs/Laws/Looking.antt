@@ -9,22 +9,23 @@ use Rattle.deck.specs.Deck.{Deck, R, N}
 use Rattle.charge.specs.Charge.{update_charge}
 use Rattle.charge.specs.Memo.{capped}
 use Rattle.deck.specs.declared.Deck as Counted
-use Rattle.deck.specs.Laws.Shape.{shape-R, shape-N}
+use Rattle.deck.proofs.Laws.Shape.{shape-R, shape-N}
 use Rattle.pool.specs.Updates.{Update, channels, assign, charge}
 use Rattle.pool.specs.Places.{place, pairs_of, update_of}
 use Rattle.pool.specs.States.{known}
-use Rattle.pool.specs.Laws.Places.{short, update-back, place-length, place-well}
+use Rattle.pool.proofs.Laws.Places.{update-back, place-length, place-well}
+use Rattle.pool.specs.Fine.{short}
 use Rattle.pool_holes.specs.Slots as Slots
 use Rattle.pool_holes.specs.Slots.{Slot, hole, standing, before, fits, Spread}
-use Rattle.pool_holes.specs.Laws.Standing.{standing-pick, standing-inside}
-use Rattle.pool_holes.specs.Laws.Spread.{fits-short, spread_at}
+use Rattle.pool_holes.proofs.Laws.Standing.{standing-pick, standing-inside}
+use Rattle.pool_holes.proofs.Laws.Spread.{fits-short, spread_at}
 use Rattle.pool_states.specs.Answer.{HoldsKnown, PlaceGives}
 use Rattle.pool_states.specs.Fits.{within}
 use Rattle.pool_states.specs.Laws.Places.{Place, place_of}
 use Rattle.pool_states.specs.Laws.PairsHeld.{held-part, known-part}
 use Rattle.firing.specs.Firing.{pick, without}
 use Rattle.firing.specs.Evaluated.{Assignable, Compared}
-use Rattle.firing.specs.Laws.Commits.{without-charge}
+use Rattle.firing.proofs.Laws.Commits.{without-charge}
 use Rattle.deck.specs.Shape.{shape}
 use Rattle.firing_commits.specs.Commits.{At, Looking, Looks}
 use Rattle.firing_commits.specs.Laws.Applying.{held-few, held-assignable, held-long, held_update, held_back, held-undone}

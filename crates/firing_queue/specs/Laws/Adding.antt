@@ -13,14 +13,14 @@ use Rattle.charge.specs.Memo.{Memo, capped}
 use Rattle.pool.specs.Updates.{Update, channels, is_among, charge}
 use Rattle.pool.specs.Places.{update_of, place, places, updates_of}
 use Rattle.pool.specs.Moves.{written}
-use Rattle.pool.specs.Laws.Places.{short}
-use Rattle.pool.specs.Laws.Good.{count-bounded, written_same, updates-short}
+use Rattle.pool.specs.Fine.{short}
+use Rattle.pool.proofs.Laws.Good.{count-bounded, written_same, updates-short}
 use Rattle.pool_holes.specs.Slots.{Slot, holds, standing, holes, whole, fits}
-use Rattle.pool_holes.specs.Laws.Standing.{whole_append}
+use Rattle.pool_holes.proofs.Laws.Standing.{whole_append}
 use Rattle.pool_states.specs.Laws.PairsHeld.{known_some}
 use Rattle.pool_states.specs.Answer.{HoldsKnown, PlaceGives}
 use Rattle.firing.specs.Firing.{enqueue}
-use Rattle.firing.specs.Laws.Enqueue.{behind, charge-append, enqueue-grows}
+use Rattle.firing.proofs.Laws.Enqueue.{behind, charge-append, enqueue-grows}
 use Rattle.pool_index.specs.Hash.{bucket_of}
 use Rattle.pool_index.specs.Index.{heads_of, Indexed, Ends, Entering, Enters}
 use Rattle.pool_index.specs.Laws.Entering.{roomy-heads}

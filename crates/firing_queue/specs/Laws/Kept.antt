@@ -7,13 +7,13 @@ use Rattle.lists.specs.Lists.{all_of, any_of, eq_z, eq_list, is_empty}
 use Rattle.pool.specs.Updates.{Update, is_among}
 use Rattle.pool.specs.Places.{zeros, is_zero, place, places}
 use Rattle.pool.specs.Moves.{written, Laid}
-use Rattle.pool.specs.Laws.Laid.{laid-places}
+use Rattle.pool.proofs.Laws.Laid.{laid-places}
 use Rattle.pool_index.specs.Index.{lives, Indexed, Enters}
 use Rattle.pool_index.specs.Laws.Indexed.{indexed-taken}
 use Rattle.pool_holes.specs.Slots.{Slot, hole, holds, row, standing, holes, whole, fits}
-use Rattle.pool_holes.specs.Laws.Standing.{standing-append, whole-standing, whole_length, places-counted}
-use Rattle.pool_holes.specs.Laws.Spread.{spread-whole, spread-emptied, spread-pushed, pushed-length, spread-pending, places-rows}
-use Rattle.pool_holes.specs.Laws.Gathering.{spread-laid}
+use Rattle.pool_holes.proofs.Laws.Standing.{standing-append, whole-standing, whole_length, places-counted}
+use Rattle.pool_holes.proofs.Laws.Spread.{spread-whole, spread-emptied, spread-pushed, pushed-length, spread-pending, places-rows}
+use Rattle.pool_holes.proofs.Laws.Gathering.{spread-laid}
 use Rattle.firing_queue.specs.Queue.{Held, held_of, Kept}
 
 -- ---- lists of slots

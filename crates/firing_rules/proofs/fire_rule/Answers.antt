@@ -6,7 +6,7 @@ use mathlib.Core.List.{[]}
 use lib.Dec.{lit<}
 use borrow.Author.Rules.{rules}
 use Rattle.deck.specs.Deck.{Rule, rule_at}
-use Rattle.charge.specs.Laws.Tables.{Field}
+use Rattle.charge.proofs.Laws.Tables.{Field}
 use Rattle.passing.specs.Tabled.{deck_of}
 use Rattle.firing_queue.specs.Laws.Queue.{offered-none, offered-as}
 use Rattle.firing_rules.specs.Reactions.{Tasked}

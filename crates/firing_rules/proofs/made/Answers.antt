@@ -1,7 +1,7 @@
 -- `firing_rules::made` meets its contract: own and far channels are lent as the condition had them. Assumes nothing.
 use native.Mathlib.Nat.{le-add_right}
 use lib.Dec.{lit<}
-use Rattle.charge.specs.Laws.Tables.{Field}
+use Rattle.charge.proofs.Laws.Tables.{Field}
 use Rattle.firing_rules.specs.Laws.Sent.{field, fars-fit, own-stretch, far-stretch, to_low, action-known, made_so}
 use Rattle.firing_rules.proofs.made.Goals as goal
 

@@ -2,7 +2,7 @@
 -- nothing.
 use mathlib.Core.Path.{sym, ◌∙◌}
 use lib.Dec.{lit<}
-use Rattle.charge.specs.Laws.Tables.{Field}
+use Rattle.charge.proofs.Laws.Tables.{Field}
 use Rattle.firing_rules.specs.Laws.Sent.{adds_none, adds-some, field, fars-fit, own-stretch, far-stretch, condition-known}
 use Rattle.firing_rules.specs.Laws.Sent.{condition-value, action-inside, action-length}
 use Rattle.firing_rules.proofs.sends.Goals as goal

@@ -10,7 +10,7 @@ use Rattle.deck.specs.Deck.{Deck, Rule, M, rule_at, part_at, carries, active}
 use Rattle.deck.specs.Shape.{bits_of, shape}
 use Rattle.deck.specs.Tables.{TablesOf, Ranged}
 use Rattle.deck.specs.declared.Deck as Counted
-use Rattle.deck.specs.Laws.Tables.{bits-of-mask}
+use Rattle.deck.proofs.Laws.Tables.{bits-of-mask}
 use Rattle.charge.specs.Charge.{others}
 use Rattle.charge.specs.Memo.{hearing, ActiveIs}
 use Rattle.pool.specs.Updates.{Update}

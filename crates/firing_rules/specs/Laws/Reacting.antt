@@ -10,7 +10,7 @@ use Rattle.pool.specs.Updates.{charge, value_at}
 use Rattle.passing.specs.Tabled.{deck_of}
 use Rattle.deck.specs.Shape.{shape}
 use Rattle.firing.specs.Firing.{changed}
-use Rattle.firing.specs.Laws.Enqueue.{enqueue-none}
+use Rattle.firing.proofs.Laws.Enqueue.{enqueue-none}
 use Rattle.pool_holes.specs.Slots.{Slot, standing, whole}
 use Rattle.firing_queue.specs.Queue.{Held, Kept, Grown, Offering}
 use Rattle.firing_rules.specs.Reactions.{Fires}

@@ -16,32 +16,32 @@ use Rattle.expression.specs.Values.{truth_value}
 use Rattle.expression.specs.Reading.{Scope, whole_truth}
 use Rattle.expression.specs.Answers.{scope, value_in, num_in}
 use Rattle.expression.specs.Encoding.{good_num, good_truth}
-use Rattle.expression.specs.Laws.Agreement.{num-agree, truth-agree}
+use Rattle.expression.proofs.Laws.Agreement.{num-agree, truth-agree}
 use Rattle.deck.specs.Deck.{Deck, Action, Assignment, Rule, R, M, N, rule_at, targets}
 use Rattle.deck.specs.Layout.{truths, expression, action, own_only, own_and_far, task_scope}
 use Rattle.deck.specs.Encoding.{kind_byte}
 use Rattle.deck.specs.declared.Deck as Counted
-use Rattle.deck.specs.Laws.Points.{ReadsAt}
-use Rattle.deck.specs.Laws.Scoped.{all_in}
-use Rattle.deck.specs.Laws.Formed as Formed
-use Rattle.deck.specs.Laws.Shape.{shape-R, shape-N}
+use Rattle.deck.specs.Facts.{ReadsAt}
+use Rattle.deck.specs.Facts.{all_in}
+use Rattle.deck.proofs.Laws.Formed as Formed
+use Rattle.deck.proofs.Laws.Shape.{shape-R, shape-N}
 use Rattle.charge.specs.Charge.{others}
-use Rattle.charge.specs.Laws.Tables.{Field, field_of}
+use Rattle.charge.proofs.Laws.Tables.{Field, field_of}
 use Rattle.pool.specs.Updates.{Pair, Update, channels, value_at}
 use Rattle.pool.specs.Places.{place, update_of, well_written}
 use Rattle.pool.specs.States.{known}
-use Rattle.pool.specs.Laws.Places.{update-back, place-well}
+use Rattle.pool.proofs.Laws.Places.{update-back, place-well}
 use Rattle.pool_states.specs.Answer.{HoldsKnown}
 use Rattle.pool_states.specs.Laws.Shape.{same-holds}
 use Rattle.passing.specs.Stands.{Stands, HasTruth, TruthIs}
 use Rattle.passing.specs.Tabled.{deck_of, Tabled}
 use Rattle.deck.specs.Shape.{shape}
-use Rattle.passing.specs.Laws.Limits.{stretch_of, stretch-length, stretch-value}
-use Rattle.passing.specs.Laws.Stands.{stands}
+use Rattle.passing.proofs.Laws.Limits.{stretch_of, stretch-length, stretch-value}
+use Rattle.passing.proofs.Laws.Stands.{stands}
 use Rattle.firing.specs.Firing.{evaluated, sent, holds, fired_here, fired_there}
 use Rattle.firing.specs.Evaluated.{update_by, HasAction, ActionIs}
-use Rattle.firing.specs.Laws.Lined.{action-stands, action-count}
-use Rattle.firing.specs.Laws.Written.{row-length}
+use Rattle.firing.proofs.Laws.Lined.{action-stands, action-count}
+use Rattle.firing.proofs.Laws.Written.{row-length}
 use Rattle.firing_rules.specs.Reactions.{adds, fired_in, Tasked, Made}
 
 -- the channels that are lent are those of the scope: the own ones of part p, the far ones of part q

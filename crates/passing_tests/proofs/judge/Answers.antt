@@ -5,8 +5,8 @@ use native.Mathlib.Omega.{arith}
 use lib.ListN.{length, replicate, length-replicate}
 use Rattle.deck.specs.Marks.{Loads}
 use Rattle.deck.specs.declared.Loaded.{Loaded}
-use Rattle.passing.specs.Laws.Passing.{passing-reads}
-use Rattle.passing.specs.Laws.Judged.{rules-fit, loaded-tabled, loaded-read, loaded-memo, loaded-wrong, wrong-place, bytes-known}
+use Rattle.passing.proofs.Laws.Passing.{passing-reads}
+use Rattle.passing.proofs.Laws.Judged.{rules-fit, loaded-tabled, loaded-read, loaded-memo, loaded-wrong, wrong-place, bytes-known}
 use Rattle.passing_tests.proofs.judge.Goals as goal
 
 -- what the pass answered, by cases: the table of the parts began as zeros

@@ -2,7 +2,7 @@
 use mathlib.Core.Path.{refl, sym, ◌∙◌}
 use mathlib.Core.Logic.{inl, inr}
 use native.Mathlib.Omega.{arith}
-use Rattle.passing.specs.Laws.Judged.{above_place, acyclic-tables, cycle-none, memo-zeros, memo-length}
+use Rattle.passing.proofs.Laws.Judged.{above_place, acyclic-tables, cycle-none, memo-zeros, memo-length}
 use Rattle.passing_tests.proofs.judge_rules.Goals as goal
 
 pub first_cycle-c-requires : goal.first_cycle-c-requires

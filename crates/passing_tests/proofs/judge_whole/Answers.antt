@@ -1,8 +1,8 @@
 -- `passing_tests::judge_whole` meets its contract: 6, and then 7 and 8. Assumes nothing.
 use native.Mathlib.Omega.{arith}
 use Rattle.passing.specs.Tabled.{deck_of}
-use Rattle.passing.specs.Laws.Tabled.{tabled-kept}
-use Rattle.passing.specs.Laws.Judged.{parts-known, rules-sized, rules-known, outside-found, outside-none, outside-refused, rules-judged}
+use Rattle.passing.proofs.Laws.Tabled.{tabled-kept}
+use Rattle.passing.proofs.Laws.Judged.{parts-known, rules-sized, rules-known, outside-found, outside-none, outside-refused, rules-judged}
 use Rattle.passing_tests.proofs.judge_whole.Goals as goal
 
 pub refused-requires : goal.refused-requires

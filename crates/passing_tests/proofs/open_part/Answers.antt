@@ -13,7 +13,7 @@ use mir.Syntax.{w32}
 use mir.ValLaws.{to_z-of_z}
 use Rattle.expression.specs.Reading.{signed}
 use Rattle.passing.specs.Stands.{values_from}
-use Rattle.passing.specs.Laws.Stands.{values_length, values-at, value-is}
+use Rattle.passing.proofs.Laws.Stands.{values_length, values-at, value-is}
 use Rattle.passing_tests.proofs.open_part.Goals as goal
 
 pub loop-c-preserved : goal.loop-c-preserved

@@ -8,9 +8,9 @@ use lib.IntN.{ℤ}
 use Rattle.deck.specs.Deck.{N}
 use Rattle.pool.specs.Places.{zeros}
 use Rattle.passing.specs.Tabled.{deck_of, PartsKnown}
-use Rattle.passing.specs.Laws.Opening.{zeros-length, open_to, open_none, open-length, open_next, open-all, known-part, opening-stands}
+use Rattle.passing.proofs.Laws.Opening.{zeros-length, open_to, open_none, open-length, open_next, open-all, known-part, opening-stands}
 use Rattle.deck.specs.declared.Deck as Counted
-use Rattle.deck.specs.Laws.Formed.{Formed}
+use Rattle.deck.specs.Facts.{Formed}
 use Rattle.passing_tests.proofs.open_parts.Goals as goal
 
 pub loop-p-init : goal.loop-p-init

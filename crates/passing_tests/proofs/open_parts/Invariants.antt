@@ -3,8 +3,8 @@ use Prim.Native.Nat.{◌-◌, ◌≤◌}
 use mathlib.Core.Path.{◌≡◌}
 use lib.ListN.{length}
 use Rattle.passing.specs.Tabled.{deck_of}
-use Rattle.passing.specs.Laws.Opening.{open_to}
-use Rattle.deck.specs.Laws.Formed.{Formed}
+use Rattle.passing.proofs.Laws.Opening.{open_to}
+use Rattle.deck.specs.Facts.{Formed}
 use Rattle.passing_tests.proofs.open_parts.Given as goal
 
 abbrev pub invariant-loop-p : goal.invariant-loop-p

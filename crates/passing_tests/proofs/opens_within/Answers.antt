@@ -9,8 +9,8 @@ use Rattle.expression.specs.Answers.{scope, truth_in}
 use Rattle.deck.specs.Deck.{part_at}
 use Rattle.passing.specs.Stands.{Stands, stretch}
 use Rattle.passing.specs.Tabled.{deck_of}
-use Rattle.passing.specs.Laws.Opening.{opening-length, known-part, opening-stands, alone-length, alone-opening}
-use Rattle.passing.specs.Laws.Limits.{limit-stands, opens-value}
+use Rattle.passing.proofs.Laws.Opening.{opening-length, known-part, opening-stands, alone-length, alone-opening}
+use Rattle.passing.proofs.Laws.Limits.{limit-stands, opens-value}
 use Rattle.passing_tests.proofs.opens_within.Goals as goal
 
 pub open_part-requires : goal.open_part-requires

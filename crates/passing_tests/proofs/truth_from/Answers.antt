@@ -5,7 +5,7 @@ use native.Mathlib.Omega.{arith}
 use lib.ListN.{get_or, take, drop}
 use Rattle.expression.specs.Answers.{whole_truth_value}
 use Rattle.passing.specs.Stands.{stretch}
-use Rattle.passing.specs.Laws.Stands.{truth-there, told, not_none}
+use Rattle.passing.proofs.Laws.Stands.{truth-there, told, not_none}
 use Rattle.passing_tests.proofs.truth_from.Goals as goal
 
 pub bounds-deck-at : goal.bounds-deck-at

@@ -6,7 +6,7 @@ use native.Mathlib.Nat.{add-sub_cancel_left}
 use lib.ListN.{length}
 use Rattle.deck.specs.Deck.{R, N, part_at}
 use Rattle.passing.specs.Tabled.{deck_of}
-use Rattle.passing.specs.Laws.Limits.{stretch_of, stretch-length, limit-value, limit-stands}
+use Rattle.passing.proofs.Laws.Limits.{stretch_of, stretch-length, limit-value, limit-stands}
 use Rattle.passing_tests.proofs.within.Goals as goal
 
 pub truth_from-requires : goal.truth_from-requires

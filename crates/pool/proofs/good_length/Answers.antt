@@ -1,7 +1,7 @@
 -- `pool::good_length` meets its contract. Assumes nothing.
 use mathlib.Core.Path.{sym}
 use native.Mathlib.Omega.{arith}
-use Rattle.pool.specs.Laws.Lengths.{length-low, length_high, length-mid}
+use Rattle.pool.proofs.Laws.Lengths.{length-low, length_high, length-mid}
 use Rattle.pool.proofs.good_length.Goals as goal
 
 pub returns-then-n-lt-PLACE : goal.returns-then-n-lt-PLACE

@@ -5,7 +5,7 @@ use Prim.Native.Nat.{◌+◌, ◌*◌, ◌-◌, ◌≤◌}
 use mathlib.Core.Path.{◌≡◌}
 use native.Mathlib.Omega.{arith}
 use lib.ListN.{length}
-use Rattle.pool_holes.specs.Laws.Gathering.{passing-starts, passing-low, passing-next, passing-room, moved-low, passing-ends}
+use Rattle.pool_holes.proofs.Laws.Gathering.{passing-starts, passing-low, passing-next, passing-room, moved-low, passing-ends}
 use Rattle.pool_holes.proofs.gather.Goals as goal
 
 -- behind the loop

@@ -2,7 +2,7 @@
 -- are in
 -- the first `to` places. Assumes nothing.
 use Prim.Native.Nat.{◌-◌}
-use Rattle.pool_holes.specs.Laws.Gathering.{Passing}
+use Rattle.pool_holes.proofs.Laws.Gathering.{Passing}
 use Rattle.pool_holes.proofs.gather.Given as goal
 
 abbrev pub invariant-loop-from : goal.invariant-loop-from

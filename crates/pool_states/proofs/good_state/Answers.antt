@@ -4,7 +4,7 @@ use mathlib.Core.Bool.{true, ◌&&◌}
 use native.Mathlib.Omega.{arith}
 use Rattle.deck.specs.Deck.{Deck}
 use Rattle.deck.specs.Shape.{shape}
-use Rattle.deck.specs.Laws.Shape.{counted-R, counted-N}
+use Rattle.deck.proofs.Laws.Shape.{counted-R, counted-N}
 use Rattle.charge.specs.Memo.{capped}
 use Rattle.pool.specs.Updates.{all_different, charge}
 use Rattle.pool.specs.Places.{updates_of}

@@ -1,6 +1,6 @@
 -- `pool_states::place_charge` meets its contract: part and channels of the place give the charge. Assumes nothing.
 use native.Mathlib.Omega.{arith}
-use Rattle.deck.specs.Laws.Shape.{counted-R, counted-N}
+use Rattle.deck.proofs.Laws.Shape.{counted-R, counted-N}
 use Rattle.pool.specs.Places.{update_of}
 use Rattle.pool_states.specs.Laws.PairsHeld.{known-low}
 use Rattle.pool_states.specs.Laws.Charges.{holds-part, holds-charge}

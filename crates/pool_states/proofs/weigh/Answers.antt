@@ -14,7 +14,7 @@ use mir.Val.{Fits}
 use Rattle.lists.specs.Bits.{mask_of}
 use Rattle.deck.specs.Deck.{Deck, R}
 use Rattle.deck.specs.Shape.{shape, bits_of}
-use Rattle.deck.specs.Laws.Shape.{counted-R, counted-N}
+use Rattle.deck.proofs.Laws.Shape.{counted-R, counted-N}
 use Rattle.charge.specs.Charge.{update_charge}
 use Rattle.charge.specs.Memo.{Answered}
 use Rattle.pool.specs.Updates.{channels}

@@ -6,10 +6,10 @@ use Rattle.lists.specs.Bits.{mask_of}
 use Rattle.lists.specs.Laws.Members.{all_of-member}
 use Rattle.deck.specs.Deck.{Deck, R, N}
 use Rattle.deck.specs.Shape.{bits_of}
-use Rattle.deck.specs.Laws.Tables.{SameTests, bits-of-mask}
+use Rattle.deck.proofs.Laws.Tables.{SameTests, bits-of-mask}
 use Rattle.charge.specs.Charge.{update_charge}
 use Rattle.charge.specs.Memo.{Answered, capped}
-use Rattle.charge.specs.Laws.Shape.{same-update-charge}
+use Rattle.charge.proofs.Laws.Shape.{same-update-charge}
 use Rattle.pool.specs.Updates.{channels}
 use Rattle.pool.specs.Places.{update_of}
 use Rattle.pool_states.specs.Answer.{HoldsKnown, PlaceGives}

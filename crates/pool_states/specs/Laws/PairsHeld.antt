@@ -10,7 +10,7 @@ use Rattle.deck.specs.Deck.{Deck, R, N}
 use Rattle.pool.specs.Updates.{Update, channels}
 use Rattle.pool.specs.Places.{zeros, pairs_of, update_of, well_written}
 use Rattle.pool.specs.States.{known}
-use Rattle.pool.specs.Laws.Good.{written_same}
+use Rattle.pool.proofs.Laws.Good.{written_same}
 use Rattle.pool_index.specs.Index.{lives}
 use Rattle.pool_index.specs.Laws.Indexed.{place-lives}
 use Rattle.pool_states.specs.Answer.{HoldsKnown}

@@ -11,8 +11,8 @@ use Rattle.lists.specs.Laws.Booleans.{and_left, and_right}
 use Rattle.deck.specs.Deck.{Deck, R, M, N}
 use Rattle.deck.specs.Shape.{shape_of}
 use Rattle.deck.specs.Tables.{TablesOf, Ranged}
-use Rattle.deck.specs.Laws.Shape.{shape-R, shape-N}
-use Rattle.charge.specs.Laws.Shape.{shape-update-charge}
+use Rattle.deck.proofs.Laws.Shape.{shape-R, shape-N}
+use Rattle.charge.proofs.Laws.Shape.{shape-update-charge}
 use Rattle.pool.specs.Updates.{Update, channels, all_different, charge}
 use Rattle.pool.specs.Places.{is_zero, capacity, update_of, well_written, places, updates_of}
 use Rattle.pool.specs.States.{Memory, unused_zero, known, good}

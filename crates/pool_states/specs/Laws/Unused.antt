@@ -12,7 +12,7 @@ use Rattle.lists.specs.Laws.Booleans.{and_both}
 use Rattle.deck.specs.Deck.{Deck, R, N}
 use Rattle.pool.specs.Places.{is_zero}
 use Rattle.pool.specs.States.{unused_zero}
-use Rattle.pool.specs.Laws.Values.{used}
+use Rattle.pool.proofs.Laws.Values.{used}
 
 module _ (d : Deck) where
   pub unused-append : (i : ℕ) (l m : List ℤ) → unused_zero d i (l ++ m) ≡ (unused_zero d i l && unused_zero d (i + length l) m)

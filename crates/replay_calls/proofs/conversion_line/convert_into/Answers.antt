@@ -1,7 +1,7 @@
 -- `replay_calls::conversion_line::convert_into` meets its contract: the first bytes of the deck's room and of the buffer are lent. Assumes
 -- nothing.
 use Rattle.std.proofs.Common.{length-take-le}
-use Rattle.conversion.specs.Laws.Tests.{answer-fits}
+use Rattle.conversion.proofs.Laws.Tests.{answer-fits}
 use Rattle.replay_calls.proofs.conversion_line.convert_into.Goals as goal
 
 pub returns : goal.returns

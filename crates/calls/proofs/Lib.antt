@@ -1,0 +1,2 @@
+-- The laws of the definitions of `calls`, and their cases.
+pub mod Laws

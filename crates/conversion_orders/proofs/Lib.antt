@@ -1,0 +1,3 @@
+-- The laws of the definitions of `conversion_orders`, and their cases.
+pub mod Cases
+pub mod Laws
