@@ -1,12 +1,12 @@
 -- The front of the buffer that a conversion leaves is the new deck. Assumes nothing.
-use Rattle.std.proofs.Common.{◌≡◌, ℕ, List, ◌++◌, refl, sym, ap, ◌∙◌, length, take, drop}
+use Rattle.std.proofs.Common.{◌≡◌, ℕ, List, refl, sym, ap, ◌∙◌, length, take, drop}
 use lib.Seq.{take-append_seam}
 use Rattle.refusals.specs.Outcome.{Outcome, refused, accepted}
 use Rattle.refusals.specs.Laws.Outcomes.{refused≢accepted, accepted-inj}
 use Rattle.conversion.specs.Conversion.{conversion, reply, convert, convert_outcome, reply_of}
 use Rattle.conversion.specs.declared.ConvertAnswer.{ConvertAnswer}
 use Rattle.conversion.specs.declared.ConvertAnswer.TheVariants.{Converted, Refused}
-use Rattle.convert_deck.specs.Written.{bytes_of, Holds}
+use Rattle.convert_deck.specs.Written.{Holds}
 
 of-outcome : (r : ConvertAnswer) (buffer after : List ℕ) (made : Outcome (List ℕ)) → reply_of (convert_outcome r) after ≡ reply buffer made
     → Holds r after made
