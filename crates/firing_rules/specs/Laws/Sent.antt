@@ -23,7 +23,7 @@ use Rattle.deck.specs.Encoding.{kind_byte}
 use Rattle.deck.specs.declared.Deck as Counted
 use Rattle.deck.specs.Facts.{ReadsAt}
 use Rattle.deck.specs.Facts.{all_in}
-use Rattle.deck.proofs.Laws.Formed as Formed
+use Rattle.deck.specs.Facts as Formed
 use Rattle.deck.proofs.Laws.Shape.{shape-R, shape-N}
 use Rattle.charge.specs.Charge.{others}
 use Rattle.charge.proofs.Laws.Tables.{Field, field_of}
