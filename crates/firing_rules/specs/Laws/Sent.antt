@@ -21,9 +21,7 @@ use Rattle.deck.specs.Deck.{Deck, Action, Assignment, Rule, R, M, N, rule_at, ta
 use Rattle.deck.specs.Layout.{truths, expression, action, own_only, own_and_far, task_scope}
 use Rattle.deck.specs.Encoding.{kind_byte}
 use Rattle.deck.specs.declared.Deck as Counted
-use Rattle.deck.specs.Facts.{ReadsAt}
-use Rattle.deck.specs.Facts.{all_in}
-use Rattle.deck.proofs.Laws.Formed as Formed
+use Rattle.deck.specs.Facts.{ReadsAt, Sound, all_in}
 use Rattle.deck.proofs.Laws.Shape.{shape-R, shape-N}
 use Rattle.charge.specs.Charge.{others}
 use Rattle.charge.proofs.Laws.Tables.{Field, field_of}
@@ -156,7 +154,7 @@ part_low : (own far : List ℤ) (q : ℕ) (a : Action) (n : ℕ) → q < n → l
 unfolding update_by
 part_low own far q a n h = lt-ltb q n h
 
-known-update : (d : Deck) (own far : List ℤ) (q : ℕ) (a : Action) → q < N d → (length a ≡ 0 → ⊥) → Formed.Sound (R d) a
+known-update : (d : Deck) (own far : List ℤ) (q : ℕ) (a : Action) → q < N d → (length a ≡ 0 → ⊥) → Sound (R d) a
     → known d (update_by own far q a) ≡ true
 unfolding known
 known-update d own far q a l h f =
