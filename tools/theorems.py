@@ -11,14 +11,33 @@ import os
 import re
 import sys
 
-HEAD = re.compile(r"^( *)((?:(?:unfoldable|abbrev|pub|mutual|pattern) )*)(record |data )?([^\s:(){}|=λ,]+)(?=(?: [({]| :))")
+HEAD = re.compile(r"^( *)((?:(?:unfoldable|abbrev|pub|pattern) )*)(record |data )?([^\s:(){}|=λ,]+)(?=(?: [({]| :|$))")
 PATH = re.compile(r"Rattle\.\w+\.(?:specs|proofs)\.(?:[A-Z]\w*\.)*")
+
+
+def signature(lines, at, end):
+    """Whether a declaration's arguments end in a colon, and not in an equals sign: a clause is none."""
+    text = " ".join(l.strip() for l in lines[at : at + 12])
+    i = text.find(end) + len(end)
+    while i < len(text):
+        if text[i] in "({":
+            depth = 0
+            while i < len(text):
+                depth += {"(": 1, "{": 1, ")": -1, "}": -1}.get(text[i], 0)
+                i += 1
+                if not depth:
+                    break
+        elif text[i] == " ":
+            i += 1
+        else:
+            return text[i] == ":" and text[i : i + 2] in (": ", ":")
+    return False
 
 
 def declarations(path):
     """name -> text, in order: of a definition, a record and a data type all of it, of a lemma its statement."""
     lines = [re.sub(r"(?:^|(?<=\s))--.*$", "", l).rstrip() for l in open(path, encoding="utf-8")]
-    found, at, outer = [], 0, []
+    found, at, outer, mutual = [], 0, [], None
     while at < len(lines):
         line = lines[at]
         if not line.strip() or line.startswith("use "):
@@ -35,19 +54,25 @@ def declarations(path):
             at += 1
             continue
         outer = [(d, t) for d, t in outer if d < depth]
+        mutual = mutual if mutual is not None and mutual < depth else None
+        if re.match(r"^ *(?:(?:unfoldable|abbrev) )*mutual$", line):
+            mutual = depth
+            at += 1
+            continue
         m = HEAD.match(line)
-        if not m or re.match(r"^ *(let|elim|where|in)\b", line):
+        if not m or re.match(r"^ *(let|elim|where|in)(?=\s|$)", line) or not signature(lines, at, m[4]):
             at += 1
             continue
         block = [line]
         k = at + 1
         while k < len(lines):
             inner = len(lines[k]) - len(lines[k].lstrip())
-            if lines[k].strip() and (inner < depth or inner == depth and HEAD.match(lines[k])):
+            begins = (HEAD.match(lines[k]) and signature(lines, k, HEAD.match(lines[k])[4])) or re.match(r"^ *module |^ *(?:unfoldable )*mutual$", lines[k])
+            if lines[k].strip() and (inner < depth or inner == depth and begins):
                 break
             block.append(lines[k])
             k += 1
-        whole = m[3] or re.search(r"unfoldable|abbrev", m[2])
+        whole = m[3] or re.search(r"unfoldable|abbrev", m[2]) or mutual is not None
         if not whole:
             statement = [block[0]]
             for l in block[1:]:
