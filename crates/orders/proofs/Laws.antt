@@ -13,6 +13,7 @@ pub mod Discovered
 pub mod Nodes
 pub mod Steps
 pub mod Known
+pub mod Entered
 pub mod Reaches
 pub mod Published
 pub mod Settled

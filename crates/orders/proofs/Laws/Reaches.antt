@@ -20,6 +20,7 @@ use Rattle.orders.specs.Calculus.{Program, Node, Label, executes, enters, tasks_
 use Rattle.orders.specs.Calculus.{Acts, exec, exec_fail, input, Discovers, System, program_of, Step, system_of}
 use Rattle.orders.proofs.Laws.Fired.{at}
 use Rattle.orders.proofs.Laws.Known.{limit-same, def_upds-same, local_upds-same, ext_tasks-same, changed_by-same}
+use Rattle.orders.proofs.Laws.Entered.{entered, input-state}
 use Rattle.orders.proofs.Laws.Steps.{Committing, commit-step, sending}
 
 -- what executes an update: (EXEC) or (EXEC-FAIL)
@@ -27,11 +28,6 @@ pub executed : (P : Program) (n n' : Node) (upd : List Pair) (ts : List Task) �
     → (Exec P n upd n' × (ts ≡ sent_tasks P n upd n')) ⊎ (ExecFail P n upd n' × (ts ≡ []))
 executed P n n' upd ts (exec e) = inl (e, refl)
 executed P n n' upd ts (exec_fail e) = inr (e, refl)
-
--- what enters values: (INPUT)
-entered : (P : Program) (n n' : Node) (upd : List Pair) (ts : List Task) → Acts P n (enters upd ts) n'
-    → Input P n upd n' × (ts ≡ sent_tasks P n upd n')
-entered P n n' upd ts (input i) = (i, refl)
 
 -- two nodes of n channels that cannot be told apart
 pub record Alike (n : ℕ) (a b : Node) : Type 0 where
@@ -91,10 +87,6 @@ module _ (d : Deck) (scoped : Scoped d) (p : ℕ) (n a b : Node) (upd : List Pai
   fail-state : ExecFail Q n upd a → ExecFail Q n upd b → Agree (R d) a.state b.state
   unfolding program_of
   fail-state e f c lc = e.state c lc ∙ sym (f.state c lc)
-
-  input-state : Input Q n upd a → Input Q n upd b → Agree (R d) a.state b.state
-  unfolding program_of
-  input-state e f c lc = e.state c lc ∙ sym (f.state c lc)
 
 -- two nodes that came to the same state, each with what was kept and what is new, are alike
 alike-new : (d : Deck) → Scoped d → (p : ℕ) (n a b : Node) (upd : List Pair) → all_of (λ c. ltb c (R d)) (channels_in upd) ≡ true
