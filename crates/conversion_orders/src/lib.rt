@@ -1,2 +1,2 @@
-// What the conversion of an old deck keeps. The laws are in specs/.
+// What the conversion of an old deck keeps, in specs/, with the laws in proofs/.
 #![tactic(auto)]
