@@ -1,7 +1,9 @@
 -- What the tests of a deck answer, in code. Assumes nothing.
-use Rattle.std.specs.Prelude.{ℕ, ◌≤◌, ◌<◌, ◌≡◌, ◌⊎◌, List, [], length, replicate}
-use Rattle.refusals.specs.Outcome.{refused, accepted}
+use Rattle.std.specs.Prelude.{ℕ, ◌≤◌, ◌<◌, ◌≡◌, ◌⊎◌, List, [], length, replicate, Result, Ok, Err}
+use Rattle.refusals.specs.Outcome.{accepted}
 use Rattle.refusals.specs.Numbers.{cyclic_graph, overcharged}
+use Rattle.refusals.specs.Declined.{number_of, decline_outcome}
+use Rattle.refusals.specs.declared.Declined.{Declined}
 use Rattle.expression.specs.Bytes.{Bytes}
 use Rattle.deck.specs.declared.Form.{Form}
 use Rattle.deck.specs.Layout.{read}
@@ -14,11 +16,9 @@ use Rattle.graph.specs.Masks.{Sized}
 use Rattle.charge.specs.Charge.{largest_charge}
 use Rattle.charge.specs.Memo.{Noted, AcyclicTables, memo_size, Memo}
 use Rattle.charge.specs.Answer.{bound_of}
-use Rattle.charge.specs.declared.Bound.TheVariants.{Within, Above}
 use Rattle.passing.specs.Check.{passing}
 use Rattle.passing.specs.Tabled.{layout_of, deck_of, Tabled}
-use Rattle.passing.specs.declared.Judged.{Judged}
-use Rattle.passing.specs.declared.Judged.TheVariants.{Passing, Refused}
+use Rattle.passing.specs.declared.Passing.{Passing}
 
 -- tables that the searches can take
 pub record RulesKnown (rules parts : List ℕ) (k : Counted.Deck) : Type 0 where
@@ -29,16 +29,16 @@ pub record RulesKnown (rules parts : List ℕ) (k : Counted.Deck) : Type 0 where
   pub noted : Noted rules parts k.rules k.parts
 
 -- the lowest cycle, else the lowest charge above the bound, else the largest charge, with a memo of charges
-abbrev pub JudgesRules : List ℕ → List ℕ → List ℕ → Counted.Deck → Judged → Type 0
-JudgesRules rules parts memo k (Passing c n) =
-    (c ≡ k)
+abbrev pub JudgesRules : List ℕ → List ℕ → List ℕ → Counted.Deck → Result Passing Declined → Type 0
+JudgesRules rules parts memo k (Ok x) =
+    (x.counts ≡ k)
     × (first_cycle (shape rules parts k) ≡ k.channels)
-    × (bound_of (shape rules parts k) ≡ Within n)
+    × (bound_of (shape rules parts k) ≡ Ok x.charge)
     × AcyclicTables rules parts k
     × Memo (shape rules parts k) memo
-JudgesRules rules parts memo k (Refused n p) =
-    ((n ≡ cyclic_graph) × (first_cycle (shape rules parts k) ≡ p) × (p < k.channels))
-    ⊎ ((n ≡ overcharged) × (first_cycle (shape rules parts k) ≡ k.channels) × (bound_of (shape rules parts k) ≡ Above p))
+JudgesRules rules parts memo k (Err x) =
+    ((number_of x.refusal ≡ cyclic_graph) × (first_cycle (shape rules parts k) ≡ x.place) × (x.place < k.channels))
+    ⊎ ((number_of x.refusal ≡ overcharged) × (first_cycle (shape rules parts k) ≡ k.channels) × (bound_of (shape rules parts k) ≡ Err x.place))
 
 -- zeros, a row of eight for each of 32 channels and for each of the rules that the bytes tell of
 pub record ZeroRules (s rules : List ℕ) : Type 0 where
@@ -67,10 +67,10 @@ pub record Passed (f : Form) (s rules parts memo : List ℕ) (k : Counted.Deck) 
   pub charges : Memo (shape rules parts k) memo
   pub bytes : Bytes s
 
-abbrev pub Judges : Form → List ℕ → List ℕ → List ℕ → List ℕ → Judged → Type 0
-Judges f s rules parts memo (Passing k n) = Passed f s rules parts memo k n
-Judges f s rules parts memo (Refused n p) = passing f s ≡ refused n p
+abbrev pub Judges : Form → List ℕ → List ℕ → List ℕ → List ℕ → Result Passing Declined → Type 0
+Judges f s rules parts memo (Ok x) = Passed f s rules parts memo x.counts x.charge
+Judges f s rules parts memo (Err x) = passing f s ≡ decline_outcome x
 
 -- the same of a deck that was read, in whichever form
-abbrev pub JudgesRead : List ℕ → List ℕ → List ℕ → List ℕ → Judged → Type 0
+abbrev pub JudgesRead : List ℕ → List ℕ → List ℕ → List ℕ → Result Passing Declined → Type 0
 JudgesRead s rules parts memo r = (f : Form) → read f s ≡ accepted (layout_of s) → Judges f s rules parts memo r

@@ -1,4 +1,4 @@
-// The definitions of the tests of a deck, in specs/, with the enum that they name and the lengths of the tables that a call lends.
+// The definitions of the tests of a deck, in specs/, with the struct that they name and the lengths of the tables that a call lends.
 // The crate `passing_tests` computes the tests.
 #![tactic(auto)]
 
@@ -16,9 +16,9 @@ pub const MEMO: usize = Deck::RULES * Deck::PARTS;
 
 pub const PART_TABLE: usize = Deck::PARTS * Deck::PART_ROW;
 
-// A deck that passes, with the largest charge of its carried rules; or the refusal, 1 to 8 or 18 to 20.
+// A deck that passes, with the largest charge of its carried rules. Another one is declined, with 1 to 8 or 18 to 20.
 #[derive(Clone, Copy)]
-pub enum Judged {
-    Passing { counts: Deck, charge: u32 },
-    Refused { number: u32, place: u32 },
+pub struct Passing {
+    pub counts: Deck,
+    pub charge: u32,
 }

@@ -1,6 +1,6 @@
 -- The tests of a deck as a search makes them: 6, 7 and 8 each by the number that is found, or by its bound where none is.
 -- Assumes nothing.
-use Rattle.std.specs.Prelude.{ℕ, ◌<◌, ◌≡◌, refl, not, List, [], ◌∷◌}
+use Rattle.std.specs.Prelude.{ℕ, ◌<◌, ◌≡◌, refl, not, List, [], ◌∷◌, Result, Ok, Err}
 use Rattle.std.proofs.Common.{sym, ap, ◌∙◌, subst}
 use Rattle.lists.specs.Lists.{first_or}
 use Rattle.lists.specs.Laws.First.{first-none, first_found}
@@ -13,8 +13,6 @@ use Rattle.graph.specs.Graph.{edge, reaches_itself, cyclic}
 use Rattle.graph.specs.FirstCycle.{first_cycle}
 use Rattle.charge.specs.Charge.{carried_charges, above_bound, largest_charge}
 use Rattle.charge.specs.Answer.{bound_by, bound_of}
-use Rattle.charge.specs.declared.Bound.{Bound}
-use Rattle.charge.specs.declared.Bound.TheVariants.{Within, Above}
 use Rattle.passing.specs.Check.{within, opening_values, outside, passing}
 use Rattle.passing.proofs.Laws.Passing.{later_tests, later-clean, passing-judges}
 
@@ -31,24 +29,24 @@ unfolding first_cycle cyclic
 none-cyclic d h = first-none (reaches_itself (R d) (edge d)) (R d) h
 
 -- a bound is one of the two, with its number
-abbrev charge_of : Bound → ℕ
-charge_of (Within n) = n
-charge_of (Above p) = 0
+abbrev charge_of : Result ℕ ℕ → ℕ
+charge_of (Ok n) = n
+charge_of (Err p) = 0
 
-abbrev place_of : Bound → ℕ
-place_of (Within n) = 0
-place_of (Above p) = p
+abbrev place_of : Result ℕ ℕ → ℕ
+place_of (Ok n) = 0
+place_of (Err p) = p
 
-abbrev IsAbove : Bound → Type 0
-IsAbove (Within n) = ⊥
-IsAbove (Above p) = Unit {0}
+abbrev IsAbove : Result ℕ ℕ → Type 0
+IsAbove (Ok n) = ⊥
+IsAbove (Err p) = Unit {0}
 
-within-bound : (l : List ℕ) (n k : ℕ) → bound_by l n ≡ Within k → (l ≡ []) × (n ≡ k)
+within-bound : (l : List ℕ) (n k : ℕ) → bound_by l n ≡ Ok k → (l ≡ []) × (n ≡ k)
 unfolding bound_by
 within-bound [] n k e = (refl, ap charge_of e)
 within-bound (x ∷ xs) n k e = absurd (subst IsAbove e tt)
 
-pub above-bound : (l : List ℕ) (n p : ℕ) → bound_by l n ≡ Above p → (ps : List ℕ) × (l ≡ p ∷ ps)
+pub above-bound : (l : List ℕ) (n p : ℕ) → bound_by l n ≡ Err p → (ps : List ℕ) × (l ≡ p ∷ ps)
 unfolding bound_by
 above-bound [] n p e = absurd (subst IsAbove (sym e) tt)
 above-bound (x ∷ xs) n p e = (xs, ap (λ y. y ∷ xs) (ap place_of e))
@@ -68,13 +66,13 @@ module _ (f : Form) (bytes : List ℕ) (l : Layout) (e : read f bytes ≡ accept
     passing-7 c h k = passing-judges f bytes l e ∙ rw (none-outside d six, (first_found (R d) c (cyclic d) h k).1)
 
     module _ (seven : first_cycle d ≡ R d) where
-      pub passing-8 : (p : ℕ) → bound_of d ≡ Above p → passing f bytes ≡ refused overcharged p
+      pub passing-8 : (p : ℕ) → bound_of d ≡ Err p → passing f bytes ≡ refused overcharged p
       unfolding bound_of later_tests outcomes
       passing-8 p h =
           passing-judges f bytes l e
           ∙ rw (none-outside d six, none-cyclic d seven, (above-bound (above_bound (carried_charges d)) (largest_charge d) p h).1)
 
-      pub passing-whole : (n : ℕ) → bound_of d ≡ Within n → (passing f bytes ≡ accepted l) × (largest_charge d ≡ n)
+      pub passing-whole : (n : ℕ) → bound_of d ≡ Ok n → (passing f bytes ≡ accepted l) × (largest_charge d ≡ n)
       unfolding bound_of
       passing-whole n h =
           let b = within-bound (above_bound (carried_charges d)) (largest_charge d) n h in

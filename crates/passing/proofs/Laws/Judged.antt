@@ -1,5 +1,5 @@
 -- From what the pass and the searches give to the answer of the tests of a deck. Assumes nothing.
-use Rattle.std.specs.Prelude.{ℕ, suc, ◌≤◌, ◌<◌, ◌≡◌, refl, Bool, List, [], ◌∷◌, length, get_or, replicate}
+use Rattle.std.specs.Prelude.{ℕ, suc, ◌≤◌, ◌<◌, ◌≡◌, refl, Bool, List, [], ◌∷◌, length, get_or, replicate, Result, Ok, Err}
 use Rattle.std.proofs.Math.Path.{sym}
 use Rattle.std.proofs.Common.{ap, ◌∙◌, subst, inl, inr, Fits, lt-ltb}
 use Rattle.std.proofs.Math.Bool.{not}
@@ -13,6 +13,8 @@ use Rattle.lists.specs.Laws.Below.{select-first}
 use Rattle.lists.specs.Laws.Booleans.{and_both}
 use Rattle.refusals.specs.Outcome.{refused, accepted}
 use Rattle.refusals.specs.Numbers.{opens_outside}
+use Rattle.refusals.specs.Declined.{decline_outcome}
+use Rattle.refusals.specs.declared.Declined.{Declined}
 use Rattle.expression.specs.Bytes.{Bytes}
 use Rattle.deck.specs.declared.Form.{Form}
 use Rattle.deck.specs.declared.Form.TheVariants.{Old, New}
@@ -35,7 +37,6 @@ use Rattle.graph.proofs.Laws.FirstCycle.{first-acyclic}
 use Rattle.charge.specs.Charge.{carried_charges, above_bound, largest_charge}
 use Rattle.charge.specs.Memo.{Noted, AcyclicTables, memo_size, Memo}
 use Rattle.charge.specs.Answer.{bound_of}
-use Rattle.charge.specs.declared.Bound.TheVariants.{Above}
 use Rattle.charge.proofs.Laws.Bound.{first_above}
 use Rattle.charge.proofs.Laws.Shape.{shape-bound}
 use Rattle.charge.proofs.Laws.Tables.{memo-new, memo-long}
@@ -43,8 +44,7 @@ use Rattle.passing.specs.Check.{within, opening_values, outside, passing}
 use Rattle.passing.specs.Tabled.{layout_of, deck_of, Tabled, PartsKnown}
 use Rattle.deck.specs.Shape.{shape}
 use Rattle.passing.specs.Judged.{RulesKnown, JudgesRules, ZeroRules, ZeroMemo, WholeKnown, Passed, Judges}
-use Rattle.passing.specs.declared.Judged.{Judged}
-use Rattle.passing.specs.declared.Judged.TheVariants.{Passing, Refused}
+use Rattle.passing.specs.declared.Passing.{Passing}
 use Rattle.passing.proofs.Laws.CheckSteps.{first_outside, above-bound, passing-6, passing-7, passing-8, passing-whole}
 use Rattle.passing.proofs.Laws.Places.{read-place}
 use Rattle.passing.proofs.Laws.Tabled.{marked-read, marked-layout, tabled}
@@ -114,7 +114,7 @@ module _ (rules parts : List ℕ) (k : Counted.Deck) (w : RulesKnown rules parts
   abbrev d : Deck
   d = shape rules parts k
 
-  pub above_place : (p : ℕ) → bound_of d ≡ Above p → p ≤ 65536
+  pub above_place : (p : ℕ) → bound_of d ≡ Err p → p ≤ 65536
   unfolding bound_of
   above_place p e =
       let f = first_above d (omega (arith, counted-M rules parts k, w.sized.few_rules)) p _
@@ -217,23 +217,23 @@ module _ (s rules parts : List ℕ) (k : Counted.Deck) (t : Tabled s k rules par
       seven : first_cycle (shape rules parts k) ≡ k.channels → first_cycle whole ≡ R whole
       seven e = sym first-same ∙ e ∙ t.counts.channels
 
-      pub rules-refused : (n p : ℕ) → JudgesRules rules parts memo k (Refused n p) → passing f s ≡ refused n p
-      rules-refused n p (inl x) =
-          passing-7 f s (layout_of s) r six p (sym first-same ∙ x.1) (omega (arith, x.2, t.counts.channels))
-          ∙ ap (λ m. refused m p) (sym x.0)
-      rules-refused n p (inr x) =
-          passing-8 f s (layout_of s) r six (seven x.1) p (sym bound-same ∙ x.2) ∙ ap (λ m. refused m p) (sym x.0)
+      rules-refused : (d : Declined) → JudgesRules rules parts memo k (Err d) → passing f s ≡ decline_outcome d
+      rules-refused d (inl x) =
+          passing-7 f s (layout_of s) r six d.place (sym first-same ∙ x.1) (omega (arith, x.2, t.counts.channels))
+          ∙ ap (λ m. refused m d.place) (sym x.0)
+      rules-refused d (inr x) =
+          passing-8 f s (layout_of s) r six (seven x.1) d.place (sym bound-same ∙ x.2) ∙ ap (λ m. refused m d.place) (sym x.0)
 
-      pub rules-passed : Bytes s → (c : Counted.Deck) (n : ℕ) → JudgesRules rules parts memo k (Passing c n)
-          → Passed f s rules parts memo c n
-      rules-passed b c n x =
-          let w = passing-whole f s (layout_of s) r six (seven x.1) n (sym bound-same ∙ x.2) in
-          subst (λ c. Passed f s rules parts memo c n) (sym x.0)
+      rules-passed : Bytes s → (p : Passing) → JudgesRules rules parts memo k (Ok p)
+          → Passed f s rules parts memo p.counts p.charge
+      rules-passed b p x =
+          let w = passing-whole f s (layout_of s) r six (seven x.1) p.charge (sym bound-same ∙ x.2) in
+          subst (λ c. Passed f s rules parts memo c p.charge) (sym x.0)
           (record { passes = w.0; largest = w.1; tabled = t; acyclic = x.3; charges = x.4; bytes = b })
 
-      pub rules-judged : Bytes s → (r : Judged) → JudgesRules rules parts memo k r → Judges f s rules parts memo r
-      rules-judged b (Passing c n) x = rules-passed b c n x
-      rules-judged b (Refused n p) x = rules-refused n p x
+      pub rules-judged : Bytes s → (r : Result Passing Declined) → JudgesRules rules parts memo k r → Judges f s rules parts memo r
+      rules-judged b (Ok p) x = rules-passed b p x
+      rules-judged b (Err d) x = rules-refused d x
 
 -- numbers that are values of a byte
 pub bytes-known : (s : List ℕ) → ((i : ℕ) → Fits w8 (get_or s i 0)) → Bytes s
