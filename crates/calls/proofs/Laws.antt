@@ -7,3 +7,4 @@ pub mod DeckFaults
 pub mod Inputs
 pub mod Settling
 pub mod Requests
+pub mod Kinds

@@ -1,41 +1,39 @@
 -- Number, place and values of each case of the code's answers. The promises of the calls use these. Assumes nothing.
-use Rattle.std.specs.Prelude.{ℕ, List, [], ◌∷◌, ℤ}
+use Rattle.std.specs.Prelude.{ℕ, List, [], ◌∷◌, ℤ, Result, Ok, Err}
 use Rattle.refusals.specs.Outcome.{Outcome, refused, accepted}
+use Rattle.refusals.specs.Declined.{decline_outcome}
+use Rattle.refusals.specs.declared.Declined.{Declined}
 use Rattle.pool.specs.declared.State.{State}
 use Rattle.pool.specs.States.{Memory}
 use Rattle.calls.specs.Calls.{Answer, passed, started, added, applied, discarded, settled, spent, Reply, Section}
 use Rattle.calls.specs.declared.CheckAnswer.{CheckAnswer}
-use Rattle.calls.specs.declared.CheckAnswer.TheVariants as OfCheck
-use Rattle.calls.specs.declared.StartAnswer.{StartAnswer}
-use Rattle.calls.specs.declared.StartAnswer.TheVariants as OfStart
-use Rattle.calls.specs.declared.InputAnswer.{InputAnswer}
-use Rattle.calls.specs.declared.InputAnswer.TheVariants as OfInput
 use Rattle.calls.specs.declared.CommitAnswer.{CommitAnswer}
 use Rattle.calls.specs.declared.CommitAnswer.TheVariants as OfCommit
 use Rattle.calls.specs.declared.SettleAnswer.{SettleAnswer}
 use Rattle.calls.specs.declared.SettleAnswer.TheVariants as OfSettle
 
-abbrev pub check_outcome : CheckAnswer → Outcome Answer
-check_outcome (OfCheck.Passed channels rules parts charge) = accepted (passed channels rules parts charge)
-check_outcome (OfCheck.Refused number place) = refused number place
+abbrev pub check_outcome : Result CheckAnswer Declined → Outcome Answer
+check_outcome (Ok a) = accepted (passed a.channels a.rules a.parts a.charge)
+check_outcome (Err d) = decline_outcome d
 
-abbrev pub start_outcome : StartAnswer → Outcome Answer
-start_outcome OfStart.Started = accepted started
-start_outcome (OfStart.Refused number place) = refused number place
+abbrev pub start_outcome : Result (Unit {0}) Declined → Outcome Answer
+start_outcome (Ok _) = accepted started
+start_outcome (Err d) = decline_outcome d
 
-abbrev pub input_outcome : InputAnswer → Outcome Answer
-input_outcome (OfInput.Added charge) = accepted (added charge)
-input_outcome (OfInput.Refused number place) = refused number place
+-- an input answers the charge added
+abbrev pub input_outcome : Result ℕ Declined → Outcome Answer
+input_outcome (Ok charge) = accepted (added charge)
+input_outcome (Err d) = decline_outcome d
 
-abbrev pub commit_outcome : CommitAnswer → Outcome Answer
-commit_outcome (OfCommit.Applied charge) = accepted (applied charge)
-commit_outcome (OfCommit.Discarded charge) = accepted (discarded charge)
-commit_outcome (OfCommit.Refused number place) = refused number place
+abbrev pub commit_outcome : Result CommitAnswer Declined → Outcome Answer
+commit_outcome (Ok (OfCommit.Applied charge)) = accepted (applied charge)
+commit_outcome (Ok (OfCommit.Discarded charge)) = accepted (discarded charge)
+commit_outcome (Err d) = decline_outcome d
 
-abbrev pub settle_outcome : SettleAnswer → Outcome Answer
-settle_outcome (OfSettle.Settled commits) = accepted (settled commits)
-settle_outcome (OfSettle.Spent commits) = accepted (spent commits)
-settle_outcome (OfSettle.Refused number place) = refused number place
+abbrev pub settle_outcome : Result SettleAnswer Declined → Outcome Answer
+settle_outcome (Ok (OfSettle.Settled commits)) = accepted (settled commits)
+settle_outcome (Ok (OfSettle.Spent commits)) = accepted (spent commits)
+settle_outcome (Err d) = decline_outcome d
 
 -- what section hands back, with the two lent numbers
 abbrev pub section_of : List ℕ → ℕ → ℕ → Section
