@@ -1,11 +1,12 @@
 -- The tests of a conversion, one after the other. Assumes nothing.
-use Rattle.std.specs.Prelude.{ℕ, suc, ◌≤◌, ◌<◌, ◌≡◌, refl, Bool, true, false, List, leb, length, take}
+use Rattle.std.specs.Prelude.{ℕ, suc, ◌≤◌, ◌<◌, ◌≡◌, refl, Bool, true, false, List, leb, length, take, Result, Ok, Err}
 use Rattle.std.proofs.Common.{sym, ◌∙◌, subst, leb-true, le-leb}
 use Rattle.std.proofs.Math.Path.{ap, ap₂}
 use Rattle.std.proofs.lemmas.Bool.{lt-leb}
 use Rattle.refusals.specs.Outcome.{Outcome, refused, accepted, ◌>>=◌, ◌>>◌, require, outcomes}
 use Rattle.refusals.specs.Numbers.{too_many_rules, buffer_too_short}
 use Rattle.refusals.specs.Laws.Outcomes.{refused≢accepted, accepted-inj}
+use Rattle.refusals.specs.declared.Declined.{Declined}
 use Rattle.deck.specs.declared.Form.TheVariants.{Old}
 use Rattle.deck.specs.Limits.{limits, longest}
 use Rattle.deck.specs.Deck.{Deck, M}
@@ -15,8 +16,6 @@ use Rattle.passing.specs.Check.{passing}
 use Rattle.passing.proofs.Laws.Passing.{passing-prefix}
 use Rattle.conversion.specs.Converted.{converted}
 use Rattle.conversion.specs.Conversion.{conversion, reply, convert, convert_outcome, reply_of}
-use Rattle.conversion.specs.declared.ConvertAnswer.{ConvertAnswer}
-use Rattle.conversion.specs.declared.ConvertAnswer.TheVariants.{Converted, Refused}
 use Rattle.conversion.specs.Fits.{Fits}
 
 -- 21 and 22 of a deck that the old check passes, by what they test
@@ -104,10 +103,10 @@ convert-within bytes buffer after n e = go (conversion bytes (length buffer)) re
     go (refused k p) i a = refused≢accepted (sym a)
     go (accepted new) i a = subst (λ k. k ≤ length buffer) (sym (accepted-inj a)) (conversion-made bytes (length buffer) new i).fits
 
-pub answer-fits : (bytes buffer after : List ℕ) (n : ℕ) → length buffer ≡ n → (r : ConvertAnswer)
+pub answer-fits : (bytes buffer after : List ℕ) (n : ℕ) → length buffer ≡ n → (r : Result ℕ Declined)
     → reply_of (convert_outcome r) after ≡ convert bytes buffer → Fits r n
-answer-fits bytes buffer after n size (Converted k) e = subst (λ m. k ≤ m) size (convert-within bytes buffer after k e)
-answer-fits bytes buffer after n size (Refused number place) e = tt
+answer-fits bytes buffer after n size (Ok k) e = subst (λ m. k ≤ m) size (convert-within bytes buffer after k e)
+answer-fits bytes buffer after n size (Err d) e = tt
 
 -- one byte more than the longest old deck decides
 pub conversion-prefix : (bytes : List ℕ) (room : ℕ) → conversion (take (suc (longest Old)) bytes) room ≡ conversion bytes room
