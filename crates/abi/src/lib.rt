@@ -18,8 +18,7 @@ use pool::State;
 fn store(values: &mut [i32; Deck::VALUES], pending: &mut u32, state: State)
     ensures { (values.new ≡ state.values) × (pending.new ≡ state.pending) }
 {
-    let v = state.values;
-    *values = v;
+    *values = state.values;
     *pending = state.pending;
 }
 
@@ -27,21 +26,19 @@ fn store(values: &mut [i32; Deck::VALUES], pending: &mut u32, state: State)
 pub extern "C" fn reaction_check(deck: &[u8], answer: &mut [u32; 5]) -> u32
     ensures { answered_of result answer.new ≡ answered (Calls.check deck.now) }
 {
-    let made = engine::check(deck);
-    match made {
-        calls::CheckAnswer::Passed {
-            channels,
-            rules,
-            parts,
-            charge,
-        } => {
-            abi_call::write(answer, 0, channels, rules, parts, charge);
+    match engine::check(deck) {
+        Ok(made) => {
+            abi_call::write(
+                answer,
+                0,
+                made.channels,
+                made.rules,
+                made.parts,
+                made.charge,
+            );
             0
         }
-        calls::CheckAnswer::Refused { number, place } => {
-            abi_call::write(answer, place, 0, 0, 0, 0);
-            number
-        }
+        Err(why) => abi_call::decline(answer, why),
     }
 }
 
@@ -78,18 +75,13 @@ pub extern "C" fn reaction_start(
         ≡ returned (Calls.start deck.now pool.old) }
 {
     let made = engine::start(deck, pool);
-    let state = made.state;
-    store(values, pending, state);
-    let reply = made.answer;
-    match reply {
-        calls::StartAnswer::Started => {
+    store(values, pending, made.state);
+    match made.answer {
+        Ok(()) => {
             abi_call::write(answer, 0, 0, 0, 0, 0);
             0
         }
-        calls::StartAnswer::Refused { number, place } => {
-            abi_call::write(answer, place, 0, 0, 0, 0);
-            number
-        }
+        Err(why) => abi_call::decline(answer, why),
     }
 }
 
@@ -130,14 +122,13 @@ pub extern "C" fn reaction_commit(
     ensures { returned_of result answer.new (memory_at values.new pending.new pool.new)
         ≡ returned (Calls.commit deck.now (memory_at values.old pending.old pool.old) place) }
 {
-    let none = [0i32; 0];
     abi_call::call(
         deck,
         pool,
         values,
         pending,
         Request::Commit(place),
-        &none,
+        &[],
         answer,
     )
 }
@@ -154,14 +145,13 @@ pub extern "C" fn reaction_settle(
     ensures { returned_of result answer.new (memory_at values.new pending.new pool.new)
         ≡ returned (Calls.settle deck.now (memory_at values.old pending.old pool.old) budget) }
 {
-    let none = [0i32; 0];
     abi_call::call(
         deck,
         pool,
         values,
         pending,
         Request::Settle(budget),
-        &none,
+        &[],
         answer,
     )
 }
@@ -172,15 +162,11 @@ pub extern "C" fn reaction_convert(deck: &[u8], buffer: &mut [u8], answer: &mut 
     ensures { returned_conversion_of result answer.new buffer.new
         ≡ returned_conversion (Conversion.convert deck.now buffer.old) }
 {
-    let made = engine::convert(deck, buffer);
-    match made {
-        conversion::ConvertAnswer::Converted { length } => {
+    match engine::convert(deck, buffer) {
+        Ok(length) => {
             abi_call::write(answer, 0, length, 0, 0, 0);
             0
         }
-        conversion::ConvertAnswer::Refused { number, place } => {
-            abi_call::write(answer, place, 0, 0, 0, 0);
-            number
-        }
+        Err(why) => abi_call::decline(answer, why),
     }
 }

@@ -5,10 +5,12 @@
 ghost use Rattle.std.specs.Prelude.{◌≡◌, [], ◌∷◌};
 ghost use Rattle.calls.specs.Answers.{memory_at, numbers_of};
 ghost use Rattle.calls.specs.Requests.{requested, outcome_to};
-ghost use Rattle.abi_call.specs.Returned.{bit, numbers_at, returned_of, returned};
+ghost use Rattle.refusals.specs.Declined.{number_of};
+ghost use Rattle.abi_call.specs.Returned.{numbers_at, returned_of, returned};
 
 use calls::{Request, Response};
 use deck::Deck;
+use refusals::Declined;
 
 // The place, then the answer numbers.
 pub fn write(answer: &mut [u32; 5], place: u32, first: u32, second: u32, third: u32, fourth: u32)
@@ -17,8 +19,16 @@ pub fn write(answer: &mut [u32; 5], place: u32, first: u32, second: u32, third: 
     *answer = [place, first, second, third, fourth];
 }
 
+// A call that declines: its place and no answer numbers, and the refusal's number to be returned.
+pub fn decline(answer: &mut [u32; 5], why: Declined) -> u32
+    ensures { (result ≡ number_of why.refusal) × (answer.new ≡ why.place ∷ 0 ∷ 0 ∷ 0 ∷ 0 ∷ []) }
+{
+    write(answer, why.place, 0, 0, 0, 0);
+    why.refusal.number()
+}
+
 // What input, commit and settle return: the refusal's number and place, and the first two answer numbers.
-#[derive(Clone, Copy)]
+#[derive(Clone, Copy, Debug, PartialEq, Eq)]
 pub struct Numbers {
     pub number: u32,
     pub place: u32,
@@ -26,45 +36,33 @@ pub struct Numbers {
     pub second: u32,
 }
 
-fn as_number(flag: bool) -> u32
-    ensures { result ≡ bit flag }
+// The numbers of a call that is accepted.
+fn accepted(first: u32, second: u32) -> Numbers
+    ensures { numbers_at result.number result.place result.first result.second ≡ numbers_at 0 0 first second }
 {
-    if flag { 1 } else { 0 }
+    Numbers {
+        number: 0,
+        place: 0,
+        first,
+        second,
+    }
 }
 
-fn numbers_of(request: Request, told: Response) -> Numbers
-    ensures { numbers_at result.number result.place result.first result.second ≡ numbers_of (outcome_to request told) }
+fn numbers_of(told: Result<Response, Declined>) -> Numbers
+    ensures { numbers_at result.number result.place result.first result.second ≡ numbers_of (outcome_to told) }
 {
     match told {
-        Response::Refused { number, place } => Numbers {
-            number,
-            place,
+        Ok(Response::Added(charge)) => accepted(charge, 0),
+        Ok(Response::Applied(charge)) => accepted(1, charge),
+        Ok(Response::Discarded(charge)) => accepted(0, charge),
+        Ok(Response::Settled(commits)) => accepted(commits, 1),
+        Ok(Response::Spent(commits)) => accepted(commits, 0),
+        Err(why) => Numbers {
+            number: why.refusal.number(),
+            place: why.place,
             first: 0,
             second: 0,
         },
-        Response::Done { flag, number: n } => {
-            let one = as_number(flag);
-            match request {
-                Request::Input(_) => Numbers {
-                    number: 0,
-                    place: 0,
-                    first: n,
-                    second: 0,
-                },
-                Request::Commit(_) => Numbers {
-                    number: 0,
-                    place: 0,
-                    first: one,
-                    second: n,
-                },
-                Request::Settle(_) => Numbers {
-                    number: 0,
-                    place: 0,
-                    first: n,
-                    second: one,
-                },
-            }
-        }
     }
 }
 
@@ -83,7 +81,7 @@ pub fn call(
         request pairs.now) }
 {
     let told = calls_lent::call_lent(deck, pool, values, pending, request, pairs);
-    let n = numbers_of(request, told);
+    let n = numbers_of(told);
     write(answer, n.place, n.first, n.second, 0, 0);
     n.number
 }

@@ -5,10 +5,12 @@ use Rattle.refusals.specs.Declined.{decline_outcome}
 use Rattle.refusals.specs.declared.Declined.{Declined}
 use Rattle.pool.specs.States.{Memory}
 use Rattle.calls.specs.Calls.{Answer, added, applied, discarded, settled, spent, Reply, input, commit, settle}
+use Rattle.calls.specs.Answers.{reply_at}
 use Rattle.calls.specs.declared.Request.{Request}
 use Rattle.calls.specs.declared.Request.TheVariants.{Input, Commit, Settle}
 use Rattle.calls.specs.declared.Response.{Response}
 use Rattle.calls.specs.declared.Response.TheVariants as Told
+use Rattle.calls.specs.declared.AfterCall.{AfterCall}
 
 -- the call that is asked for; an input's pairs are lent beside the request
 abbrev pub requested : List ℕ → Memory → Request → List ℤ → Reply
@@ -27,6 +29,12 @@ answer_to (Told.Spent commits) = spent commits
 abbrev pub outcome_to : Result Response Declined → Outcome Answer
 outcome_to (Ok told) = accepted (answer_to told)
 outcome_to (Err d) = decline_outcome d
+
+-- what a host holds after a call on values, a pending number and a pool that are lent: the first and the last as they are then, and
+-- the number that was pending unless another is
+abbrev pub reply_after : Result AfterCall Declined → List ℤ → ℕ → List ℤ → Reply
+reply_after (Ok after) values pending pool = reply_at (accepted (answer_to after.response)) values after.pending pool
+reply_after (Err d) values pending pool = reply_at (decline_outcome d) values pending pool
 
 -- ---- what a call of each kind answers, where it is accepted
 

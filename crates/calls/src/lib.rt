@@ -46,6 +46,13 @@ pub enum Response {
     Spent(u32),
 }
 
+// Such an answer, and the updates pending then. A call that declines leaves as many pending as were.
+#[derive(Clone, Copy, Debug, PartialEq, Eq)]
+pub struct AfterCall {
+    pub response: Response,
+    pub pending: u32,
+}
+
 // The answer of a call that hands back a state, and the state.
 #[derive(Clone, Copy)]
 pub struct Answered<T> {

@@ -6,18 +6,17 @@ ghost use Rattle.pool.specs.Places.{zeros};
 ghost use Rattle.passing.specs.Tabled.{deck_of};
 ghost use Rattle.calls.specs.Calls as Calls;
 ghost use Rattle.calls.specs.Calls.{good_input};
-ghost use Rattle.calls.specs.Answers.{memory_at, reply_at};
-ghost use Rattle.calls.specs.Requests.{outcome_to};
-ghost use Rattle.calls.specs.declared.Request.TheVariants as Asked;
-ghost use Rattle.calls.specs.declared.Response.TheVariants as Told;
+ghost use Rattle.calls.specs.Answers.{memory_at};
+ghost use Rattle.calls.specs.Requests.{reply_after};
 ghost use Rattle.calls_tests.specs.Tested.{TestsPassed};
 ghost use Rattle.calls_input.specs.Entered.{GoodInput};
 
-use calls::Response;
-use calls_turns::{AfterCall, TestsFound};
+use calls::{AfterCall, Response};
+use calls_tests::TestsFound;
 use deck::Deck;
 use firing_queue::Queue;
 use firing_rules::Change;
+use refusals::{Declined, Refusal};
 
 // 12: 1 to 32 pairs of known, different channels.
 fn good_input(pairs: &[i32], channels: usize) -> bool
@@ -51,32 +50,6 @@ fn good_input(pairs: &[i32], channels: usize) -> bool
     true
 }
 
-// A refusal leaves as many updates pending as were.
-fn refused(found: TestsFound, number: u32) -> AfterCall
-    ensures { (result.response ≡ Told.Refused number 0) × (result.pending ≡ found.pending) }
-{
-    AfterCall {
-        response: Response::Refused {
-            number: number,
-            place: 0,
-        },
-        pending: found.pending,
-    }
-}
-
-// An input that is taken: the updates pending then, and the charge that it added.
-fn entered(pending: u32, added: u32) -> AfterCall
-    ensures { (result.response ≡ Told.Done true added) × (result.pending ≡ pending) }
-{
-    AfterCall {
-        response: Response::Done {
-            flag: true,
-            number: added,
-        },
-        pending: pending,
-    }
-}
-
 // All but the first updates are taken back: their places become zeros again.
 fn take_back(pool: &mut [i32], pending: usize)
     requires { 10 * pending ≤ length pool.old }
@@ -99,11 +72,11 @@ fn enter(
     values: &mut [i32; Deck::VALUES],
     part: usize,
     pairs: &[i32],
-) -> AfterCall
+) -> Result<AfterCall, Declined>
     requires { TestsPassed deck.now rules.now parts.now memo.old index.old
         (memory_at values.old found.pending pool.old) found.counts found.charge
         × (part < found.counts.parts) × (good_input (deck_of deck.now) pairs.now ≡ true) }
-    ensures { reply_at (outcome_to (Asked.Input part) result.response) values.new result.pending pool.new
+    ensures { reply_after result values.new found.pending pool.new
         ≡ Calls.input deck.now (memory_at values.old found.pending pool.old) part
         pairs.now }
 {
@@ -111,7 +84,7 @@ fn enter(
     let mut after = *values;
     firing_actions::assign_pairs(&mut after, part, pairs);
     if !passing_tests::within(deck, counts, parts, &after, part) {
-        return refused(found, refusals::INPUT_OUTSIDE);
+        return Err(Refusal::InputOutside.unplaced());
     }
     let mut back = [0i32; 2 * Deck::CHANNELS];
     let channels = firing_actions::changed_by(values, part, pairs, &mut back);
@@ -128,10 +101,13 @@ fn enter(
     );
     if grown.full {
         take_back(pool, n);
-        return refused(found, refusals::OVER_CAPACITY);
+        return Err(Refusal::OverCapacity.unplaced());
     }
     firing_actions::assign_pairs(values, part, pairs);
-    entered(grown.used as u32, grown.charge - found.charge)
+    Ok(AfterCall {
+        response: Response::Added(grown.charge - found.charge),
+        pending: grown.used as u32,
+    })
 }
 
 // The input to a part, if the part is known and the input list is good (11, 12).
@@ -146,20 +122,20 @@ pub fn input_tested(
     values: &mut [i32; Deck::VALUES],
     part: u32,
     pairs: &[i32],
-) -> AfterCall
+) -> Result<AfterCall, Declined>
     requires { TestsPassed deck.now rules.now parts.now memo.old index.old
         (memory_at values.old found.pending pool.old) found.counts found.charge }
-    ensures { reply_at (outcome_to (Asked.Input part) result.response) values.new result.pending pool.new
+    ensures { reply_after result values.new found.pending pool.new
         ≡ Calls.input deck.now (memory_at values.old found.pending pool.old) part
         pairs.now }
 {
     let counts = found.counts;
     let p = part as usize;
     if p >= counts.parts {
-        return refused(found, refusals::UNKNOWN_PART);
+        return Err(Refusal::UnknownPart.unplaced());
     }
     if !good_input(pairs, counts.channels) {
-        return refused(found, refusals::BAD_INPUT);
+        return Err(Refusal::BadInput.unplaced());
     }
     enter(
         deck, found, rules, parts, memo, index, pool, values, p, pairs,

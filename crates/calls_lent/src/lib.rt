@@ -1,17 +1,16 @@
 // Input, commit and settle on memory that is lent: the tables that a call works on, the tests, and what is asked for.
 #![tactic(auto)]
 
-ghost use Rattle.std.specs.Prelude.{◌≡◌, true, false, ◌≤◌, length};
+ghost use Rattle.std.specs.Prelude.{◌≡◌, length, replicate};
 ghost use Rattle.calls.specs.Answers.{memory_at, reply_at};
-ghost use Rattle.calls.specs.Requests.{requested, outcome_to};
+ghost use Rattle.calls.specs.Requests.{requested, outcome_to, reply_after};
 ghost use Rattle.calls_tests.specs.Tested.{Usable, TestsPassed};
-ghost use Rattle.deck.specs.Marks.{FewRules};
 ghost use Rattle.passing.specs.Judged.{ZeroRules, ZeroMemo};
 
-use calls::{Request, Response};
-use calls_tests::Tested;
-use calls_turns::{AfterCall, TestsFound};
+use calls::{AfterCall, Request, Response};
+use calls_tests::TestsFound;
 use deck::Deck;
+use refusals::Declined;
 
 // What is asked for, on what was tested.
 fn call_tested(
@@ -25,10 +24,10 @@ fn call_tested(
     values: &mut [i32; Deck::VALUES],
     request: Request,
     pairs: &[i32],
-) -> AfterCall
+) -> Result<AfterCall, Declined>
     requires { TestsPassed deck.now rules.now parts.now memo.old index.old
         (memory_at values.old found.pending pool.old) found.counts found.charge }
-    ensures { reply_at (outcome_to request result.response) values.new result.pending pool.new
+    ensures { reply_after result values.new found.pending pool.new
         ≡ requested deck.now (memory_at values.old found.pending pool.old) request
         pairs.now }
 {
@@ -56,35 +55,27 @@ fn call_on(
     index: &mut [u16],
     rules: &mut [u64],
     memo: &mut [u32],
-) -> Response
+) -> Result<Response, Declined>
     requires { Usable (length pool.old) index.old × ZeroRules deck.now rules.old × ZeroMemo deck.now memo.old }
-    ensures { reply_at (outcome_to request result) values.new pending.new pool.new
+    ensures { reply_at (outcome_to result) values.new pending.new pool.new
         ≡ requested deck.now (memory_at values.old pending.old pool.old) request
         pairs.now }
 {
     let mut parts = [0u64; passing::PART_TABLE];
-    let tested = calls_tests::test_lent(
+    let found = calls_tests::test_lent(
         deck, rules, &mut parts, memo, index, pool, values, *pending,
-    );
-    match tested {
-        Tested::Refused { number, place } => Response::Refused { number, place },
-        Tested::Ready { counts, charge } => {
-            let found = TestsFound {
-                counts,
-                pending: *pending,
-                charge,
-            };
-            let done = call_tested(
-                deck, found, rules, &parts, memo, index, pool, values, request, pairs,
-            );
-            *pending = done.pending;
-            done.response
-        }
-    }
+    )?;
+    let after = call_tested(
+        deck, found, rules, &parts, memo, index, pool, values, request, pairs,
+    )?;
+    *pending = after.pending;
+    Ok(after.response)
 }
 
-// The call with an index for a pool of up to 256 places.
-fn call_small(
+// The call with an index of as many numbers, for a pool that it is long enough for. It is not put into its caller, so that a call on a
+// short pool does not take the stack of a long one: to take it costs more than the rest of a small call.
+#[inline(never)]
+fn call_indexed<const INDEX: usize>(
     deck: &[u8],
     pool: &mut [i32],
     values: &mut [i32; Deck::VALUES],
@@ -93,88 +84,20 @@ fn call_small(
     pairs: &[i32],
     rules: &mut [u64],
     memo: &mut [u32],
-) -> Response
-    requires { (length pool.old ≤ 2560) × ZeroRules deck.now rules.old × ZeroMemo deck.now memo.old }
-    ensures { reply_at (outcome_to request result) values.new pending.new pool.new
+) -> Result<Response, Declined>
+    requires { Usable (length pool.old) (replicate INDEX 0) × ZeroRules deck.now rules.old × ZeroMemo deck.now memo.old }
+    ensures { reply_at (outcome_to result) values.new pending.new pool.new
         ≡ requested deck.now (memory_at values.old pending.old pool.old) request
         pairs.now }
 {
-    if pool.len() <= calls_tests::TINY_POOL {
-        let mut tiny = [0u16; calls_tests::TINY_INDEX];
-        return call_on(
-            deck, pool, values, pending, request, pairs, &mut tiny, rules, memo,
-        );
-    }
-    let mut small = [0u16; calls_tests::SMALL_INDEX];
-    call_on(
-        deck, pool, values, pending, request, pairs, &mut small, rules, memo,
-    )
-}
-
-// The call with an index for a pool of up to 2,048 places.
-fn call_short(
-    deck: &[u8],
-    pool: &mut [i32],
-    values: &mut [i32; Deck::VALUES],
-    pending: &mut u32,
-    request: Request,
-    pairs: &[i32],
-    rules: &mut [u64],
-    memo: &mut [u32],
-) -> Response
-    requires { (length pool.old ≤ 20480) × ZeroRules deck.now rules.old × ZeroMemo deck.now memo.old }
-    ensures { reply_at (outcome_to request result) values.new pending.new pool.new
-        ≡ requested deck.now (memory_at values.old pending.old pool.old) request
-        pairs.now }
-{
-    if pool.len() <= calls_tests::SMALL_POOL {
-        return call_small(deck, pool, values, pending, request, pairs, rules, memo);
-    }
-    if pool.len() <= calls_tests::SHORT_POOL {
-        let mut short = [0u16; calls_tests::SHORT_INDEX];
-        return call_on(
-            deck, pool, values, pending, request, pairs, &mut short, rules, memo,
-        );
-    }
-    let mut medium = [0u16; calls_tests::MEDIUM_INDEX];
-    call_on(
-        deck,
-        pool,
-        values,
-        pending,
-        request,
-        pairs,
-        &mut medium,
-        rules,
-        memo,
-    )
-}
-
-// The call with the longest index.
-fn call_longest(
-    deck: &[u8],
-    pool: &mut [i32],
-    values: &mut [i32; Deck::VALUES],
-    pending: &mut u32,
-    request: Request,
-    pairs: &[i32],
-    rules: &mut [u64],
-    memo: &mut [u32],
-) -> Response
-    requires { ZeroRules deck.now rules.old × ZeroMemo deck.now memo.old }
-    ensures { reply_at (outcome_to request result) values.new pending.new pool.new
-        ≡ requested deck.now (memory_at values.old pending.old pool.old) request
-        pairs.now }
-{
-    let mut index = [0u16; calls_tests::INDEX];
+    let mut index = [0u16; INDEX];
     call_on(
         deck, pool, values, pending, request, pairs, &mut index, rules, memo,
     )
 }
 
-// The call with an index for any pool. It is a function of its own, so that a call on a short pool does not take the stack of a long
-// one: to take it costs more than the rest of a small call.
-fn call_long(
+// The call on a pool of any length, with the index that it needs.
+fn call_pooled(
     deck: &[u8],
     pool: &mut [i32],
     values: &mut [i32; Deck::VALUES],
@@ -183,83 +106,61 @@ fn call_long(
     pairs: &[i32],
     rules: &mut [u64],
     memo: &mut [u32],
-) -> Response
+) -> Result<Response, Declined>
     requires { ZeroRules deck.now rules.old × ZeroMemo deck.now memo.old }
-    ensures { reply_at (outcome_to request result) values.new pending.new pool.new
+    ensures { reply_at (outcome_to result) values.new pending.new pool.new
         ≡ requested deck.now (memory_at values.old pending.old pool.old) request
         pairs.now }
 {
-    if pool.len() <= calls_tests::LONG_POOL {
-        let mut long = [0u16; calls_tests::LONG_INDEX];
-        return call_on(
-            deck, pool, values, pending, request, pairs, &mut long, rules, memo,
-        );
+    let n = pool.len();
+    if n <= calls_tests::TINY_POOL {
+        call_indexed::<{ calls_tests::TINY_INDEX }>(
+            deck, pool, values, pending, request, pairs, rules, memo,
+        )
+    } else if n <= calls_tests::SMALL_POOL {
+        call_indexed::<{ calls_tests::SMALL_INDEX }>(
+            deck, pool, values, pending, request, pairs, rules, memo,
+        )
+    } else if n <= calls_tests::SHORT_POOL {
+        call_indexed::<{ calls_tests::SHORT_INDEX }>(
+            deck, pool, values, pending, request, pairs, rules, memo,
+        )
+    } else if n <= calls_tests::MEDIUM_POOL {
+        call_indexed::<{ calls_tests::MEDIUM_INDEX }>(
+            deck, pool, values, pending, request, pairs, rules, memo,
+        )
+    } else if n <= calls_tests::LONG_POOL {
+        call_indexed::<{ calls_tests::LONG_INDEX }>(
+            deck, pool, values, pending, request, pairs, rules, memo,
+        )
+    } else if n <= calls_tests::LONGER_POOL {
+        call_indexed::<{ calls_tests::LONGER_INDEX }>(
+            deck, pool, values, pending, request, pairs, rules, memo,
+        )
+    } else {
+        call_indexed::<{ calls_tests::INDEX }>(
+            deck, pool, values, pending, request, pairs, rules, memo,
+        )
     }
-    if pool.len() <= calls_tests::LONGER_POOL {
-        let mut longer = [0u16; calls_tests::LONGER_INDEX];
-        return call_on(
-            deck,
-            pool,
-            values,
-            pending,
-            request,
-            pairs,
-            &mut longer,
-            rules,
-            memo,
-        );
-    }
-    call_longest(deck, pool, values, pending, request, pairs, rules, memo)
 }
 
-// The call on a deck of at most 16 rules, with short tables.
-fn call_few(
+// The call with a table of rules and a memo of lengths that are enough for the deck.
+fn call_tabled<const RULES: usize, const MEMO: usize>(
     deck: &[u8],
     pool: &mut [i32],
     values: &mut [i32; Deck::VALUES],
     pending: &mut u32,
     request: Request,
     pairs: &[i32],
-) -> Response
-    requires { FewRules deck.now true }
-    ensures { reply_at (outcome_to request result) values.new pending.new pool.new
+) -> Result<Response, Declined>
+    requires { ZeroRules deck.now (replicate RULES 0) × ZeroMemo deck.now (replicate MEMO 0) }
+    ensures { reply_at (outcome_to result) values.new pending.new pool.new
         ≡ requested deck.now (memory_at values.old pending.old pool.old) request
         pairs.now }
 {
-    let mut rules = [0u64; passing::SHORT_RULE_TABLE];
-    let mut memo = [0u32; passing::SHORT_MEMO];
-    if pool.len() <= calls_tests::MEDIUM_POOL {
-        return call_short(
-            deck, pool, values, pending, request, pairs, &mut rules, &mut memo,
-        );
-    }
-    call_long(
-        deck, pool, values, pending, request, pairs, &mut rules, &mut memo,
-    )
-}
-
-// The call on any other deck, with tables of the full length.
-fn call_many(
-    deck: &[u8],
-    pool: &mut [i32],
-    values: &mut [i32; Deck::VALUES],
-    pending: &mut u32,
-    request: Request,
-    pairs: &[i32],
-) -> Response
-    requires { FewRules deck.now false }
-    ensures { reply_at (outcome_to request result) values.new pending.new pool.new
-        ≡ requested deck.now (memory_at values.old pending.old pool.old) request
-        pairs.now }
-{
-    let mut rules = [0u64; passing::RULE_TABLE];
-    let mut memo = [0u32; passing::MEMO];
-    if pool.len() <= calls_tests::MEDIUM_POOL {
-        return call_short(
-            deck, pool, values, pending, request, pairs, &mut rules, &mut memo,
-        );
-    }
-    call_long(
+    let mut rules = [0u64; RULES];
+    let mut memo = [0u32; MEMO];
+    call_pooled(
         deck, pool, values, pending, request, pairs, &mut rules, &mut memo,
     )
 }
@@ -273,13 +174,18 @@ pub fn call_lent(
     pending: &mut u32,
     request: Request,
     pairs: &[i32],
-) -> Response
-    ensures { reply_at (outcome_to request result) values.new pending.new pool.new
+) -> Result<Response, Declined>
+    ensures { reply_at (outcome_to result) values.new pending.new pool.new
         ≡ requested deck.now (memory_at values.old pending.old pool.old) request
         pairs.now }
 {
     if deck_reading::few_rules(deck) {
-        return call_few(deck, pool, values, pending, request, pairs);
+        call_tabled::<{ passing::SHORT_RULE_TABLE }, { passing::SHORT_MEMO }>(
+            deck, pool, values, pending, request, pairs,
+        )
+    } else {
+        call_tabled::<{ passing::RULE_TABLE }, { passing::MEMO }>(
+            deck, pool, values, pending, request, pairs,
+        )
     }
-    call_many(deck, pool, values, pending, request, pairs)
 }

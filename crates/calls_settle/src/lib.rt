@@ -3,14 +3,14 @@
 
 ghost use Rattle.std.specs.Prelude.{◌≡◌};
 ghost use Rattle.calls.specs.Calls as Calls;
-ghost use Rattle.calls.specs.Answers.{memory_at, reply_at};
-ghost use Rattle.calls.specs.Requests.{outcome_to};
-ghost use Rattle.calls.specs.declared.Request.TheVariants as Asked;
+ghost use Rattle.calls.specs.Answers.{memory_at};
+ghost use Rattle.calls.specs.Requests.{reply_after};
 ghost use Rattle.calls_tests.specs.Tested.{TestsPassed};
 
-use calls::Response;
-use calls_turns::{AfterCall, TestsFound};
+use calls::{AfterCall, Response};
+use calls_tests::TestsFound;
 use deck::Deck;
+use refusals::{Declined, Refusal};
 
 const LARGEST_BUDGET: u32 = Deck::CHARGE as u32;
 
@@ -25,38 +25,24 @@ pub fn settle_tested(
     pool: &mut [i32],
     values: &mut [i32; Deck::VALUES],
     budget: u32,
-) -> AfterCall
+) -> Result<AfterCall, Declined>
     requires { TestsPassed deck.now rules.now parts.now memo.old index.old
         (memory_at values.old found.pending pool.old) found.counts found.charge }
-    ensures { reply_at (outcome_to (Asked.Settle budget) result.response) values.new result.pending pool.new
+    ensures { reply_after result values.new found.pending pool.new
         ≡ Calls.settle deck.now (memory_at values.old found.pending pool.old) budget }
 {
     if budget > LARGEST_BUDGET {
-        return AfterCall {
-            response: Response::Refused {
-                number: refusals::BUDGET_TOO_LARGE,
-                place: 0,
-            },
-            pending: found.pending,
-        };
+        return Err(Refusal::BudgetTooLarge.unplaced());
     }
+    let first = firing_commits::next_place();
     let turns = calls_turns::take_turns(
-        deck,
-        found,
-        rules,
-        parts,
-        memo,
-        index,
-        pool,
-        values,
-        firing_commits::next_place(),
-        budget,
+        deck, found, rules, parts, memo, index, pool, values, first, budget,
     );
-    AfterCall {
-        response: Response::Done {
-            flag: turns.pending == 0,
-            number: turns.made,
-        },
-        pending: turns.pending as u32,
-    }
+    let response = if turns.pending == 0 {
+        Response::Settled(turns.made)
+    } else {
+        Response::Spent(turns.made)
+    };
+    let pending = turns.pending as u32;
+    Ok(AfterCall { response, pending })
 }

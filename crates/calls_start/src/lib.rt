@@ -2,74 +2,62 @@
 #![tactic(auto)]
 
 ghost use Rattle.std.specs.Prelude.{◌≡◌, pos, length, replicate};
-ghost use Rattle.refusals.specs.Outcome.{refused, accepted};
 ghost use Rattle.pool.specs.Places.{zeros};
 ghost use Rattle.calls.specs.Calls as Calls;
 ghost use Rattle.calls.specs.Answers.{start_outcome, reply_of};
 ghost use Rattle.passing.specs.Judged.{ZeroRules, ZeroMemo};
 
-use calls::{StartAnswer, Started};
+use calls::Answered;
 use deck::{Deck, Form};
-use passing::Judged;
 use pool::State;
+use refusals::{Declined, Refusal};
 
-fn zero_state() -> State
-    ensures { (result.values ≡ replicate 512 (pos 0)) × (result.pending ≡ 0) }
+// A refused start hands back a state of zeros.
+fn start_declined(why: Declined) -> Answered<()>
+    ensures { (result.answer ≡ Err why) × (result.state.values ≡ replicate 512 (pos 0)) × (result.state.pending ≡ 0) }
 {
-    let values = [0i32; Deck::VALUES];
-    State {
-        values: values,
+    let state = State {
+        values: [0; Deck::VALUES],
         pending: 0,
-    }
-}
-
-fn start_refused(number: u32, place: u32) -> Started
-    ensures { (start_outcome result.answer ≡ refused number place) × (result.state.values ≡ replicate 512 (pos 0))
-        × (result.state.pending ≡ 0) }
-{
-    let state = zero_state();
-    Started {
-        answer: StartAnswer::Refused {
-            number: number,
-            place: place,
-        },
-        state: state,
+    };
+    Answered {
+        answer: Err(why),
+        state,
     }
 }
 
 // A start that is accepted leaves the pool all 0.
-fn begin(pool: &mut [i32], state: State) -> Started
-    ensures { (start_outcome result.answer ≡ accepted Calls.started) × (result.state ≡ state)
-        × (pool.new ≡ zeros (length pool.old)) }
+fn begin(pool: &mut [i32], state: State) -> Answered<()>
+    ensures { (result.answer ≡ Ok tt) × (result.state ≡ state) × (pool.new ≡ zeros (length pool.old)) }
 {
     pool::clear(pool);
-    Started {
-        answer: StartAnswer::Started,
-        state: state,
+    Answered {
+        answer: Ok(()),
+        state,
     }
 }
 
-// The start with a table of rules and a memo that are long enough for the deck.
-pub fn start_with(deck: &[u8], pool: &mut [i32], rules: &mut [u64], memo: &mut [u32]) -> Started
-    requires { ZeroRules deck.now rules.old × ZeroMemo deck.now memo.old }
+// The start with a table of rules and a memo of lengths that are enough for the deck.
+pub fn start_with<const RULES: usize, const MEMO: usize>(
+    deck: &[u8],
+    pool: &mut [i32],
+) -> Answered<()>
+    requires { ZeroRules deck.now (replicate RULES 0) × ZeroMemo deck.now (replicate MEMO 0) }
     ensures { reply_of (start_outcome result.answer) result.state pool.new
         ≡ Calls.start deck.now pool.old }
 {
+    let mut rules = [0u64; RULES];
     let mut parts = [0u64; passing::PART_TABLE];
+    let mut memo = [0u32; MEMO];
     let mut values = [0i32; Deck::VALUES];
-    let found = passing_tests::judge(deck, rules, &mut parts, memo, Form::New);
-    match found {
-        Judged::Refused { number, place } => start_refused(number, place),
-        Judged::Passing { counts, charge: _ } => {
+    match passing_tests::judge(deck, &mut rules, &mut parts, &mut memo, Form::New) {
+        Err(why) => start_declined(why),
+        Ok(passing) => {
             if !pool::good_length(pool.len()) {
-                return start_refused(refusals::BAD_POOL, 0);
+                return start_declined(Refusal::BadPool.unplaced());
             }
-            passing_tests::open_parts(&mut values, deck, counts, &parts);
-            let state = State {
-                values: values,
-                pending: 0,
-            };
-            begin(pool, state)
+            passing_tests::open_parts(&mut values, deck, passing.counts, &parts);
+            begin(pool, State { values, pending: 0 })
         }
     }
 }

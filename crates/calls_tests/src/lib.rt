@@ -8,7 +8,7 @@ ghost use Rattle.charge.specs.Memo.{Ready};
 ghost use Rattle.passing.specs.Judged.{ZeroRules, ZeroMemo};
 
 use deck::{Deck, Form};
-use passing::Judged;
+use refusals::{Declined, Refusal};
 
 // The numbers of an index, a third of them for the buckets and two for each place: for pools of up to 64 places, of up to 256, of up to
 // 1,024, of up to 2,048, of up to 4,096, of up to 12,288, and for the longest. It begins as zeros in each call, so that a short pool
@@ -39,11 +39,12 @@ pub const LONGER_INDEX: usize = 36868;
 
 pub const INDEX: usize = 196610;
 
-// What the tests of deck, pool and state come to: the counts of the deck and the charge of the pending updates, or the refusal.
+// What the tests of deck, pool and state find: the counts of the deck, the updates pending and their charge.
 #[derive(Clone, Copy)]
-pub enum Tested {
-    Ready { counts: Deck, charge: u32 },
-    Refused { number: u32, place: u32 },
+pub struct TestsFound {
+    pub counts: Deck,
+    pub pending: u32,
+    pub charge: u32,
 }
 
 // 9 and 10, for a deck that passes.
@@ -56,29 +57,23 @@ fn test_state(
     pool: &[i32],
     values: &[i32],
     pending: u32,
-) -> Tested
+) -> Result<TestsFound, Declined>
     requires { Ready rules.now parts.now counts memo.old × (counts.channels ≤ 32)
         × Usable (length pool.now) index.old }
     ensures { TestsState counts rules.now parts.now memo.new index.new
         pool.now values.now pending result }
 {
     if !pool::good_length(pool.len()) {
-        return Tested::Refused {
-            number: refusals::BAD_POOL,
-            place: 0,
-        };
+        return Err(Refusal::BadPool.unplaced());
     }
     let n = pending as usize;
-    let good = pool_states::good_state(rules, parts, memo, index, counts, values, n, pool);
-    match good {
-        pool_states::Goodness::Good(charge) => Tested::Ready {
-            counts: counts,
-            charge: charge,
-        },
-        pool_states::Goodness::Bad => Tested::Refused {
-            number: refusals::BAD_STATE,
-            place: 0,
-        },
+    match pool_states::good_state(rules, parts, memo, index, counts, values, n, pool) {
+        Some(charge) => Ok(TestsFound {
+            counts,
+            pending,
+            charge,
+        }),
+        None => Err(Refusal::BadState.unplaced()),
     }
 }
 
@@ -92,20 +87,12 @@ pub fn test_lent(
     pool: &[i32],
     values: &[i32],
     pending: u32,
-) -> Tested
+) -> Result<TestsFound, Declined>
     requires { ZeroRules deck.now rules.old × (parts.old ≡ replicate 64 0) × ZeroMemo deck.now memo.old
         × Usable (length pool.now) index.old }
     ensures { Tests deck.now rules.new parts.new memo.new index.new
         pool.now values.now pending result }
 {
-    let found = passing_tests::judge(deck, rules, parts, memo, Form::New);
-    match found {
-        Judged::Refused { number, place } => Tested::Refused {
-            number: number,
-            place: place,
-        },
-        Judged::Passing { counts, charge: _ } => {
-            test_state(counts, rules, parts, memo, index, pool, values, pending)
-        }
-    }
+    let passing = passing_tests::judge(deck, rules, parts, memo, Form::New)?;
+    test_state(passing.counts, rules, parts, memo, index, pool, values, pending)
 }

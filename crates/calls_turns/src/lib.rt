@@ -6,24 +6,9 @@ ghost use Rattle.std.specs.Prelude.{length};
 ghost use Rattle.pool.specs.Places.{capacity};
 ghost use Rattle.calls_turns.specs.Turns.{Beginning, Turned};
 
-use calls::Response;
+use calls_tests::TestsFound;
 use deck::Deck;
 use firing_queue::Queue;
-
-// What the tests of a call found: the counts of the deck, the updates pending and their charge.
-#[derive(Clone, Copy)]
-pub struct TestsFound {
-    pub counts: Deck,
-    pub pending: u32,
-    pub charge: u32,
-}
-
-// What a call answers behind the tests, and the updates pending then.
-#[derive(Clone, Copy)]
-pub struct AfterCall {
-    pub response: Response,
-    pub pending: u32,
-}
 
 // The commits made, the updates pending and their charge, and whether the last commit was applied.
 #[derive(Clone, Copy)]
@@ -79,9 +64,9 @@ pub fn take_turns(
     }
     let left = pool_holes::gather(pool, first, next, queue.used);
     Turns {
-        made: made,
+        made,
         pending: left,
         charge: queue.charge,
-        applied: applied,
+        applied,
     }
 }

@@ -1,34 +1,29 @@
 // The seven published calls. Types of their answers and definitions are in `calls` and, for convert, in `conversion`; behind check,
 // section and start are `calls_check`, `calls_section` and `calls_start`, behind convert `conversion_call`, behind the others `calls_lent`.
+// Decks of at most 16 rules get short tables.
 #![tactic(auto)]
 
-ghost use Rattle.std.specs.Prelude.{ℕ, ◌≡◌};
+ghost use Rattle.std.specs.Prelude.{◌≡◌};
 ghost use Rattle.deck.specs.Stretch.{LiesAt};
 ghost use Rattle.calls.specs.Calls as Calls;
 ghost use Rattle.calls.specs.Answers.{check_outcome, section_of, start_outcome, input_outcome, commit_outcome, settle_outcome, memory_of, reply_of};
-ghost use Rattle.calls.specs.Requests.{outcome_to};
-ghost use Rattle.calls.specs.declared.Request.TheVariants as Asked;
+ghost use Rattle.calls.specs.Requests.{outcome_to, Accepts, IsOfInput, IsOfCommit, IsOfSettle};
 ghost use Rattle.conversion.specs.Conversion as Conversion;
 
-use calls::{
-    CheckAnswer, CommitAnswer, Committed, Entered, InputAnswer, Request, Response, SettleAnswer,
-    Settled, Started,
-};
-use conversion::ConvertAnswer;
+use calls::{Answered, CheckAnswer, CommitAnswer, Request, Response, SettleAnswer};
+use passing::{MEMO, RULE_TABLE, SHORT_MEMO, SHORT_RULE_TABLE};
 use pool::State;
+use refusals::Declined;
 
 // R, M, N and the largest charge of any carried rule; or why the deck does not pass.
-pub fn check(deck: &[u8]) -> CheckAnswer
+pub fn check(deck: &[u8]) -> Result<CheckAnswer, Declined>
     ensures { check_outcome result ≡ Calls.check deck.now }
 {
     if deck_reading::few_rules(deck) {
-        let mut short = [0u64; passing::SHORT_RULE_TABLE];
-        let mut small = [0u32; passing::SHORT_MEMO];
-        return calls_check::check_with(deck, &mut short, &mut small);
+        calls_check::check_with::<SHORT_RULE_TABLE, SHORT_MEMO>(deck)
+    } else {
+        calls_check::check_with::<RULE_TABLE, MEMO>(deck)
     }
-    let mut rules = [0u64; passing::RULE_TABLE];
-    let mut memo = [0u32; passing::MEMO];
-    calls_check::check_with(deck, &mut rules, &mut memo)
 }
 
 // The stretch of the deck from a section's count to its end, in the lent deck itself; empty where it is refused. The refusal's
@@ -38,163 +33,124 @@ pub fn section<'a>(deck: &'a [u8], number: u32, refusal: &mut u32, place: &mut u
         × LiesAt deck.entry.ref_ptr result.ref_ptr (Calls.section_from deck.now number) }
 {
     if deck_reading::few_rules(deck) {
-        let mut short = [0u64; passing::SHORT_RULE_TABLE];
-        let mut small = [0u32; passing::SHORT_MEMO];
-        return calls_section::section_with(deck, number, refusal, place, &mut short, &mut small);
+        calls_section::section_with::<SHORT_RULE_TABLE, SHORT_MEMO>(deck, number, refusal, place)
+    } else {
+        calls_section::section_with::<RULE_TABLE, MEMO>(deck, number, refusal, place)
     }
-    let mut rules = [0u64; passing::RULE_TABLE];
-    let mut memo = [0u32; passing::MEMO];
-    calls_section::section_with(deck, number, refusal, place, &mut rules, &mut memo)
 }
 
 // The opening values, nothing pending, and the pool all 0. A refused start hands back a state of zeros.
-pub fn start(deck: &[u8], pool: &mut [i32]) -> Started
+pub fn start(deck: &[u8], pool: &mut [i32]) -> Answered<()>
     ensures { reply_of (start_outcome result.answer) result.state pool.new
         ≡ Calls.start deck.now pool.old }
 {
     if deck_reading::few_rules(deck) {
-        let mut short = [0u64; passing::SHORT_RULE_TABLE];
-        let mut small = [0u32; passing::SHORT_MEMO];
-        return calls_start::start_with(deck, pool, &mut short, &mut small);
+        calls_start::start_with::<SHORT_RULE_TABLE, SHORT_MEMO>(deck, pool)
+    } else {
+        calls_start::start_with::<RULE_TABLE, MEMO>(deck, pool)
     }
-    let mut rules = [0u64; passing::RULE_TABLE];
-    let mut memo = [0u32; passing::MEMO];
-    calls_start::start_with(deck, pool, &mut rules, &mut memo)
 }
 
 // What input, commit and settle answer, each in its own words.
-fn input_answer(told: Response) -> InputAnswer
-    ensures { (part : ℕ) → input_outcome result ≡ outcome_to (Asked.Input part) told }
+fn input_answer(told: Result<Response, Declined>) -> Result<u32, Declined>
+    requires { Accepts IsOfInput (outcome_to told) }
+    ensures { input_outcome result ≡ outcome_to told }
 {
-    match told {
-        Response::Done { flag: _, number } => InputAnswer::Added(number),
-        Response::Refused { number, place } => InputAnswer::Refused { number, place },
+    match told? {
+        Response::Added(charge) => Ok(charge),
+        _ => unreachable!(),
     }
 }
 
-fn commit_answer(told: Response) -> CommitAnswer
-    ensures { (place : ℕ) → commit_outcome result ≡ outcome_to (Asked.Commit place) told }
+fn commit_answer(told: Result<Response, Declined>) -> Result<CommitAnswer, Declined>
+    requires { Accepts IsOfCommit (outcome_to told) }
+    ensures { commit_outcome result ≡ outcome_to told }
 {
-    match told {
-        Response::Done { flag, number } => {
-            if flag {
-                CommitAnswer::Applied(number)
-            } else {
-                CommitAnswer::Discarded(number)
-            }
-        }
-        Response::Refused { number, place } => CommitAnswer::Refused { number, place },
+    match told? {
+        Response::Applied(charge) => Ok(CommitAnswer::Applied(charge)),
+        Response::Discarded(charge) => Ok(CommitAnswer::Discarded(charge)),
+        _ => unreachable!(),
     }
 }
 
-fn settle_answer(told: Response) -> SettleAnswer
-    ensures { (budget : ℕ) → settle_outcome result ≡ outcome_to (Asked.Settle budget) told }
+fn settle_answer(told: Result<Response, Declined>) -> Result<SettleAnswer, Declined>
+    requires { Accepts IsOfSettle (outcome_to told) }
+    ensures { settle_outcome result ≡ outcome_to told }
 {
-    match told {
-        Response::Done { flag, number } => {
-            if flag {
-                SettleAnswer::Settled(number)
-            } else {
-                SettleAnswer::Spent(number)
-            }
-        }
-        Response::Refused { number, place } => SettleAnswer::Refused { number, place },
+    match told? {
+        Response::Settled(commits) => Ok(SettleAnswer::Settled(commits)),
+        Response::Spent(commits) => Ok(SettleAnswer::Spent(commits)),
+        _ => unreachable!(),
     }
 }
 
 // The values of channels of a part are set, unless that would leave the part outside its limit. The answer is the charge added.
-pub fn input(deck: &[u8], pool: &mut [i32], state: State, part: u32, pairs: &[i32]) -> Entered
+pub fn input(
+    deck: &[u8],
+    pool: &mut [i32],
+    state: State,
+    part: u32,
+    pairs: &[i32],
+) -> Answered<u32>
     ensures { reply_of (input_outcome result.answer) result.state pool.new
         ≡ Calls.input deck.now (memory_of state pool.old) part pairs.now }
 {
-    let mut values = state.values;
-    let mut pending = state.pending;
-    let told = calls_lent::call_lent(
-        deck,
-        pool,
-        &mut values,
-        &mut pending,
-        Request::Input(part),
-        pairs,
-    );
-    let answer = input_answer(told);
-    let later = State {
-        values: values,
-        pending: pending,
-    };
-    Entered {
-        answer: answer,
-        state: later,
+    let State {
+        mut values,
+        mut pending,
+    } = state;
+    let request = Request::Input(part);
+    let told = calls_lent::call_lent(deck, pool, &mut values, &mut pending, request, pairs);
+    Answered {
+        answer: input_answer(told),
+        state: State { values, pending },
     }
 }
 
 // The commit of the update at a place. The answer is whether it was applied, and the charge now pending.
-pub fn commit(deck: &[u8], pool: &mut [i32], state: State, place: u32) -> Committed
+pub fn commit(deck: &[u8], pool: &mut [i32], state: State, place: u32) -> Answered<CommitAnswer>
     ensures { reply_of (commit_outcome result.answer) result.state pool.new
         ≡ Calls.commit deck.now (memory_of state pool.old) place }
 {
-    let mut values = state.values;
-    let mut pending = state.pending;
-    let none = [0i32; 0];
-    let told = calls_lent::call_lent(
-        deck,
-        pool,
-        &mut values,
-        &mut pending,
-        Request::Commit(place),
-        &none,
-    );
-    let answer = commit_answer(told);
-    let later = State {
-        values: values,
-        pending: pending,
-    };
-    Committed {
-        answer: answer,
-        state: later,
+    let State {
+        mut values,
+        mut pending,
+    } = state;
+    let request = Request::Commit(place);
+    let told = calls_lent::call_lent(deck, pool, &mut values, &mut pending, request, &[]);
+    Answered {
+        answer: commit_answer(told),
+        state: State { values, pending },
     }
 }
 
 // The commit of place 0, again and again, within a budget of commits. The answer is how many were made, and whether nothing is
 // pending then.
-pub fn settle(deck: &[u8], pool: &mut [i32], state: State, budget: u32) -> Settled
+pub fn settle(deck: &[u8], pool: &mut [i32], state: State, budget: u32) -> Answered<SettleAnswer>
     ensures { reply_of (settle_outcome result.answer) result.state pool.new
         ≡ Calls.settle deck.now (memory_of state pool.old) budget }
 {
-    let mut values = state.values;
-    let mut pending = state.pending;
-    let none = [0i32; 0];
-    let told = calls_lent::call_lent(
-        deck,
-        pool,
-        &mut values,
-        &mut pending,
-        Request::Settle(budget),
-        &none,
-    );
-    let answer = settle_answer(told);
-    let later = State {
-        values: values,
-        pending: pending,
-    };
-    Settled {
-        answer: answer,
-        state: later,
+    let State {
+        mut values,
+        mut pending,
+    } = state;
+    let request = Request::Settle(budget);
+    let told = calls_lent::call_lent(deck, pool, &mut values, &mut pending, request, &[]);
+    Answered {
+        answer: settle_answer(told),
+        state: State { values, pending },
     }
 }
 
 // The new deck that an old one becomes, at the front of the buffer; where it is refused, the buffer stays as it is. The answer is the
 // new deck's length.
-pub fn convert(deck: &[u8], buffer: &mut [u8]) -> ConvertAnswer
+pub fn convert(deck: &[u8], buffer: &mut [u8]) -> Result<u32, Declined>
     ensures { Conversion.reply_of (Conversion.convert_outcome result) buffer.new
         ≡ Conversion.convert deck.now buffer.old }
 {
     if deck_reading::few_rules(deck) {
-        let mut short = [0u64; passing::SHORT_RULE_TABLE];
-        let mut small = [0u32; passing::SHORT_MEMO];
-        return conversion_call::convert_with(deck, buffer, &mut short, &mut small);
+        conversion_call::convert_with::<SHORT_RULE_TABLE, SHORT_MEMO>(deck, buffer)
+    } else {
+        conversion_call::convert_with::<RULE_TABLE, MEMO>(deck, buffer)
     }
-    let mut rules = [0u64; passing::RULE_TABLE];
-    let mut memo = [0u32; passing::MEMO];
-    conversion_call::convert_with(deck, buffer, &mut rules, &mut memo)
 }

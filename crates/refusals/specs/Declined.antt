@@ -31,6 +31,9 @@ number_of Of.DefaultRetired = Number.default_retired
 number_of Of.TooManyRules = Number.too_many_rules
 number_of Of.BufferTooShort = Number.buffer_too_short
 
+abbrev pub unplaced : Refusal → Declined
+unplaced r = record { refusal = r; place = 0 }
+
 -- a fault, and a call that declines, as outcomes
 abbrev pub fault_outcome : {A : Type 0} → Fault → Outcome A
 fault_outcome f = refused (number_of f.refusal) f.place

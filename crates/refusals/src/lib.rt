@@ -3,7 +3,7 @@
 #![tactic(auto)]
 
 ghost use Rattle.std.specs.Prelude.{◌≡◌};
-ghost use Rattle.refusals.specs.Declined.{number_of};
+ghost use Rattle.refusals.specs.Declined.{number_of, unplaced};
 
 // The refusals, each with its number.
 #[derive(Clone, Copy, Debug, PartialEq, Eq)]
@@ -37,6 +37,16 @@ impl Refusal {
         ensures { result ≡ number_of self }
     {
         self as u32
+    }
+
+    // Why a call declines that names no place: 0 stands for it.
+    pub fn unplaced(self) -> Declined
+        ensures { result ≡ unplaced self }
+    {
+        Declined {
+            refusal: self,
+            place: 0,
+        }
     }
 }
 
