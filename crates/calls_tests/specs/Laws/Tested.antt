@@ -1,5 +1,5 @@
 -- The tests that every call begins with: from what the code finds to the definition. Assumes nothing.
-use Rattle.std.specs.Prelude.{ℕ, ◌+◌, ◌*◌, ◌/◌, ◌≤◌, ◌<◌, ◌≡◌, refl, true, false, not, List, length, replicate, ℤ}
+use Rattle.std.specs.Prelude.{ℕ, ◌+◌, ◌*◌, ◌/◌, ◌≤◌, ◌<◌, ◌≡◌, refl, true, false, not, List, length, replicate, ℤ, Result, Ok, Err}
 use Rattle.std.proofs.Common.{sym, ap, ap₂, ◌∙◌, subst, inl, inr, arith}
 use Rattle.std.proofs.lemmas.List.{length-replicate}
 use Rattle.lists.specs.Lists.{is_empty}
@@ -39,8 +39,9 @@ use Rattle.firing_queue.specs.Laws.Kept.{kept_whole}
 use Rattle.calls.specs.Calls.{tested, tested_as}
 use Rattle.calls.specs.Answers.{memory_at}
 use Rattle.calls_tests.specs.Tested.{Usable, TestsState, TestsPassed, Tests}
-use Rattle.calls_tests.specs.declared.Tested.{Tested}
-use Rattle.calls_tests.specs.declared.Tested.TheVariants.{Ready as Readied, Refused}
+use Rattle.refusals.specs.Declined.{decline_outcome}
+use Rattle.refusals.specs.declared.Declined.{Declined}
+use Rattle.calls_tests.specs.declared.TestsFound.{TestsFound}
 
 -- ---- an index of zeros is long enough
 
@@ -152,10 +153,10 @@ module _ (s rules parts charges : List ℕ) (k : Counted.Deck) (n : ℕ) (w : Ju
     abbrev m : Memory
     m = memory_at vs pending pool
 
-    pub state-passed : (c : Counted.Deck) (total : ℕ) → TestsState k rules parts memo index pool vs pending (Readied c total)
-        → TestsPassed s rules parts memo index m c total
-    state-passed c total t =
-        subst (λ c. TestsPassed s rules parts memo index m c total) (sym t.0)
+    state-passed : (x : TestsFound) → TestsState k rules parts memo index pool vs pending (Ok x)
+        → TestsPassed s rules parts memo index m x.counts x.charge
+    state-passed x t =
+        subst (λ c. TestsPassed s rules parts memo index m c x.charge) (sym t.0)
         (record {
           accepted = tested-good s m w.passes t.1 a.0;
           entering = record {
@@ -177,7 +178,7 @@ module _ (s rules parts charges : List ℕ) (k : Counted.Deck) (n : ℕ) (w : Ju
           whole_slots = refl;
         })
       where
-        a : (good (deck_of s) m ≡ true) × (total ≡ charge (deck_of s) (updates_of pending pool))
+        a : (good (deck_of s) m ≡ true) × (x.charge ≡ charge (deck_of s) (updates_of pending pool))
         a = good-answer (deck_of s) m (t.2 ∙ goodness-same m)
 
         slots : List Slot
@@ -186,15 +187,15 @@ module _ (s rules parts charges : List ℕ) (k : Counted.Deck) (n : ℕ) (w : Ju
         none : holes slots ≡ 0
         none = whole-holes (load m).pending
 
-        held : Stored (deck_of s) (capacity (length pool)) slots (load m) vs pending total (held_of index pool)
-        held = held-loaded (deck_of s) m index total a.0 a.1 t.4
+        held : Stored (deck_of s) (capacity (length pool)) slots (load m) vs pending x.charge (held_of index pool)
+        held = held-loaded (deck_of s) m index x.charge a.0 a.1 t.4
 
-    pub state-refused : (n p : ℕ) → TestsState k rules parts memo index pool vs pending (Refused n p) → tested s m ≡ refused n p
-    state-refused n p (z, inl x) = tested-pool s m w.passes x.1 ∙ ap₂ refused (sym x.0) (sym z)
-    state-refused n p (z, inr x) =
+    state-declined : (d : Declined) → TestsState k rules parts memo index pool vs pending (Err d) → tested s m ≡ decline_outcome d
+    state-declined d (z, inl x) = tested-pool s m w.passes x.1 ∙ ap₂ refused (sym x.0) (sym z)
+    state-declined d (z, inr x) =
         tested-state s m w.passes x.1 (bad-answer (deck_of s) m (x.2 ∙ goodness-same m)) ∙ ap₂ refused (sym x.0) (sym z)
 
-    pub state-tests : (r : Tested) → TestsState k rules parts memo index pool vs pending r
+    pub state-tests : (r : Result TestsFound Declined) → TestsState k rules parts memo index pool vs pending r
         → Tests s rules parts memo index pool vs pending r
-    state-tests (Readied c total) t = state-passed c total t
-    state-tests (Refused n p) t = state-refused n p t
+    state-tests (Ok x) t = (t.6, state-passed x t)
+    state-tests (Err d) t = state-declined d t
