@@ -65,8 +65,8 @@ module _ (sc : Scope) (s : List ℕ) (at : ℕ) where
             (turns-none (sym ((mask-empty []).1 refl)));
       }
 
--- turn i of `count`, with an assignment to t
-module _ {sc : Scope} {o : Outcome (Got Action)} (count i : ℕ) (s : List ℕ) (place mask t : ℕ) where
+-- turn i of `count`
+module _ {sc : Scope} {o : Outcome (Got Action)} (count i : ℕ) (s : List ℕ) (place mask : ℕ) where
   left : i < count → (w : Assigning sc o (count - i) s place mask)
       → Turns o (first (assignment sc w.ts) (others sc (count - (i + 1)) w.ts) (drop place s) place) (λ a. mask ≡ mask_of (targets a))
   left h w =
@@ -75,10 +75,11 @@ module _ {sc : Scope} {o : Outcome (Got Action)} (count i : ℕ) (s : List ℕ) 
       (ap (λ n. assignments sc n w.ts (drop place s) place) k ∙ assignments-first sc (count - (i + 1)) w.ts (drop place s) place)
       w.turns
 
-  pub assigning-next : {next : ℕ} → i < count → ReadsAssignment sc s place mask (Ok (record { value = t; next = next }))
+  -- with an assignment to t
+  pub assigning-next : (t : ℕ) {next : ℕ} → i < count → ReadsAssignment sc s place mask (Ok (record { value = t; next = next }))
       → Assigning sc o (count - i) s place mask → Assigning sc o (count - (i + 1)) s next (bit_or mask (2 ^ t))
   unfolding lists targets
-  assigning-next {next} h r w =
+  assigning-next t {next} h r w =
       let x = r w.ts w.same in
       record {
         ts = x.0.target ∷ w.ts;

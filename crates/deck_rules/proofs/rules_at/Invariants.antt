@@ -11,10 +11,7 @@ use Rattle.deck_rules.proofs.rules_at.Given as goal
 
 abbrev pub invariant-loop-i : goal.invariant-loop-i
 invariant-loop-i l =
-    (l.i ≤ l.count) × (l.place ≤ length l.s) × (length l.table ≡ length l.initial.table)
+    (l.next ≤ length l.s)
     × Turns (repeats l.count (marked_rule l.form l.own) (drop l.at l.s) l.at)
-    (repeats (l.count - l.i) (marked_rule l.form l.own) (drop l.place l.s) l.place)
+    (repeats (l.count - l.i) (marked_rule l.form l.own) (drop l.next l.s) l.next)
     (Filled rule_row 8 l.i l.initial.table l.table)
-
-abbrev pub decreases-loop-i : goal.decreases-loop-i
-decreases-loop-i l = l.count - l.i
