@@ -5,12 +5,9 @@
 ghost use Rattle.std.specs.Prelude.{◌≡◌, ◌++◌, ◌≤◌, length, drop};
 ghost use Rattle.lists.specs.Bits.{mask_of};
 ghost use Rattle.deck.specs.Reader.{number, repeats, rising, label};
-ghost use Rattle.expression.specs.ExactByte.{InExpression};
-ghost use Rattle.refusals.specs.Declined.{number_of};
 ghost use Rattle.deck.specs.Marks.{Reads, ReadsKept, ReadsTo, scope_of, expression_for, is_whole};
 
 use deck::{Deck, Read};
-use expression::Search;
 use refusals::{Fault, Refusal};
 
 // A byte from lo to below hi.
@@ -104,20 +101,6 @@ fn expression_end(s: &[u8], at: usize, truth: bool, own: usize, far: usize) -> O
     }
 }
 
-fn fault_of(number: u32, place: usize) -> Fault
-    requires { InExpression number }
-    ensures { (number_of result.refusal ≡ number) × (result.place ≡ place) }
-{
-    let refusal = if number == 3 {
-        Refusal::UnknownByte
-    } else if number == 18 {
-        Refusal::WrongType
-    } else {
-        Refusal::WrongEnd
-    };
-    Fault { refusal, place }
-}
-
 // The same with the fault: of the length byte, of too few bytes, or the first one of the expression. It is called only where there is
 // one, so that decks that pass are not searched.
 fn expression_step(s: &[u8], at: usize, truth: bool, own: usize, far: usize) -> Result<usize, Fault>
@@ -134,11 +117,7 @@ fn expression_step(s: &[u8], at: usize, truth: bool, own: usize, far: usize) -> 
         });
     }
     let to = from + n;
-    let found = expression_faults::expression_fault(s, from, to, truth, own, far);
-    match found {
-        Search::After(end) => Ok(end),
-        Search::Fault(number, place) => Err(fault_of(number, place)),
-    }
+    expression_faults::expression_fault(s, from, to, truth, own, far)
 }
 
 // An expression. Mostly it has no fault, and its end comes back as one number. `expression_step` is called in two places: called in one,

@@ -7,14 +7,13 @@ use Rattle.std.proofs.Math.Bool.{true, false, not}
 use Rattle.std.proofs.Math.ListN.{length, length-drop}
 use Rattle.lists.specs.Lists.{member}
 use Rattle.refusals.specs.Outcome.{Outcome, refused, accepted}
-use Rattle.refusals.specs.Declined.{fault_outcome}
 use Rattle.refusals.specs.declared.Fault.{Fault}
 use Rattle.refusals.specs.Laws.Outcomes.{refused≢accepted, accepted-inj, number-inj, place-inj}
 use Rattle.refusals.specs.Numbers.{deck_ends, repeated_target}
 use Rattle.expression.specs.Reading.{Scope}
 use Rattle.expression.specs.Answers.{is_got}
 use Rattle.expression.specs.Faults.{Found, sound, faulty, first_fault}
-use Rattle.expression.specs.Searching.{awaited_for}
+use Rattle.expression.specs.Searching.{of_search, awaited_for, answer_for}
 use Rattle.deck.specs.Reader.{Got, Reader, and_then, ◌>>=◌, give, expect, byte, number, repeats, readers}
 use Rattle.deck.specs.Layout.{Expected, numbers, truths, judged, expression}
 use Rattle.deck.specs.Marks.{Reads, expression_for, is_whole, assignment}
@@ -106,15 +105,6 @@ module _ {A : Type 0} (j : Expected A) (s : List ℕ) (at n from : ℕ)
   bad h w f =
       whole-there h ∙ judged-nothing (j.whole bytes) (j.find bytes from) (j.has_fault bytes from) (drop (from + n) s) (from + n) w f
 
--- the search's answer, and what is found
-abbrev pub of_search : Result ℕ Fault → Outcome ℕ
-of_search (Ok n) = accepted n
-of_search (Err f) = fault_outcome f
-
-abbrev pub outcome_for : ℕ → Found → Outcome ℕ
-outcome_for n sound = accepted n
-outcome_for n (faulty k p) = refused k p
-
 -- the same of both kinds
 pub expression-fault : (truth : Bool) (sc : Scope) (s : List ℕ) (at : ℕ) {n p : ℕ} → number 1 65 s at ≡ refused n p
     → expression_for truth sc s at ≡ refused n p
@@ -161,10 +151,10 @@ module _ (truth : Bool) (sc : Scope) (s : List ℕ) (at n from : ℕ) (e : numbe
   abbrev ReadsAs : Result ℕ Fault → Type 0
   ReadsAs r = Reads s (expression_for truth sc (drop at s) at) (λ _. Unit {0}) r
 
-  pub expression-searched : from + n ≤ length s → (r : Result ℕ Fault) → of_search r ≡ outcome_for (from + n) found → ReadsAs r
+  pub expression-searched : from + n ≤ length s → (r : Result ℕ Fault) → of_search r ≡ answer_for (from + n) found → ReadsAs r
   expression-searched h r q = go r found refl q
     where
-      go : (r : Result ℕ Fault) (f : Found) → found ≡ f → of_search r ≡ outcome_for (from + n) f → ReadsAs r
+      go : (r : Result ℕ Fault) (f : Found) → found ≡ f → of_search r ≡ answer_for (from + n) f → ReadsAs r
       go (Ok m) sound k e =
           rw (accepted-inj e) (expression-good h (whole-if-sound sc content from truth k))
       go (Err x) sound k e = refused≢accepted e

@@ -14,7 +14,7 @@ returns-then-value-lo c =
     let at = c.in-Some.ensures.lookup.3 in
     let e = c.from-value.ensures ∙ at.1 0 in
     elim c.then-value-lo.branch [
-      then-value-lo-via-then-value-lo w ↦ number_small _ _ _ _ at.0 (omega (arith, e, w.if-value-lo.true))
+      | then-value-lo-via-then-value-lo w ↦ number_small _ _ _ _ at.0 (omega (arith, e, w.if-value-lo.true))
       | then-value-lo-via-else-value-lo+then-hi-value w ↦
           number-large _ _ _ _ at.0 (omega (arith, e, w.if-value-lo.false)) (omega (arith, e, w.if-hi-value.true))
     ]
