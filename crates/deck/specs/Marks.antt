@@ -5,7 +5,7 @@ use Rattle.std.specs.Prelude.{Option, None, Some, Result, Ok, Err}
 use mathlib.Core.List.{List, [], ◌∷◌, ◌++◌, map, flat_map}
 use Rattle.lists.specs.Lists.{member}
 use Rattle.lists.specs.Bits.{bit, mask_of}
-use Rattle.refusals.specs.Outcome.{Outcome, refused, accepted}
+use Rattle.refusals.specs.Outcome.{Outcome, accepted}
 use Rattle.refusals.specs.Numbers.{repeated_target}
 use Rattle.refusals.specs.Declined.{fault_outcome}
 use Rattle.refusals.specs.declared.Fault.{Fault}

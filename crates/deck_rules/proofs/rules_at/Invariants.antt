@@ -1,7 +1,6 @@
 -- `deck_rules::rules_at` meets its contract. The loop's invariant: i rules were read, and the front of the table is their rows.
 -- Assumes nothing.
 use Prim.Native.Nat.{◌≤◌, ◌-◌}
-use mathlib.Core.Path.{◌≡◌}
 use lib.ListN.{length, drop}
 use Rattle.deck.specs.Reader.{repeats}
 use Rattle.deck.specs.Marks.{marked_rule, rule_row}
