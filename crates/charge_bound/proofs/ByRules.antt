@@ -14,7 +14,7 @@ use Rattle.deck.specs.Shape.{shape}
 use Rattle.deck.specs.declared.Deck as Counted
 use Rattle.deck.proofs.Laws.Shape.{counted-M, counted-N, shape-carries}
 use Rattle.graph.specs.Masks.{carried_at}
-use Rattle.charge.specs.declared.Bound.TheVariants.{Within}
+use Rattle.std.specs.Prelude.{Ok}
 use Rattle.charge.specs.Charge.{largest_charge}
 use Rattle.charge.specs.Memo.{AcyclicTables, Memo, RowKnown, RowLargest, capped}
 use Rattle.charge.specs.Answer.{bound_of, LargestBelow, LargestOfRules}
@@ -88,7 +88,7 @@ module _ {rules parts : List ℕ} {counts : Counted.Deck} (h : AcyclicTables rul
             omega (arith, known_at h memo known q l)
 
     -- all rules are passed, and none is above the bound
-    pub rules-within : k ≡ M' → best < 65536 → Within best ≡ bound_of d
+    pub rules-within : k ≡ M' → best < 65536 → Ok best ≡ bound_of d
     rules-within e small = passed-all d (few_rules h) all N' (counted-N rules parts counts) refl
       where
         all : LargestBelow d (64 * N') best

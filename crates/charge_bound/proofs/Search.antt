@@ -3,6 +3,7 @@ use Prim.Native.Nat.{ℕ, ◌+◌, ◌*◌, ◌≤◌, ◌<◌, min, max, zero-l
 use mathlib.Core.Path.{◌≡◌, refl, sym, ap, ◌∙◌}
 use mathlib.Core.Logic.{⊎_elim}
 use mathlib.Core.Bool.{true}
+use Rattle.std.specs.Prelude.{Ok, Err}
 use mathlib.Core.List.{List, [], ◌∷◌}
 use native.Mathlib.Nat.{le_refl, eq-or-lt_of_le}
 use native.Mathlib.Decide.{dec_lt}
@@ -14,7 +15,6 @@ use Rattle.deck.specs.Deck.{Deck, M, N, carries}
 use Rattle.deck.specs.Shape.{shape}
 use Rattle.deck.specs.declared.Deck as Counted
 use Rattle.deck.proofs.Laws.Shape.{counted-M, counted-N, shape-carries}
-use Rattle.charge.specs.declared.Bound.TheVariants.{Within, Above}
 use Rattle.charge.specs.Charge.{rule_charge, carried_charges, largest_charge, above_bound}
 use Rattle.charge.specs.Memo.{AcyclicTables, capped}
 use Rattle.charge.specs.Answer.{bound_by, bound_of, LargestBelow}
@@ -59,13 +59,13 @@ module _ (d : Deck) (few : M d ≤ 64) where
         here : (q s : ℕ) → q ≡ p → s ≡ r → c ≡ rule_charge d p r → rule_charge d q s ≤ b
         here q s i j g = rw (i, j) (omega arith)
 
-    pub passed-above : 65535 < rule_charge d p r → Above (64 * p + r) ≡ bound_of d
+    pub passed-above : 65535 < rule_charge d p r → Err (64 * p + r) ≡ bound_of d
     unfolding bound_of bound_by
     passed-above above = go (above_bound (carried_charges d)) refl
       where
-        go : (l : List ℕ) → above_bound (carried_charges d) ≡ l → Above (64 * p + r) ≡ bound_by l (largest_charge d)
+        go : (l : List ℕ) → above_bound (carried_charges d) ≡ l → Err (64 * p + r) ≡ bound_by l (largest_charge d)
         go [] e = absurd (omega (arith, (none_above d).0 e p r y.0 y.1 y.2))
-        go (x ∷ xs) e = ap Above (same (dec_lt x (64 * p + r)) (dec_lt (64 * p + r) x))
+        go (x ∷ xs) e = ap Err (same (dec_lt x (64 * p + r)) (dec_lt (64 * p + r) x))
           where
             first : FirstAbove d x
             first = first_above d few x xs e
@@ -84,14 +84,14 @@ module _ (d : Deck) (few : M d ≤ 64) where
             same (no a) (no b) = omega arith
 
   module _ {k best : ℕ} (h : LargestBelow d k best) where
-    pub passed-all : (n : ℕ) → N d ≡ n → k ≡ 64 * n → Within best ≡ bound_of d
+    pub passed-all : (n : ℕ) → N d ≡ n → k ≡ 64 * n → Ok best ≡ bound_of d
     unfolding bound_of bound_by
     passed-all n same e =
         let all : AtMost d best = λ q s l m c. h.most q s l m c (omega arith) in
         let none : above_bound (carried_charges d) ≡ [] =
         (none_above d).1 (λ q s l m c. omega (arith, all q s l m c, h.fits)) in
         let largest : best ≡ largest_charge d = omega (arith, h.least, (largest-charge d best).1 all) in
-        ap Within largest ∙ sym (ap (λ l. bound_by l (largest_charge d)) none)
+        ap Ok largest ∙ sym (ap (λ l. bound_by l (largest_charge d)) none)
 
 -- what the search finds, in the numbers of the tables
 module _ {rules parts : List ℕ} {counts : Counted.Deck} (h : AcyclicTables rules parts counts) where

@@ -2,21 +2,14 @@
 // 65,535. The definitions are in `charge`.
 #![tactic(auto)]
 
-ghost use Rattle.std.specs.Prelude.{◌≡◌, ◌+◌, ◌*◌, ◌<◌, ◌≤◌, max, length};
+ghost use Rattle.std.specs.Prelude.{◌≡◌, ◌+◌, ◌*◌, ◌<◌, ◌≤◌, length};
 ghost use Rattle.deck.specs.Shape.{shape};
 ghost use Rattle.charge.specs.Memo.{Memo, Ready, RowKnown, RowLargest};
 ghost use Rattle.charge.specs.Answer.{bound_of, LargestBelow, PartBound, LargestOfRules};
 
-use charge::Bound;
 use deck::Deck;
 
-fn larger(a: u32, b: u32) -> u32
-    ensures { result ≡ max a b }
-{
-    if a < b { b } else { a }
-}
-
-// The search at one part, behind the largest charge so far.
+// The search at one part, behind the largest charge so far: the largest now, or the place of the first above the bound.
 fn part_above(
     rules: &[u64],
     parts: &[u64],
@@ -24,7 +17,7 @@ fn part_above(
     counts: Deck,
     p: usize,
     best: u32,
-) -> Bound
+) -> Result<u32, usize>
     requires { Ready rules.now parts.now counts memo.old × (p < counts.parts)
         × LargestBelow (shape rules.now parts.now counts) (64 * p) best }
     ensures { PartBound (shape rules.now parts.now counts) p result
@@ -39,37 +32,26 @@ fn part_above(
         charge_tables::known_charges(rules, parts, memo, counts, r);
         let c = memo[Deck::PARTS * r + p] - 1;
         if c == charge_tables::CAP {
-            return Bound::Above(Deck::RULES * p + r);
+            return Err(Deck::RULES * p + r);
         }
-        most = larger(most, c);
+        most = most.max(c);
         left = lists::rest(left);
         r = lists::lowest(left);
     }
-    Bound::Within(most)
+    Ok(most)
 }
 
 // The bound on the charges of the carried rules, lowest place first.
-fn search_above(rules: &[u64], parts: &[u64], memo: &mut [u32], counts: Deck) -> Bound
+fn search_above(rules: &[u64], parts: &[u64], memo: &mut [u32], counts: Deck) -> Result<u32, usize>
     requires { Ready rules.now parts.now counts memo.old }
     ensures { (result ≡ bound_of (shape rules.now parts.now counts))
         × Memo (shape rules.now parts.now counts) memo.new }
 {
-    let n = counts.parts;
     let mut best: u32 = 0;
-    let mut p: usize = 0;
-    while p < n {
-        let bound = part_above(rules, parts, memo, counts, p, best);
-        match bound {
-            Bound::Above(place) => {
-                return Bound::Above(place);
-            }
-            Bound::Within(most) => {
-                best = most;
-            }
-        }
-        p += 1;
+    for p in 0..counts.parts {
+        best = part_above(rules, parts, memo, counts, p, best)?;
     }
-    Bound::Within(best)
+    Ok(best)
 }
 
 // The largest of a number and the charges of rule r at the parts that carry it.
@@ -79,12 +61,10 @@ fn row_largest(parts: &[u64], memo: &[u32], parts_count: usize, r: usize, best: 
     ensures { RowLargest parts.now memo.now parts_count r best result }
 {
     let mut most = best;
-    let mut q: usize = 0;
-    while q < parts_count {
+    for q in 0..parts_count {
         if charge_listeners::carries(parts, q, r) {
-            most = larger(most, memo[Deck::PARTS * r + q] - 1);
+            most = most.max(memo[Deck::PARTS * r + q] - 1);
         }
-        q += 1;
     }
     most
 }
@@ -111,14 +91,14 @@ fn largest(rules: &[u64], parts: &[u64], memo: &mut [u32], counts: Deck) -> u32
 
 // The bound on the charges of the carried rules. Mostly none is above it, and then the order of the places plays no role.
 // The memo is lent, and has then what was computed.
-pub fn first_above(rules: &[u64], parts: &[u64], memo: &mut [u32], counts: Deck) -> Bound
+pub fn first_above(rules: &[u64], parts: &[u64], memo: &mut [u32], counts: Deck) -> Result<u32, usize>
     requires { Ready rules.now parts.now counts memo.old }
     ensures { (result ≡ bound_of (shape rules.now parts.now counts))
         × Memo (shape rules.now parts.now counts) memo.new }
 {
     let most = largest(rules, parts, memo, counts);
     if most < charge_tables::CAP {
-        return Bound::Within(most);
+        return Ok(most);
     }
     search_above(rules, parts, memo, counts)
 }

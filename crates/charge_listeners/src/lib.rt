@@ -12,10 +12,8 @@ fn clear_listeners(rules: &mut [u64])
     requires { 256 ≤ length rules.old }
     ensures { Cleared rules.old rules.new }
 {
-    let mut c: usize = 0;
-    while c < Deck::CHANNELS {
+    for c in 0..Deck::CHANNELS {
         rules[Deck::RULE_ROW * c + Deck::RULE_LISTENERS] = 0;
-        c += 1;
     }
 }
 
@@ -27,8 +25,7 @@ fn note_rule(rules: &mut [u64], events: u64, r: usize)
     let mut left = events;
     let mut c = lists::lowest(left);
     while c < Deck::CHANNELS {
-        let at = Deck::RULE_ROW * c + Deck::RULE_LISTENERS;
-        rules[at] = rules[at] | (1u64 << r);
+        rules[Deck::RULE_ROW * c + Deck::RULE_LISTENERS] |= 1 << r;
         left = lists::rest(left);
         c = lists::lowest(left);
     }
@@ -62,7 +59,7 @@ pub fn listeners(rules: &[u64], mask: u64) -> u64
     let mut left = mask;
     let mut c = lists::lowest(left);
     while c < Deck::CHANNELS {
-        set = set | rules[Deck::RULE_ROW * c + Deck::RULE_LISTENERS];
+        set |= rules[Deck::RULE_ROW * c + Deck::RULE_LISTENERS];
         left = lists::rest(left);
         c = lists::lowest(left);
     }

@@ -21,8 +21,7 @@ pub fn capped_sum(a: u32, b: u32) -> u32
     requires { (a < 1073741824) × (b < 1073741824) }
     ensures { result ≡ capped (a + b) }
 {
-    let s = a + b;
-    if s < CAP { s } else { CAP }
+    (a + b).min(CAP)
 }
 
 // Row r of the memo added to the charges of an update, at the parts that carry rule r.
@@ -31,12 +30,10 @@ fn add_row(sums: &mut [u32], parts: &[u64], memo: &[u32], parts_count: usize, r:
         × RowKnown parts_count r memo.now }
     ensures { RowAdded parts.now memo.now parts_count r sums.old sums.new }
 {
-    let mut q: usize = 0;
-    while q < parts_count {
+    for q in 0..parts_count {
         if charge_listeners::carries(parts, q, r) {
-            sums[q] = sums[q] + (memo[Deck::PARTS * r + q] - 1);
+            sums[q] += memo[Deck::PARTS * r + q] - 1;
         }
-        q += 1;
     }
 }
 
@@ -84,10 +81,8 @@ fn row_sum(row: &[u32], parts_count: usize) -> u32
     ensures { result ≡ sum_of (λ q. get_or row.now q 0) (below parts_count) }
 {
     let mut total: u32 = 0;
-    let mut q: usize = 0;
-    while q < parts_count {
-        total = total + row[q];
-        q += 1;
+    for q in 0..parts_count {
+        total += row[q];
     }
     total
 }
@@ -119,12 +114,10 @@ fn put_row(memo: &mut [u32], parts_count: usize, r: usize, kind: u64, first: &[u
     ensures { RowPut parts_count r kind first.now second.now memo.old memo.new }
 {
     let total = total_for(kind, second, parts_count);
-    let mut p: usize = 0;
-    while p < parts_count {
+    for p in 0..parts_count {
         let rest = share(kind, total, second[p]);
         let charge = capped_sum(first[p], rest);
         memo[Deck::PARTS * r + p] = charge + 1;
-        p += 1;
     }
 }
 

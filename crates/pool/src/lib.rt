@@ -35,12 +35,7 @@ pub fn write_update(tail: &mut [i32], update: &[i32])
     ensures { tail.new ≡ update.now ++ drop (length update.now) tail.old }
 {
     let n = update.len();
-    let mut i: usize = 0;
-    while i < n {
-        let x = update[i];
-        tail[i] = x;
-        i += 1;
-    }
+    tail[..n].copy_from_slice(update);
 }
 
 // The update behind the last pending one: the tail from the first free place is lent on.
@@ -57,14 +52,10 @@ pub fn same_at(pool: &[i32], at: usize, update: &[i32]) -> bool
     requires { (length update.now ≡ 10) × (at + 10 ≤ length pool.now) }
     ensures { result ≡ eq_list eq_z (take 10 (drop at pool.now)) update.now }
 {
-    let mut i: usize = 0;
-    while i < Deck::PLACE {
-        let x = pool[at + i];
-        let y = update[i];
-        if x != y {
+    for i in 0..Deck::PLACE {
+        if pool[at + i] != update[i] {
             return false;
         }
-        i += 1;
     }
     true
 }
@@ -74,24 +65,15 @@ pub fn move_down(pool: &mut [i32], at: usize, distance: usize, count: usize)
     requires { at + distance + count ≤ length pool.old }
     ensures { pool.new ≡ moved pool.old at distance count }
 {
-    let mut i: usize = 0;
-    while i < count {
-        let x = pool[at + i + distance];
-        pool[at + i] = x;
-        i += 1;
-    }
+    let from = at + distance;
+    pool.copy_within(from..from + count, at);
 }
 
 // The pool's tail becomes zeros.
 pub fn clear(tail: &mut [i32])
     ensures { tail.new ≡ zeros (length tail.old) }
 {
-    let n = tail.len();
-    let mut i: usize = 0;
-    while i < n {
-        tail[i] = 0;
-        i += 1;
-    }
+    tail.fill(0);
 }
 
 // Whether two lists of one length are zeros. The loop has no exit and no test, so that it is compiled to few vector instructions, and with
@@ -100,16 +82,11 @@ fn both_zero(a: &[i32], b: &[i32]) -> bool
     requires { length a.now ≡ length b.now }
     ensures { result ≡ (all_of is_zero a.now && all_of is_zero b.now) }
 {
-    let n = a.len();
     let mut first: i32 = 0;
     let mut second: i32 = 0;
-    let mut i: usize = 0;
-    while i < n {
-        let x = a[i];
-        let y = b[i];
-        first = first | x;
-        second = second | y;
-        i += 1;
+    for i in 0..a.len() {
+        first |= a[i];
+        second |= b[i];
     }
     first | second == 0
 }

@@ -43,10 +43,8 @@ pub fn gather(pool: &mut [i32], first: usize, last: usize, used: usize) -> usize
     ensures { Gathers pool.old first last used pool.new result }
 {
     let mut to = first;
-    let mut from = first;
-    while from < last {
+    for from in first..last {
         to = gather_place(pool, from, to);
-        from += 1;
     }
     pool::move_down(
         pool,

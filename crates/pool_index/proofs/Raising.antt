@@ -4,11 +4,10 @@ use Prim.Native.Nat.{suc, ◌-◌, ◌<◌, ◌^◌}
 use mathlib.Core.Path.{◌≡◌, refl, ap, ◌∙◌}
 use mathlib.Core.Bool.{cond}
 use native.Mathlib.Omega.{arith}
-use lib.Dec.{T}
-use lib.IntN.{ℤ, pos, negsuc, nat_abs, ◌+ℤ◌}
-use lib.Signed.{mag, non_neg}
+use lib.IntN.{ℤ, pos, negsuc, ◌+ℤ◌}
+use lib.Signed.{mag}
 use mir.Syntax.{w32, w64}
-use mir.Val.{Fits, SFits, to_z, of_z}
+use mir.Val.{SFits, to_z, of_z}
 use mir.Facts.{sfits_widen, to_z-of_z}
 use borrow.Author.Tests.{le-ltb}
 use Rattle.pool_index.specs.Hash.{raised}
@@ -33,21 +32,14 @@ module _ (x : ℤ) (h : mag x < 2 ^ 31) where
   fits : SFits w32 x
   fits = record { sfits = h }
 
-  pub widens : SFits w64 (to_z w32 (of_z w32 x))
-  widens = rw (to_z-of_z fits) (sfits_widen {w = w32} {w' = w64} tt fits)
-
   widened : wide x ≡ x
   widened = ap (λ (y : ℤ). to_z w64 (of_z w64 y)) (to_z-of_z fits) ∙ to_z-of_z {w = w64} (sfits_widen tt fits)
 
   wide-sum : wide x +ℤ pos 2147483648 ≡ pos (raised x)
   wide-sum = ap (λ y. y +ℤ pos 2147483648) widened ∙ sum_is x h
 
-  pub sum_fits : SFits w64 (wide x +ℤ pos 2147483648)
+  sum_fits : SFits w64 (wide x +ℤ pos 2147483648)
   sum_fits = rw wide-sum (record { sfits = omega (arith, raised-small x h) })
 
   pub sum_back : to_z w64 (of_z w64 (wide x +ℤ pos 2147483648)) ≡ pos (raised x)
   sum_back = to_z-of_z sum_fits ∙ wide-sum
-
-  pub sum-natural : T (non_neg (to_z w64 (of_z w64 (wide x +ℤ pos 2147483648))))
-      × Fits w64 (nat_abs (to_z w64 (of_z w64 (wide x +ℤ pos 2147483648))))
-  sum-natural = rw sum_back (tt, record { fits = omega (arith, raised-small x h) })

@@ -12,7 +12,7 @@ use Rattle.lists.specs.Laws.Booleans.{or_left, or_right, or-false-both, not-true
 use Rattle.lists.specs.Laws.Equalities.{eq_z-true, eq_list-true, eq_z-refl, eq_list-refl}
 use Rattle.pool.specs.Places.{places}
 use Rattle.pool_index.specs.Hash.{bucket_of, side_of}
-use Rattle.pool_index.specs.Index.{heads_of, slot_of, owner_of, Leads, here, down, Ends, free, past, lives, Ordered, Seeking, Finds}
+use Rattle.pool_index.specs.Index.{heads_of, slot_of, owner_of, Leads, here, down, Ends, free, past, lives, Ordered, Seeking, FreeAt}
 use Rattle.pool_index.specs.Laws.Ways.{side-low, slot-inside, slot-owner}
 use Rattle.pool_index.specs.Laws.Front.{places-length, places-at}
 
@@ -110,12 +110,11 @@ searching-starts {used} {pool} {row} {index} b k e l =
         (k.indexed.leads p (omega (arith, places-length used pool)) (ap lives there ∙ k.live))))
 
 module _ {used : ℕ} {pool row : List ℤ} {index : List ℕ} {s i d : ℕ} (w : Searching used pool row index s i d) where
-  pub searching-ends : i ≡ 0 → Finds used pool row index s
+  pub searching-ends : i ≡ 0 → FreeAt used pool row index s
   searching-ends e =
       record {
-        found = λ q. absurd (omega (arith, q, w.inside));
-        none = λ _. any_of-none (λ w. eq_list eq_z w row) (places used pool) [] none;
-        ends = λ _. w.back s (free (sym w.value ∙ e));
+        none = any_of-none (λ w. eq_list eq_z w row) (places used pool) [] none;
+        ends = w.back s (free (sym w.value ∙ e));
       }
     where
       nowhere : (p : ℕ) → p < used → take 10 (drop (10 * p) pool) ≡ row → ⊥
@@ -157,15 +156,10 @@ module _ {used : ℕ} {pool row : List ℤ} {index : List ℕ} {s i d : ℕ} (w 
     searching-low = omega (arith, w.most, some, places-length used pool)
 
     module _ {r : Bool} (is : r ≡ eq_list eq_z (take 10 (drop (10 * (i - 1)) pool)) row) where
-      pub searching-found : r ≡ true → Finds used pool row index (length index)
+      pub searching-found : r ≡ true → any_of (λ w. eq_list eq_z w row) (places used pool) ≡ true
       searching-found t =
-          record {
-            found = λ _.
-                any_at (λ w. eq_list eq_z w row) (places used pool) (i - 1) [] (omega (arith, searching-low, places-length used pool))
-                (ap (λ w. eq_list eq_z w row) (places-at used (i - 1) pool searching-low) ∙ sym is ∙ t);
-            none = λ n. absurd (n refl);
-            ends = λ n. absurd (n refl);
-          }
+          any_at (λ w. eq_list eq_z w row) (places used pool) (i - 1) [] (omega (arith, searching-low, places-length used pool))
+          (ap (λ w. eq_list eq_z w row) (places-at used (i - 1) pool searching-low) ∙ sym is ∙ t)
 
       pub searching-next : r ≡ false → Searching used pool row index search_step (get_or index search_step 0) (d + 1)
       searching-next f =

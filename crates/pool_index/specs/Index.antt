@@ -2,7 +2,7 @@
 -- the first place of its bucket, and two links of each place those of places further down, 0 where there is none. A search goes down
 -- by the bits of a place's numbers, so that the ways of different numbers part after at most as many steps as these have bits. A place
 -- that was taken out is ten zeros, and stays as a branch. Assumes nothing.
-use Rattle.std.specs.Prelude.{ℕ, suc, ◌+◌, ◌-◌, ◌*◌, ◌/◌, ◌≤◌, ◌<◌, ◌≡◌, ◌⊎◌, Bool, true, false, not, List, [], ◌∷◌, ◌++◌, length, get_or, ℤ, pos}
+use Rattle.std.specs.Prelude.{ℕ, suc, ◌+◌, ◌-◌, ◌*◌, ◌/◌, ◌≤◌, ◌<◌, ◌≡◌, ◌⊎◌, Bool, true, false, not, List, [], ◌∷◌, ◌++◌, length, get_or, ℤ, pos, Option, None, Some}
 use Rattle.lists.specs.Lists.{any_of, eq_z, eq_list}
 use Rattle.pool.specs.Places.{is_zero, places}
 use Rattle.pool_index.specs.Hash.{bucket_of, side_of}
@@ -62,11 +62,15 @@ pub record Seeking (used : ℕ) (pool row : List ℤ) (index : List ℕ) : Type 
   pub indexed : Indexed (places used pool) index
   pub few : used ≤ 65535
 
--- and what it comes to: the free slot where its way ends, or the length of the index where it is among the places
-pub record Finds (used : ℕ) (pool row : List ℤ) (index : List ℕ) (r : ℕ) : Type 0 where
-  pub found : r ≡ length index → any_of (λ w. eq_list eq_z w row) (places used pool) ≡ true
-  pub none : (r ≡ length index → ⊥) → any_of (λ w. eq_list eq_z w row) (places used pool) ≡ false
-  pub ends : (r ≡ length index → ⊥) → Ends (heads_of index) index row 0 (bucket_of (heads_of index) row) r
+-- it is not among the places, and its way ends at the free slot s
+pub record FreeAt (used : ℕ) (pool row : List ℤ) (index : List ℕ) (s : ℕ) : Type 0 where
+  pub none : any_of (λ w. eq_list eq_z w row) (places used pool) ≡ false
+  pub ends : Ends (heads_of index) index row 0 (bucket_of (heads_of index) row) s
+
+-- and what it comes to: none where it is among the places, else the free slot where its way ends
+abbrev pub Finds : ℕ → List ℤ → List ℤ → List ℕ → Option ℕ → Type 0
+Finds used pool row index None = any_of (λ w. eq_list eq_z w row) (places used pool) ≡ true
+Finds used pool row index (Some s) = FreeAt used pool row index s
 
 -- what the entering of one more place at a slot takes, and what it leaves
 pub record Entering (used : ℕ) (row : List ℤ) (slot : ℕ) (index : List ℕ) : Type 0 where

@@ -13,9 +13,8 @@ fn raise(place: &[i32], i: usize) -> u64
     requires { i < length place.now }
     ensures { (result ≡ raised (get_or place.now i (pos 0))) × (result < 4294967296) }
 {
-    let x = place[i] as i64;
-    let y = x + 2147483648;
-    y as u64
+    let x = i64::from(place[i]) + 2147483648;
+    x as u64
 }
 
 // Two numbers of a place with their factors.
@@ -67,47 +66,28 @@ fn side(row: &[i32], d: usize) -> usize
     ((y >> (d % 32)) % 2) as usize
 }
 
-// Where a place with these numbers is to be entered: the free slot at the end of their way down the tree of their bucket; the length of
-// the index where one of the used places has them. A place that was taken out has zeros, and is only passed.
-pub fn find(index: &[u16], pool: &[i32], used: usize, row: &[i32]) -> usize
+// Where a place with these numbers is to be entered: the free slot at the end of their way down the tree of their bucket; none where one
+// of the used places has them. A place that was taken out has zeros, and is only passed. It is put into its callers, which call it for
+// each place.
+#[inline(always)]
+pub fn find(index: &[u16], pool: &[i32], used: usize, row: &[i32]) -> Option<usize>
     requires { Seeking used pool.now row.now index.now }
     ensures { Finds used pool.now row.now index.now result }
 {
     let heads = index.len() / 3;
     let mut s = bucket(row, heads);
-    let mut i = index[s] as usize;
+    let mut i = usize::from(index[s]);
     let mut d: usize = 0;
     while i > 0 {
         if pool::same_at(pool, Deck::PLACE * (i - 1), row) {
-            return index.len();
+            return None;
         }
         let b = side(row, d);
         s = heads + 2 * (i - 1) + b;
-        i = index[s] as usize;
+        i = usize::from(index[s]);
         d += 1;
     }
-    s
-}
-
-// The same, for the test of a state: the compiler puts a function into its caller only where it is called once, or small.
-pub fn find_first(index: &[u16], pool: &[i32], used: usize, row: &[i32]) -> usize
-    requires { Seeking used pool.now row.now index.now }
-    ensures { Finds used pool.now row.now index.now result }
-{
-    let heads = index.len() / 3;
-    let mut s = bucket(row, heads);
-    let mut number = index[s] as usize;
-    let mut d: usize = 0;
-    while number > 0 {
-        if pool::same_at(pool, Deck::PLACE * (number - 1), row) {
-            return index.len();
-        }
-        let b = side(row, d);
-        s = heads + 2 * (number - 1) + b;
-        number = index[s] as usize;
-        d += 1;
-    }
-    s
+    Some(s)
 }
 
 // One more place is entered at a free slot.

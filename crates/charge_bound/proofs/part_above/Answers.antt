@@ -141,12 +141,12 @@ loop-r-preserved c =
     let low = c.lowest-r-in-loop-r.ensures in
     let a = walk-on c.loop-r.invariant.3 left low in
     let m = passed-more (deck_of-2 c) (few_rules c.requires.0.tables) (passed c) (carried c) g.value
-    c.if-c-eq-CAP.false c.larger-most.ensures in
+    c.if-c-eq-CAP.false c.max-most.ensures in
     let next : 64 * c.args.p + c.loop-r.r + 1 ≡ 64 * c.args.p + (c.loop-r.r + 1) = omega arith in (
       a.found,
       w.memo,
       passed-next c.requires.0.tables c.args.p c.requires.1 (c.loop-r.r + 1) _ (omega (arith, c.loop-r-test.true)) a
-          (subst (λ k. LargestBelow (deck_of-2 c) k c.larger-most.result) next m),
+          (subst (λ k. LargestBelow (deck_of-2 c) k c.max-most.result) next m),
       walk-next c.loop-r.invariant.3 left low,
     )
 

@@ -13,18 +13,18 @@ overflow_sub-memo c =
 
 pub loop-q-preserved : goal.loop-q-preserved
 loop-q-preserved c =
-    let i = c.loop-q.invariant.1 in
+    let i = c.loop-q.invariant in
     elim c.if-carries.branch [
       | then-carries w ↦
-          (omega arith, rw w.most-is (largest-yes i _ (sym c.carries.ensures ∙ w.if-carries.true) w.larger-most.ensures))
-      | else-carries w ↦ (omega arith, rw w.most-is (largest-no i (sym c.carries.ensures ∙ w.if-carries.false)))
+          rw w.most-is (largest-yes i _ (sym c.carries.ensures ∙ w.if-carries.true) w.max-most.ensures)
+      | else-carries w ↦ rw w.most-is (largest-no i (sym c.carries.ensures ∙ w.if-carries.false))
     ]
 
 pub returns : goal.returns
 returns c =
     let i = c.loop-q in
     let e : i.q ≡ c.args.parts_count = omega arith in
-    subst (λ k. RowLargest c.args.parts.now c.args.memo.now k c.args.r c.args.best i.most) e i.invariant.1
+    subst (λ k. RowLargest c.args.parts.now c.args.memo.now k c.args.r c.args.best i.most) e i.invariant
 
 pub loop-q-init : goal.loop-q-init
-loop-q-init c = (omega arith, largest-none)
+loop-q-init c = largest-none

@@ -1,10 +1,6 @@
 -- `charge_bound::row_largest` meets its contract: most is the largest over the parts passed. Assumes nothing.
-use Prim.Native.Nat.{◌-◌, ◌≤◌}
 use Rattle.charge.specs.Memo.{RowLargest}
 use Rattle.charge_bound.proofs.row_largest.Given as goal
 
 abbrev pub invariant-loop-q : goal.invariant-loop-q
-invariant-loop-q l = (l.q ≤ l.parts_count) × RowLargest l.parts l.memo l.q l.r l.best l.most
-
-abbrev pub decreases-loop-q : goal.decreases-loop-q
-decreases-loop-q l = l.parts_count - l.q
+invariant-loop-q l = RowLargest l.parts l.memo l.q l.r l.best l.most

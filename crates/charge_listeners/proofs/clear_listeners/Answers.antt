@@ -4,16 +4,16 @@ use Rattle.charge_listeners.proofs.Columns.{clearing-none, clearing-more, cleari
 use Rattle.charge_listeners.proofs.clear_listeners.Goals as goal
 
 pub loop-c-init : goal.loop-c-init
-loop-c-init c = (omega arith, clearing-none)
+loop-c-init c = clearing-none
 
 pub bounds-rules-c : goal.bounds-rules-c
-bounds-rules-c c = omega (arith, c.loop-c.invariant.1.kept.long)
+bounds-rules-c c = omega (arith, c.loop-c.invariant.kept.long)
 
 pub loop-c-preserved : goal.loop-c-preserved
-loop-c-preserved c = (omega arith, clearing-more c.loop-c.invariant.1 (omega arith))
+loop-c-preserved c = clearing-more c.loop-c.invariant (omega arith)
 
 pub shape_of-rules : goal.shape_of-rules
-shape_of-rules c = c.loop-c.invariant.1.kept.long
+shape_of-rules c = c.loop-c.invariant.kept.long
 
 pub returns : goal.returns
-returns c = clearing-all c.loop-c.invariant.1 c.loop-c-test.false
+returns c = clearing-all c.loop-c.invariant (omega arith)

@@ -29,11 +29,11 @@ loop-c-preserved c =
           (noting-more h (omega arith) (i.invariant.1.found (omega arith)))),
     )
 
-pub bounds-rules-at : goal.bounds-rules-at
-bounds-rules-at c = omega (arith, c.loop-c.invariant.1.done.kept.long)
+pub bounds-rules-c : goal.bounds-rules-c
+bounds-rules-c c = omega (arith, c.loop-c.invariant.1.done.kept.long)
 
-pub bounds-rules-at-in-loop-c : goal.bounds-rules-at-in-loop-c
-bounds-rules-at-in-loop-c c = omega (arith, c.loop-c.invariant.1.done.kept.long)
+pub bounds-rules-c-in-loop-c : goal.bounds-rules-c-in-loop-c
+bounds-rules-c-in-loop-c c = omega (arith, c.loop-c.invariant.1.done.kept.long)
 
 pub shape_of-rules : goal.shape_of-rules
 shape_of-rules c = c.loop-c.invariant.1.done.kept.long

@@ -1,6 +1,5 @@
 -- `charge_tables::add_row` meets its contract: the entries passed are added, the others as before. Assumes nothing.
 use mathlib.Core.Path.{refl, sym, ◌∙◌}
-use native.Mathlib.Numerals.{add-one-dec}
 use native.Mathlib.Omega.{arith}
 use Rattle.charge_tables.specs.Laws.Entries.{Column, column-of}
 use Rattle.charge_tables.proofs.Rows.{filled_none, as_before, adding-yes, adding-no, adding-all}
@@ -16,26 +15,18 @@ column-2 : (c : goal.After-shared_slice_known-then-carries-1-unread) → Column 
 column-2 c = column-of _ _ _ _ c.loop-q-test.true c.requires.2 c.requires.3 c.requires.1
 
 -- the part of the turn
-column-3 : (c : goal.After-slice_known-then-carries-1) → Column c.args.memo.now c.args.r c.loop-q.q
+column-3 : (c : goal.Then-carries) → Column c.args.memo.now c.args.r c.loop-q.q
 column-3 c = column-of _ _ _ _ c.loop-q-test.true c.requires.2 c.requires.3 c.requires.1
-
--- the part of the turn
-column-4 : (c : goal.Joined-carries) → Column c.args.memo.now c.args.r c.loop-q.q
-column-4 c = column-of _ _ _ _ c.loop-q-test.true c.requires.2 c.requires.3 c.requires.1
-
--- the part of the turn
-column-5 : (c : goal.Then-carries) → Column c.args.memo.now c.args.r c.loop-q.q
-column-5 c = column-of _ _ _ _ c.loop-q-test.true c.requires.2 c.requires.3 c.requires.1
 
 pub loop-q-init : goal.loop-q-init
 loop-q-init c =
-    (omega arith, record { small = c.requires.4; known = c.requires.5; filled = filled_none })
+    record { small = c.requires.4; known = c.requires.5; filled = filled_none }
 
 pub offset_bounds-sums-q : goal.offset_bounds-sums-q
-offset_bounds-sums-q c = (column-5 c).here
+offset_bounds-sums-q c = (column c).here
 
 pub bounds-sums-q : goal.bounds-sums-q
-bounds-sums-q c = omega (arith, c.loop-q.invariant.1.filled.long)
+bounds-sums-q c = omega (arith, c.loop-q.invariant.filled.long)
 
 pub overflow_mul-sums : goal.overflow_mul-sums
 overflow_mul-sums c = (column-3 c).start
@@ -58,31 +49,22 @@ overflow_sub-sums c =
 pub overflow_add-sums-then-carries : goal.overflow_add-sums-then-carries
 overflow_add-sums-then-carries c =
     let i = c.loop-q in
-    let b = as_before i.invariant.1 in
+    let b = as_before i.invariant in
     omega (arith, b, c.requires.4.each i.q, c.requires.5.low i.q (omega arith))
 
-pub offset_bounds-sums-q-then-carries : goal.offset_bounds-sums-q-then-carries
-offset_bounds-sums-q-then-carries c = (column c).here
-
 pub bounds-sums-q-then-carries : goal.bounds-sums-q-then-carries
-bounds-sums-q-then-carries c = omega (arith, c.loop-q.invariant.1.filled.long)
-
-pub overflow_add-q : goal.overflow_add-q
-overflow_add-q c = (column-4 c).next
-
-pub loop-q-smaller : goal.loop-q-smaller
-loop-q-smaller c = add-one-dec _ _ c.loop-q-test.true
+bounds-sums-q-then-carries c = omega (arith, c.loop-q.invariant.filled.long)
 
 pub loop-q-preserved : goal.loop-q-preserved
 loop-q-preserved c =
-    let i = c.loop-q.invariant.1 in
+    let i = c.loop-q.invariant in
     elim c.if-carries.branch [
-      | then-carries w ↦ (omega arith, rw w.sums-is (adding-yes i _ (omega arith) (sym c.carries.ensures ∙ w.if-carries.true) refl))
-      | else-carries w ↦ (omega arith, rw w.sums-is (adding-no i (sym c.carries.ensures ∙ w.if-carries.false)))
+      | then-carries w ↦ rw w.sums-is (adding-yes i _ (omega arith) (sym c.carries.ensures ∙ w.if-carries.true) refl)
+      | else-carries w ↦ rw w.sums-is (adding-no i (sym c.carries.ensures ∙ w.if-carries.false))
     ]
 
 pub shape_of-sums : goal.shape_of-sums
-shape_of-sums c = c.loop-q.invariant.1.filled.long
+shape_of-sums c = c.loop-q.invariant.filled.long
 
 pub returns : goal.returns
-returns c = adding-all c.loop-q.invariant.1 (omega arith)
+returns c = adding-all c.loop-q.invariant (omega arith)

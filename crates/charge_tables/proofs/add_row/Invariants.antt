@@ -4,7 +4,4 @@ use Rattle.charge_tables.proofs.Rows.{Adding}
 use Rattle.charge_tables.proofs.add_row.Given as goal
 
 abbrev pub invariant-loop-q : goal.invariant-loop-q
-invariant-loop-q l = (l.q ≤ l.parts_count) × Adding l.parts l.memo l.parts_count l.r l.initial.sums l.sums l.q
-
-abbrev pub decreases-loop-q : goal.decreases-loop-q
-decreases-loop-q l = l.parts_count - l.q
+invariant-loop-q l = Adding l.parts l.memo l.parts_count l.r l.initial.sums l.sums l.q

@@ -27,7 +27,7 @@ pub total_for-total-requires : goal.total_for-total-requires
 total_for-total-requires c = (c.requires.4, c.requires.1)
 
 pub loop-p-init : goal.loop-p-init
-loop-p-init c = (omega arith, record { filled = filled_none })
+loop-p-init c = record { filled = filled_none }
 
 pub share-rest-requires : goal.share-rest-requires
 share-rest-requires c e =
@@ -51,10 +51,8 @@ loop-p-preserved c =
     let p = c.loop-p.p in
     let row = c.args.second.now in
     let total = sum row c.args.parts_count in
-    let same = rest c.args.kind total (get_or row p 0) _ _ c.total_for-total.ensures c.share-rest.ensures in (
-      omega arith,
-      putting-more c.loop-p.invariant.1 _ (omega arith) (omega (arith, c.capped_sum-charge.ensures, same)),
-    )
+    let same = rest c.args.kind total (get_or row p 0) _ _ c.total_for-total.ensures c.share-rest.ensures in
+    putting-more c.loop-p.invariant _ (omega arith) (omega (arith, c.capped_sum-charge.ensures, same))
 
 pub returns : goal.returns
-returns c = putting-all c.loop-p.invariant.1 (omega arith)
+returns c = putting-all c.loop-p.invariant (omega arith)

@@ -4,7 +4,4 @@ use Rattle.charge_tables.proofs.Rows.{Putting}
 use Rattle.charge_tables.proofs.put_row.Given as goal
 
 abbrev pub invariant-loop-p : goal.invariant-loop-p
-invariant-loop-p l = (l.p ≤ l.parts_count) × Putting l.parts_count l.r l.kind l.first l.second l.initial.memo l.memo l.p
-
-abbrev pub decreases-loop-p : goal.decreases-loop-p
-decreases-loop-p l = l.parts_count - l.p
+invariant-loop-p l = Putting l.parts_count l.r l.kind l.first l.second l.initial.memo l.memo l.p

@@ -6,7 +6,4 @@ use Rattle.lists.specs.Lists.{sum_of, below}
 use Rattle.charge_tables.proofs.row_sum.Given as goal
 
 abbrev pub invariant-loop-q : goal.invariant-loop-q
-invariant-loop-q l = (l.q ≤ l.parts_count) × (l.total ≤ 4194305 * l.q) × (l.total ≡ sum_of (λ k. get_or l.row k 0) (below l.q))
-
-abbrev pub decreases-loop-q : goal.decreases-loop-q
-decreases-loop-q l = l.parts_count - l.q
+invariant-loop-q l = (l.total ≤ 4194305 * l.q) × (l.total ≡ sum_of (λ k. get_or l.row k 0) (below l.q))

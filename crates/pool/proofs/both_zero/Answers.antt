@@ -1,12 +1,14 @@
 -- `pool::both_zero` meets its contract. The loop's invariant, for each list: no bit is set so far and the numbers from i on are zeros
 -- exactly if all are. Assumes nothing.
-use Prim.Native.Nat.{ℕ}
+use Prim.Native.Nat.{ℕ, ◌^◌, ◌<◌}
 use mathlib.Core.Path.{◌≡◌, refl, ap₂, ◌∙◌}
 use mathlib.Core.Bool.{◌&&◌}
 use native.Mathlib.Omega.{arith}
 use lib.Bits.{bit_or}
 use lib.Dec.{eqb}
 use lib.IntN.{ℤ, pos}
+use lib.Signed.{mag}
+use Rattle.std.proofs.Common.{rules}
 use mir.Syntax.{w32}
 use mir.Val.{Fits, SFits, of_z, to_z}
 use Rattle.std.proofs.Math.Facts.{of_z-to_z, Fits-or, Fits-of_z}
@@ -25,14 +27,15 @@ pub loop-i-preserved : goal.loop-i-preserved
 loop-i-preserved c =
     let l = c.loop-i in
     let x = get_or c.args.a.now l.i (pos 0) in
-    let y = get_or c.args.b.now l.i (pos 0) in (
-      omega arith,
-      rw (more l.first-bits x l.auto.first-fits (record { sfits = c.x-1.given }))
-          (zero_turn c.args.a.now l.i l.first-bits (omega arith) c.x-1.given
-          ∙ (rw (back l.first-bits l.auto.first-fits) at l.invariant.1)),
-      rw (more l.second-bits y l.auto.second-fits (record { sfits = c.y-1.given }))
-          (zero_turn c.args.b.now l.i l.second-bits (omega (arith, c.requires)) c.y-1.given
-          ∙ (rw (back l.second-bits l.auto.second-fits) at l.invariant.2)),
+    let y = get_or c.args.b.now l.i (pos 0) in
+    let fx : mag x < 2 ^ 31 = search rules in
+    let fy : mag y < 2 ^ 31 = search rules in (
+      rw (more l.first-bits x l.auto.first-fits (record { sfits = fx }))
+          (zero_turn c.args.a.now l.i l.first-bits (omega arith) fx
+          ∙ (rw (back l.first-bits l.auto.first-fits) at l.invariant.0)),
+      rw (more l.second-bits y l.auto.second-fits (record { sfits = fy }))
+          (zero_turn c.args.b.now l.i l.second-bits (omega (arith, c.requires)) fy
+          ∙ (rw (back l.second-bits l.auto.second-fits) at l.invariant.1)),
     )
 
 pub returns : goal.returns
@@ -40,12 +43,12 @@ returns c =
     let l = c.loop-i in
     or-none l.first-bits l.second-bits
     ∙ ap₂ (λ x y. x && y)
-    (zero-end c.args.a.now l.i (eqb l.first-bits 0) (omega arith) ∙ (rw (back l.first-bits l.auto.first-fits) at l.invariant.1))
+    (zero-end c.args.a.now l.i (eqb l.first-bits 0) (omega arith) ∙ (rw (back l.first-bits l.auto.first-fits) at l.invariant.0))
     (zero-end c.args.b.now l.i (eqb l.second-bits 0) (omega (arith, c.requires))
-    ∙ (rw (back l.second-bits l.auto.second-fits) at l.invariant.2))
+    ∙ (rw (back l.second-bits l.auto.second-fits) at l.invariant.1))
 
 pub loop-i-init : goal.loop-i-init
-loop-i-init c = (omega arith, refl, refl)
+loop-i-init c = (refl, refl)
 
 pub bounds-b-i : goal.bounds-b-i
 bounds-b-i c = omega (arith, c.requires)

@@ -1,6 +1,5 @@
 -- `pool::both_zero` meets its contract. The loop's invariant, for each list: no bit is set so far and the numbers from i on are zeros
 -- exactly if all are. Assumes nothing.
-use Prim.Native.Nat.{◌≤◌, ◌-◌}
 use mathlib.Core.Path.{◌≡◌}
 use mathlib.Core.Bool.{◌&&◌}
 use lib.Dec.{eqb}
@@ -13,9 +12,5 @@ use Rattle.pool.proofs.both_zero.Given as goal
 
 abbrev pub invariant-loop-i : goal.invariant-loop-i
 invariant-loop-i l =
-    (l.i ≤ l.n)
-    × ((eqb (of_z w32 l.first) 0 && all_of is_zero (drop l.i l.a)) ≡ all_of is_zero l.a)
+    ((eqb (of_z w32 l.first) 0 && all_of is_zero (drop l.i l.a)) ≡ all_of is_zero l.a)
     × ((eqb (of_z w32 l.second) 0 && all_of is_zero (drop l.i l.b)) ≡ all_of is_zero l.b)
-
-abbrev pub decreases-loop-i : goal.decreases-loop-i
-decreases-loop-i l = l.n - l.i

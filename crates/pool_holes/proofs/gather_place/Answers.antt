@@ -2,6 +2,7 @@
 use mathlib.Core.Path.{◌≡◌, refl, ap}
 use mathlib.Core.Logic.{inl, inr}
 use native.Mathlib.Omega.{arith}
+use Rattle.std.proofs.Common.{rules}
 use lib.IntN.{ℤ, pos, negsuc}
 use mir.Syntax.{w32}
 use mir.Val.{SFits, of_z}
@@ -13,7 +14,7 @@ is_zero (pos n) f e = ap pos e
 is_zero (negsuc n) f e = absurd (omega arith)
 
 pub returns-then-count-eq0 : goal.returns-then-count-eq0
-returns-then-count-eq0 c = inl (is_zero _ (record { sfits = c.count-1.given }) c.if-count-eq0.true, refl, refl)
+returns-then-count-eq0 c = inl (is_zero _ (record { sfits = search rules }) c.if-count-eq0.true, refl, refl)
 
 pub returns : goal.returns
 returns c =

@@ -1,6 +1,5 @@
 -- `pool_index::find` meets its contract. The loop's invariant: the way from the slot in hand is the rest of the whole way, and comes to
--- each
--- place that has these numbers. Assumes nothing.
+-- each place that has these numbers. Assumes nothing.
 use Rattle.pool_index.proofs.Searching.{Searching, steps}
 use Rattle.pool_index.proofs.find.Given as goal
 

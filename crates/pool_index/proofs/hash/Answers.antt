@@ -3,6 +3,7 @@
 use Prim.Native.Nat.{◌+◌}
 use mathlib.Core.Path.{◌≡◌, ap₂, ◌∙◌}
 use native.Mathlib.Omega.{arith}
+use Rattle.std.proofs.Common.{rules}
 use Rattle.pool_index.specs.Hash.{factored}
 use Rattle.pool_index.proofs.Hashing.{one-pair, more-pairs}
 use Rattle.pool_index.proofs.hash.Goals as goal
@@ -21,7 +22,7 @@ four-2 c = ap₂ (λ x y. x + y) c.factors-first.ensures.0 c.factors.ensures.0
 
 pub returns-then-count-eq1 : goal.returns-then-count-eq1
 returns-then-count-eq1 c =
-    four-2 c ∙ one-pair c.args.place.now (record { sfits = c.count-1.given }) c.if-count-eq1.true
+    four-2 c ∙ one-pair c.args.place.now (record { sfits = search rules }) c.if-count-eq1.true
 
 pub returns : goal.returns
 returns c =
