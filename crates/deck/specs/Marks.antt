@@ -1,11 +1,14 @@
 -- The reading of a deck once more, with the offsets of what is looked up later, and the tables that a pass over the bytes
 -- fills. Assumes nothing.
 use Rattle.std.specs.Prelude.{ℕ, suc, ◌+◌, ◌*◌, ◌≤◌, ◌<◌, ◌≡◌, Bool, true, false, not, eqb, leb, length, get_or, drop}
+use Rattle.std.specs.Prelude.{Option, None, Some, Result, Ok, Err}
 use mathlib.Core.List.{List, [], ◌∷◌, ◌++◌, map, flat_map}
 use Rattle.lists.specs.Lists.{member}
 use Rattle.lists.specs.Bits.{bit, mask_of}
-use Rattle.refusals.specs.Outcome.{Outcome, refused, accepted}
+use Rattle.refusals.specs.Outcome.{Outcome, accepted}
 use Rattle.refusals.specs.Numbers.{repeated_target}
+use Rattle.refusals.specs.Declined.{fault_outcome}
+use Rattle.refusals.specs.declared.Fault.{Fault}
 use Rattle.expression.specs.Syntax.{Num, Truth}
 use Rattle.expression.specs.Reading.{Scope, whole_num, whole_truth}
 use Rattle.expression.specs.Answers.{is_got}
@@ -15,11 +18,9 @@ use Rattle.deck.specs.Deck.{Assignment, Action, Rule, Part, targets}
 use Rattle.deck.specs.Reader.{Got, Reader, ◌>>=◌, ◌>>◌, give, here, expect, end, number, repeats, rising, value, label}
 use Rattle.deck.specs.Layout.{numbers, truths, expression, own_only, task_scope, action, Layout, default_action}
 use Rattle.deck.specs.Encoding.{kind_byte}
-use Rattle.deck.specs.declared.Advance.{Advance}
-use Rattle.deck.specs.declared.Advance.TheVariants.{Next, Fault}
 use Rattle.deck.specs.declared.Front.{Front}
-use Rattle.deck.specs.declared.Loaded.{Loaded}
-use Rattle.deck.specs.declared.Loaded.TheVariants.{Whole, Wrong}
+use Rattle.deck.specs.declared.Read.{Read}
+use Rattle.deck.specs.declared.Deck as Counted
 
 -- an expression of one kind: a truth, or else a number
 abbrev pub Kind : Bool → Type 0
@@ -174,36 +175,42 @@ part_row m = mask_of m.part.carried ∷ m.opening_at ∷ m.limit_at ∷ 0 ∷ []
 -- ---- what a function of the pass answers: the place after what was read, or the fault
 
 -- o is the reader's outcome at some place of s. Where it is accepted, the value has P
-abbrev pub Reads : {A : Type 0} → List ℕ → Outcome (Got A) → (A → Type 0) → Advance → Type 0
-Reads {A} s o P (Next n) = (a : A) × (o ≡ accepted (record { value = a; rest = drop n s; at = n })) × (n ≤ length s) × P a
-Reads s o P (Fault number place) = o ≡ refused number place
+abbrev pub Reads : {A : Type 0} → List ℕ → Outcome (Got A) → (A → Type 0) → Result ℕ Fault → Type 0
+Reads {A} s o P (Ok n) = (a : A) × (o ≡ accepted (record { value = a; rest = drop n s; at = n })) × (n ≤ length s) × P a
+Reads s o P (Err f) = o ≡ fault_outcome f
 
--- the place after what was read, and 0 where there is a fault or none is looked for
-abbrev pub ReadsTo : {A : Type 0} → List ℕ → Outcome (Got A) → ℕ → Type 0
-ReadsTo s o n = (n ≡ 0 → ⊥) → Reads s o (λ _. Unit {0}) (Next n)
+-- the same of an answer with what the code keeps of the value, which has P with it
+abbrev pub ReadsKept : {A T : Type 0} → List ℕ → Outcome (Got A) → (T → A → Type 0) → Result (Read T) Fault → Type 0
+ReadsKept s o P (Ok r) = Reads s o (P r.value) (Ok r.next)
+ReadsKept s o P (Err f) = o ≡ fault_outcome f
 
--- an assignment, mask being the set of the targets so far
-abbrev pub ReadsAssignment : Scope → List ℕ → ℕ → ℕ → ℕ → Advance → Type 0
-ReadsAssignment sc s at mask target step =
+-- the place after what was read, and none where there is a fault or none is looked for
+abbrev pub ReadsTo : {A : Type 0} → List ℕ → Outcome (Got A) → Option ℕ → Type 0
+ReadsTo s o (Some n) = Reads s o (λ _. Unit {0}) (Ok n)
+ReadsTo s o None = Unit {0}
+
+-- an assignment, of which its target is kept, mask being the set of the targets so far
+abbrev pub ReadsAssignment : Scope → List ℕ → ℕ → ℕ → Result (Read ℕ) Fault → Type 0
+ReadsAssignment sc s at mask r =
     (ts : List ℕ) → ((c : ℕ) → bit mask c ≡ member c ts)
-    → Reads s (assignment sc ts (drop at s) at) (λ a. (target ≡ a.target) × (a.target < sc.owns)) step
+    → ReadsKept s (assignment sc ts (drop at s) at) (λ target a. (target ≡ a.target) × (a.target < sc.owns)) r
 
 -- the first two sections, with the counts and the offset that the code keeps and the table of the rules after and before
-abbrev pub ReadsFront : Form → List ℕ → Front → List ℕ → List ℕ → Type 0
+abbrev pub ReadsFront : Form → List ℕ → Result (Read Front) Fault → List ℕ → List ℕ → Type 0
 ReadsFront f s r after before =
-    Reads s (marked_front f s 0)
-    (λ m.
-    (r.channels ≡ m.channels)
-    × (r.rules ≡ m.count)
-    × (r.rules_at ≡ m.rules_at)
+    ReadsKept s (marked_front f s 0)
+    (λ front m.
+    (front.channels ≡ m.channels)
+    × (front.rules ≡ m.count)
+    × (front.rules_at ≡ m.rules_at)
     × (m.channels ≤ 32)
     × (m.count ≤ 64)
     × (after ≡ flat_map rule_row m.rules ++ drop (8 * m.count) before))
-    r.step
+    r
 
 -- the whole deck, with both tables after and before
-abbrev pub Loads : Form → List ℕ → List ℕ → List ℕ → List ℕ → List ℕ → Loaded → Type 0
-Loads f s rules rules₀ parts parts₀ (Whole d) =
+abbrev pub Loads : Form → List ℕ → List ℕ → List ℕ → List ℕ → List ℕ → Result Counted.Deck Fault → Type 0
+Loads f s rules rules₀ parts parts₀ (Ok d) =
     (m : Marked)
     × (marked_sections f s 0 ≡ accepted (record { value = m; rest = []; at = length s }))
     × (d ≡ record {
@@ -215,7 +222,7 @@ Loads f s rules rules₀ parts parts₀ (Whole d) =
     })
     × (rules ≡ flat_map rule_row m.front.rules ++ drop (8 * m.front.count) rules₀)
     × (parts ≡ flat_map part_row m.parts ++ drop (4 * m.count) parts₀)
-Loads f s rules rules₀ parts parts₀ (Wrong number place) = marked_sections f s 0 ≡ refused number place
+Loads f s rules rules₀ parts parts₀ (Err e) = marked_sections f s 0 ≡ fault_outcome e
 
 -- the byte where the number of rules stands, behind the labels; and room in a table for as many, if a deck may have them
 abbrev pub rules_at : List ℕ → ℕ
@@ -228,11 +235,6 @@ RulesFit s n = rules_at s ≤ 64 → 8 * rules_at s ≤ n
 pub record FewRules (s : List ℕ) (b : Bool) : Type 0 where
   pub right : (f : Form) (g : Got Marked) → marked_sections f s 0 ≡ accepted g → b ≡ leb g.value.front.count 16
   pub low : b ≡ true → rules_at s ≤ 16
-
--- a fault of the pass, as the whole pass answers it
-abbrev pub wrong_of : Advance → Loaded
-wrong_of (Next n) = Wrong 0 n
-wrong_of (Fault number place) = Wrong number place
 
 -- to open all definitions of this file, on an `unfolding` line
 unfoldable pub marks : Unit {0}

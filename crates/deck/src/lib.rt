@@ -6,14 +6,14 @@ ghost use Rattle.std.specs.Prelude.{◌≡◌};
 ghost use Rattle.deck.specs.Limits.{limits};
 
 // The two forms of a deck: rules of an old one may have default actions.
-#[derive(Clone, Copy)]
+#[derive(Clone, Copy, Debug, PartialEq, Eq)]
 pub enum Form {
     Old,
     New,
 }
 
 // The counts R, M and N of a deck, and the offsets of its second and third section's counts.
-#[derive(Clone, Copy)]
+#[derive(Clone, Copy, Debug, PartialEq, Eq)]
 pub struct Deck {
     pub channels: usize,
     pub rules: usize,
@@ -22,31 +22,23 @@ pub struct Deck {
     pub parts_at: usize,
 }
 
-// The first two sections of a deck, and the place after them.
-#[derive(Clone, Copy)]
+// What is kept of the first two sections of a deck.
+#[derive(Clone, Copy, Debug, PartialEq, Eq)]
 pub struct Front {
     pub channels: usize,
     pub rules: usize,
     pub rules_at: usize,
-    pub step: Advance,
 }
 
-// A deck that was read, or the first fault.
-#[derive(Clone, Copy)]
-pub enum Loaded {
-    Whole(Deck),
-    Wrong { number: u32, place: usize },
-}
-
-// What reading comes to: the place after what was read, or the first fault.
-#[derive(Clone, Copy)]
-pub enum Advance {
-    Next(usize),
-    Fault { number: u32, place: usize },
+// What was read, and the place after it.
+#[derive(Clone, Copy, Debug, PartialEq, Eq)]
+pub struct Read<T> {
+    pub value: T,
+    pub next: usize,
 }
 
 // The largest numbers, as specs/Limits.antt has them for the definitions.
-#[derive(Clone, Copy)]
+#[derive(Clone, Copy, Debug, PartialEq, Eq)]
 pub struct Limits {
     pub channels: usize,
     pub rules: usize,
@@ -171,18 +163,4 @@ impl Deck {
             highest: Deck::HIGHEST_LABEL,
         }
     }
-}
-
-// A byte that was read, and the place after it.
-#[derive(Clone, Copy)]
-pub struct Byte {
-    pub value: usize,
-    pub step: Advance,
-}
-
-// A set of small numbers, and the place after the list that named them.
-#[derive(Clone, Copy)]
-pub struct Set {
-    pub mask: u64,
-    pub step: Advance,
 }

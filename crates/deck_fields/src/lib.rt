@@ -5,119 +5,64 @@
 ghost use Rattle.std.specs.Prelude.{◌≡◌, ◌++◌, ◌≤◌, length, drop};
 ghost use Rattle.lists.specs.Bits.{mask_of};
 ghost use Rattle.deck.specs.Reader.{number, repeats, rising, label};
-ghost use Rattle.deck.specs.Marks.{Reads, ReadsTo, scope_of, expression_for, is_whole, wrong_of};
+ghost use Rattle.deck.specs.Marks.{Reads, ReadsKept, ReadsTo, scope_of, expression_for, is_whole};
 
-use deck::{Advance, Byte, Deck, Loaded, Set};
-use expression::Search;
-
-pub fn wide(x: u8) -> usize
-    ensures { result ≡ x }
-{
-    x as usize
-}
+use deck::{Deck, Read};
+use refusals::{Fault, Refusal};
 
 // A byte from lo to below hi.
-pub fn number_at(s: &[u8], at: usize, lo: usize, hi: usize) -> Byte
-    ensures { Reads s.now (number lo hi (drop at s.now) at) (λ v. result.value ≡ v) result.step }
+pub fn number_at(s: &[u8], at: usize, lo: usize, hi: usize) -> Result<Read<usize>, Fault>
+    ensures { ReadsKept s.now (number lo hi (drop at s.now) at) (λ kept v. kept ≡ v) result }
 {
-    if s.len() <= at {
-        return Byte {
-            value: 0,
-            step: Advance::Fault {
-                number: refusals::DECK_ENDS,
-                place: at,
-            },
-        };
+    let Some(&b) = s.get(at) else {
+        return Err(Fault {
+            refusal: Refusal::DeckEnds,
+            place: at,
+        });
+    };
+    let value = usize::from(b);
+    if value < lo || hi <= value {
+        return Err(Fault {
+            refusal: Refusal::OutOfRange,
+            place: at,
+        });
     }
-    let b = wide(s[at]);
-    if b < lo {
-        return Byte {
-            value: 0,
-            step: Advance::Fault {
-                number: refusals::OUT_OF_RANGE,
-                place: at,
-            },
-        };
-    }
-    if hi <= b {
-        return Byte {
-            value: 0,
-            step: Advance::Fault {
-                number: refusals::OUT_OF_RANGE,
-                place: at,
-            },
-        };
-    }
-    Byte {
-        value: b,
-        step: Advance::Next(at + 1),
-    }
+    Ok(Read {
+        value,
+        next: at + 1,
+    })
 }
 
 // `count` strictly rising numbers below hi, as a set.
-pub fn rising_at(s: &[u8], at: usize, count: usize, hi: usize) -> Set
+pub fn rising_at(s: &[u8], at: usize, count: usize, hi: usize) -> Result<Read<u64>, Fault>
     requires { (at ≤ length s.now) × (hi ≤ 64) }
-    ensures { Reads s.now (rising count 0 hi (drop at s.now) at) (λ cs. result.mask ≡ mask_of cs) result.step }
+    ensures { ReadsKept s.now (rising count 0 hi (drop at s.now) at) (λ kept cs. kept ≡ mask_of cs) result }
 {
-    let mut mask: u64 = 0;
-    let mut place = at;
-    let mut low: usize = 0;
-    let mut i: usize = 0;
-    while i < count {
-        let b = number_at(s, place, low, hi);
-        let c = b.value;
-        let step = b.step;
-        match step {
-            Advance::Next(next) => {
-                mask = mask | (1u64 << c);
-                low = c + 1;
-                place = next;
-            }
-            Advance::Fault { number, place: p } => {
-                return Set {
-                    mask: 0,
-                    step: Advance::Fault {
-                        number: number,
-                        place: p,
-                    },
-                };
-            }
-        }
-        i += 1;
+    let mut value: u64 = 0;
+    let mut next = at;
+    let mut low = 0;
+    for _ in 0..count {
+        let c = number_at(s, next, low, hi)?;
+        value |= 1u64 << c.value;
+        low = c.value + 1;
+        next = c.next;
     }
-    Set {
-        mask: mask,
-        step: Advance::Next(place),
-    }
+    Ok(Read { value, next })
 }
 
 // A label is below this.
 const LABELS_END: usize = Deck::HIGHEST_LABEL + 1;
 
 // As many labels as there are channels.
-pub fn labels_at(s: &[u8], at: usize, count: usize) -> Advance
+pub fn labels_at(s: &[u8], at: usize, count: usize) -> Result<usize, Fault>
     requires { at ≤ length s.now }
     ensures { Reads s.now (repeats count label (drop at s.now) at) (λ _. Unit {0}) result }
 {
-    let mut place = at;
-    let mut i: usize = 0;
-    while i < count {
-        let b = number_at(s, place, Deck::LOWEST_LABEL, LABELS_END);
-        let step = b.step;
-        match step {
-            Advance::Next(next) => {
-                place = next;
-            }
-            Advance::Fault { number, place: p } => {
-                return Advance::Fault {
-                    number: number,
-                    place: p,
-                };
-            }
-        }
-        i += 1;
+    let mut next = at;
+    for _ in 0..count {
+        next = number_at(s, next, Deck::LOWEST_LABEL, LABELS_END)?.next;
     }
-    Advance::Next(place)
+    Ok(next)
 }
 
 // A row written to the front of the tail of a table.
@@ -125,13 +70,7 @@ pub fn write_row(tail: &mut [u64], row: &[u64])
     requires { length row.now ≤ length tail.old }
     ensures { tail.new ≡ row.now ++ drop (length row.now) tail.old }
 {
-    let n = row.len();
-    let mut i: usize = 0;
-    while i < n {
-        let x = row[i];
-        tail[i] = x;
-        i += 1;
-    }
+    tail[..row.len()].copy_from_slice(row);
 }
 
 // Whether the bytes are a whole truth, or else a whole number.
@@ -145,87 +84,59 @@ fn is_whole(bytes: &[u8], truth: bool, own: usize, far: usize) -> bool
     }
 }
 
-// The place after an expression, a truth or else a number, with `own` own and `far` far channels known; 0 where there is a fault.
-fn expression_end(s: &[u8], at: usize, truth: bool, own: usize, far: usize) -> usize
+// The place after an expression, a truth or else a number, with `own` own and `far` far channels known; none where there is a fault.
+fn expression_end(s: &[u8], at: usize, truth: bool, own: usize, far: usize) -> Option<usize>
     ensures { ReadsTo s.now (expression_for truth (scope_of own far) (drop at s.now) at) result }
 {
-    if s.len() <= at {
-        return 0;
-    }
-    let n = wide(s[at]);
-    if n == 0 {
-        return 0;
-    }
-    if n > Deck::EXPRESSION {
-        return 0;
-    }
-    if s.len() - at <= n {
-        return 0;
+    let n = usize::from(*s.get(at)?);
+    if n == 0 || Deck::EXPRESSION < n {
+        return None;
     }
     let from = at + 1;
-    let to = from + n;
-    if is_whole(&s[from..to], truth, own, far) {
-        to
+    let bytes = s.get(from..from + n)?;
+    if is_whole(bytes, truth, own, far) {
+        Some(from + n)
     } else {
-        0
+        None
     }
 }
 
 // The same with the fault: of the length byte, of too few bytes, or the first one of the expression. It is called only where there is
 // one, so that decks that pass are not searched.
-fn expression_step(s: &[u8], at: usize, truth: bool, own: usize, far: usize) -> Advance
+fn expression_step(s: &[u8], at: usize, truth: bool, own: usize, far: usize) -> Result<usize, Fault>
     ensures { Reads s.now (expression_for truth (scope_of own far) (drop at s.now) at) (λ _. Unit {0}) result }
 {
-    let b = number_at(s, at, 1, Deck::EXPRESSION + 1);
-    let n = b.value;
-    let step = b.step;
-    let Advance::Next(from) = step else {
-        return step;
-    };
+    let Read {
+        value: n,
+        next: from,
+    } = number_at(s, at, 1, Deck::EXPRESSION + 1)?;
     if s.len() - from < n {
-        return Advance::Fault {
-            number: refusals::DECK_ENDS,
+        return Err(Fault {
+            refusal: Refusal::DeckEnds,
             place: s.len(),
-        };
+        });
     }
     let to = from + n;
-    let found = expression_faults::expression_fault(s, from, to, truth, own, far);
-    match found {
-        Search::After(end) => Advance::Next(end),
-        Search::Fault(number, place) => Advance::Fault {
-            number: number,
-            place: place,
-        },
-    }
+    expression_faults::expression_fault(s, from, to, truth, own, far)
 }
 
 // An expression. Mostly it has no fault, and its end comes back as one number. `expression_step` is called in two places: called in one,
 // it would be compiled into this function, and this one no longer into its callers.
-pub fn expression_at(s: &[u8], at: usize, truth: bool, own: usize, far: usize) -> Advance
+pub fn expression_at(
+    s: &[u8],
+    at: usize,
+    truth: bool,
+    own: usize,
+    far: usize,
+) -> Result<usize, Fault>
     ensures { Reads s.now (expression_for truth (scope_of own far) (drop at s.now) at) (λ _. Unit {0}) result }
 {
-    let end = expression_end(s, at, truth, own, far);
-    if end != 0 {
-        return Advance::Next(end);
+    if let Some(end) = expression_end(s, at, truth, own, far) {
+        return Ok(end);
     }
     if truth {
         expression_step(s, at, true, own, far)
     } else {
         expression_step(s, at, false, own, far)
-    }
-}
-
-pub fn wrong(step: Advance) -> Loaded
-    ensures { result ≡ wrong_of step }
-{
-    match step {
-        Advance::Next(place) => Loaded::Wrong {
-            number: 0,
-            place: place,
-        },
-        Advance::Fault { number, place } => Loaded::Wrong {
-            number: number,
-            place: place,
-        },
     }
 }

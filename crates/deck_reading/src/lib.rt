@@ -7,81 +7,62 @@ ghost use Rattle.deck.specs.Stretch.{LiesAt};
 ghost use Rattle.deck.specs.Marks.{RulesFit, FewRules, ReadsFront, Loads};
 ghost use Rattle.deck.specs.Sections.{offset_of, stretch_of};
 
-use deck::{Advance, Deck, Form, Front, Loaded};
-
-fn no_front(step: Advance) -> Front
-    ensures { result.step ≡ step }
-{
-    Front {
-        channels: 0,
-        rules: 0,
-        rules_at: 0,
-        step: step,
-    }
-}
+use deck::{Deck, Form, Front, Read};
+use refusals::{Fault, Refusal};
 
 // The channels and the rules.
-fn front_at(s: &[u8], table: &mut [u64], form: Form) -> Front
+fn front_at(s: &[u8], table: &mut [u64], form: Form) -> Result<Read<Front>, Fault>
     requires { RulesFit s.now (length table.old) }
     ensures { ReadsFront form s.now result table.new table.old }
 {
-    let r = deck_fields::number_at(s, 0, 1, Deck::CHANNELS + 1);
-    let channels = r.value;
-    let first = r.step;
-    let Advance::Next(labels) = first else {
-        return no_front(first);
+    let Read {
+        value: channels,
+        next: labels,
+    } = deck_fields::number_at(s, 0, 1, Deck::CHANNELS + 1)?;
+    let rules_at = deck_fields::labels_at(s, labels, channels)?;
+    let Read {
+        value: rules,
+        next: from,
+    } = deck_fields::number_at(s, rules_at, 0, Deck::RULES + 1)?;
+    let next = deck_rules::rules_at(s, from, channels, rules, table, form)?;
+    let value = Front {
+        channels,
+        rules,
+        rules_at,
     };
-    let after = deck_fields::labels_at(s, labels, channels);
-    let Advance::Next(rules_at) = after else {
-        return no_front(after);
-    };
-    let m = deck_fields::number_at(s, rules_at, 0, Deck::RULES + 1);
-    let rules = m.value;
-    let count = m.step;
-    let Advance::Next(from) = count else {
-        return no_front(count);
-    };
-    let last = deck_rules::rules_at(s, from, channels, rules, table, form);
-    Front {
-        channels: channels,
-        rules: rules,
-        rules_at: rules_at,
-        step: last,
-    }
+    Ok(Read { value, next })
 }
 
 // One pass over the bytes: the deck, its rules and parts in the tables, or the first fault in reading order, 1 to 5 or 18 to 20.
-pub fn read(deck: &[u8], rules: &mut [u64], parts: &mut [u64], form: Form) -> Loaded
+pub fn read(deck: &[u8], rules: &mut [u64], parts: &mut [u64], form: Form) -> Result<Deck, Fault>
     requires { RulesFit deck.now (length rules.old) × (64 ≤ length parts.old) }
     ensures { Loads form deck.now rules.new rules.old parts.new parts.old result }
 {
-    let f = front_at(deck, rules, form);
-    let first = f.step;
-    let Advance::Next(parts_at) = first else {
-        return deck_fields::wrong(first);
-    };
-    let n = deck_fields::number_at(deck, parts_at, 1, Deck::PARTS + 1);
-    let count = n.value;
-    let second = n.step;
-    let Advance::Next(from) = second else {
-        return deck_fields::wrong(second);
-    };
-    let last = deck_parts::parts_at(deck, from, f.channels, f.rules, count, parts);
-    let Advance::Next(end) = last else {
-        return deck_fields::wrong(last);
-    };
+    let Read {
+        value: front,
+        next: parts_at,
+    } = front_at(deck, rules, form)?;
+    let count = deck_fields::number_at(deck, parts_at, 1, Deck::PARTS + 1)?;
+    let end = deck_parts::parts_at(
+        deck,
+        count.next,
+        front.channels,
+        front.rules,
+        count.value,
+        parts,
+    )?;
     if end < deck.len() {
-        return Loaded::Wrong {
-            number: refusals::BYTES_FOLLOW,
+        return Err(Fault {
+            refusal: Refusal::BytesFollow,
             place: end,
-        };
+        });
     }
-    Loaded::Whole(Deck {
-        channels: f.channels,
-        rules: f.rules,
-        parts: count,
-        rules_at: f.rules_at,
-        parts_at: parts_at,
+    Ok(Deck {
+        channels: front.channels,
+        rules: front.rules,
+        parts: count.value,
+        rules_at: front.rules_at,
+        parts_at,
     })
 }
 
@@ -90,34 +71,29 @@ pub fn read(deck: &[u8], rules: &mut [u64], parts: &mut [u64], form: Form) -> Lo
 pub fn few_rules(deck: &[u8]) -> bool
     ensures { FewRules deck.now result }
 {
-    if deck.len() == 0 {
+    let Some(&channels) = deck.first() else {
         return false;
+    };
+    match deck.get(1 + usize::from(channels)) {
+        Some(&rules) => usize::from(rules) <= Deck::FEW_RULES,
+        None => false,
     }
-    let channels = deck_fields::wide(deck[0]);
-    if deck.len() - 1 <= channels {
-        return false;
-    }
-    deck_fields::wide(deck[1 + channels]) <= Deck::FEW_RULES
 }
 
 // The offset of a section's count; from 3 on, the deck's end.
 fn offset(deck: Deck, number: usize, end: usize) -> usize
     ensures { result ≡ offset_of deck.rules_at deck.parts_at end number }
 {
-    if number == 0 {
-        return 0;
+    match number {
+        0 => 0,
+        1 => deck.rules_at,
+        2 => deck.parts_at,
+        _ => end,
     }
-    if number == 1 {
-        return deck.rules_at;
-    }
-    if number == 2 {
-        return deck.parts_at;
-    }
-    end
 }
 
 // The stretch of a section, from its count to its end.
-pub fn stretch<'a>(bytes: &'a [u8], deck: Deck, number: usize) -> &'a [u8]
+pub fn stretch(bytes: &[u8], deck: Deck, number: usize) -> &[u8]
     requires { (deck.rules_at ≤ deck.parts_at) × (deck.parts_at ≤ length bytes.now) × (number ≤ 2) }
     ensures { (result.now ≡ stretch_of deck.rules_at deck.parts_at bytes.now number)
         × LiesAt bytes.entry.ref_ptr result.ref_ptr (offset_of deck.rules_at deck.parts_at (length bytes.now) number) }

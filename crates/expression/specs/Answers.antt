@@ -1,17 +1,9 @@
 -- What the code answers. It reads and evaluates, or checks, in one pass and builds no syntax, so its answers are what the
 -- readers give, with an expression's value, or only its end, in place of the expression. Assumes nothing.
-use Rattle.std.specs.Prelude.{ℕ, zero, suc, ◌+◌, ◌<◌, ◌≤◌, ◌≡◌, Bool, true, false, List, eqb, ℤ, pos, length, get_or}
+use Rattle.std.specs.Prelude.{ℕ, ◌+◌, ◌<◌, ◌≤◌, ◌≡◌, Bool, true, false, List, eqb, ℤ, pos, length, get_or, Option, Some, None}
 use Rattle.expression.specs.Syntax.{Num, Truth}
 use Rattle.expression.specs.Values.{num_value, truth_value}
 use Rattle.expression.specs.Reading.{Read, got, nothing, then, Scope, num, truth, whole_num, whole_truth}
-use Rattle.expression.specs.declared.NumAt.{NumAt}
-use Rattle.expression.specs.declared.NumAt.TheVariants as AtNum
-use Rattle.expression.specs.declared.TruthAt.{TruthAt}
-use Rattle.expression.specs.declared.TruthAt.TheVariants as AtTruth
-use Rattle.expression.specs.declared.NumValue.{NumValue}
-use Rattle.expression.specs.declared.NumValue.TheVariants as ValueNum
-use Rattle.expression.specs.declared.TruthValue.{TruthValue}
-use Rattle.expression.specs.declared.TruthValue.TheVariants as ValueTruth
 
 -- ---- at a place
 
@@ -62,18 +54,17 @@ unfoldable pub truth_end : Scope → ℕ → List ℕ → ℕ → Read (Unit {0}
 truth_end sc fuel s at = end_of (truth sc fuel s at)
 
 -- the code's answers, as readers give them
-abbrev pub of_num : NumAt → Read ℤ
-of_num (AtNum.Value z n) = got z n
-of_num AtNum.Nothing = nothing
+abbrev pub of_num : Option (ℤ × ℕ) → Read ℤ
+of_num (Some (z, n)) = got z n
+of_num None = nothing
 
-abbrev pub of_truth : TruthAt → Read Bool
-of_truth (AtTruth.Value b n) = got b n
-of_truth AtTruth.Nothing = nothing
+abbrev pub of_truth : Option (Bool × ℕ) → Read Bool
+of_truth (Some (b, n)) = got b n
+of_truth None = nothing
 
--- an end is past an operator, so that 0 is free to say that there is none
-abbrev pub of_end : ℕ → Read (Unit {0})
-of_end zero = nothing
-of_end (suc n) = got tt (suc n)
+abbrev pub of_end : Option ℕ → Read (Unit {0})
+of_end (Some n) = got tt n
+of_end None = nothing
 
 -- ---- whole expressions
 
@@ -86,17 +77,17 @@ abbrev pub is_got : {A : Type 0} → Read A → Bool
 is_got (got a n) = true
 is_got nothing = false
 
-abbrev pub num_result : Read ℤ → NumValue
-num_result (got z n) = ValueNum.Value z
-num_result nothing = ValueNum.None
+abbrev pub num_result : Read ℤ → Option ℤ
+num_result (got z n) = Some z
+num_result nothing = None
 
-abbrev pub truth_result : Read Bool → TruthValue
-truth_result (got b n) = ValueTruth.Value b
-truth_result nothing = ValueTruth.None
+abbrev pub truth_result : Read Bool → Option Bool
+truth_result (got b n) = Some b
+truth_result nothing = None
 
 -- the value of the number, and of the truth, that the bytes s hold
-abbrev pub whole_num_value : List ℤ → List ℤ → List ℕ → NumValue
+abbrev pub whole_num_value : List ℤ → List ℤ → List ℕ → Option ℤ
 whole_num_value own far s = num_result (map_read (num_in own far) (whole_num (scope (length own) (length far)) s))
 
-abbrev pub whole_truth_value : List ℤ → List ℤ → List ℕ → TruthValue
+abbrev pub whole_truth_value : List ℤ → List ℤ → List ℕ → Option Bool
 whole_truth_value own far s = truth_result (map_read (truth_in own far) (whole_truth (scope (length own) (length far)) s))

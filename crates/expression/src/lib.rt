@@ -1,13 +1,12 @@
-// Expressions: their operators, what evaluator, type check and the search for a fault answer, and the numbers that bytes make. The
-// definitions are in specs/; the functions themselves are in the crates `expression_values`, `expression_types` and
-// `expression_faults`.
+// Expressions: their operators, and the numbers that bytes make. The definitions are in specs/; evaluator, type check and the search for
+// a fault are in the crates `expression_values`, `expression_types` and `expression_faults`.
 #![tactic(auto)]
 
-ghost use Rattle.std.specs.Prelude.{◌≡◌};
+ghost use Rattle.std.specs.Prelude.{◌≡◌, get_or};
 ghost use Rattle.expression.specs.Reading.{num_op, truth_op, word, signed};
 
 // What two numbers make a number.
-#[derive(Clone, Copy)]
+#[derive(Clone, Copy, Debug, PartialEq, Eq)]
 pub enum Arith {
     Sum,
     Difference,
@@ -15,21 +14,22 @@ pub enum Arith {
 }
 
 // What two truths make a truth.
-#[derive(Clone, Copy)]
+#[derive(Clone, Copy, Debug, PartialEq, Eq)]
 pub enum Join {
     And,
     Or,
 }
 
 // What two numbers make a truth.
-#[derive(Clone, Copy)]
+#[derive(Clone, Copy, Debug, PartialEq, Eq)]
 pub enum Compare {
     Less,
     Equal,
 }
 
-// The operators of numbers.
-#[derive(Clone, Copy)]
+// The operators of numbers. `Unknown` is one of them, and not a `None` around them: specs/Reading.antt and specs/Faults.antt say by one
+// match what each byte comes to.
+#[derive(Clone, Copy, Debug, PartialEq, Eq)]
 pub enum NumOp {
     Literal,
     Own,
@@ -39,49 +39,14 @@ pub enum NumOp {
     Unknown,
 }
 
-// The operators of truths.
-#[derive(Clone, Copy)]
+// The operators of truths, and `Unknown` for the same reason.
+#[derive(Clone, Copy, Debug, PartialEq, Eq)]
 pub enum TruthOp {
     Constant(bool),
     Not,
     Both(Join),
     Two(Compare),
     Unknown,
-}
-
-// A number's value and the place after it, or nothing where the bytes are no number.
-#[derive(Clone, Copy)]
-pub enum NumAt {
-    Value(i32, usize),
-    Nothing,
-}
-
-// A truth's value and the place after it, or nothing where the bytes are no truth.
-#[derive(Clone, Copy)]
-pub enum TruthAt {
-    Value(bool, usize),
-    Nothing,
-}
-
-// The value of a whole number, or none where the bytes are no number.
-#[derive(Clone, Copy)]
-pub enum NumValue {
-    Value(i32),
-    None,
-}
-
-// The value of a whole truth, or none where the bytes are no truth.
-#[derive(Clone, Copy)]
-pub enum TruthValue {
-    Value(bool),
-    None,
-}
-
-// What the search for a fault answers: the place after what was read, or the number and place of its first fault.
-#[derive(Clone, Copy)]
-pub enum Search {
-    After(usize),
-    Fault(u32, usize),
 }
 
 // Bytes that stand for no operator are `Unknown`.
@@ -115,13 +80,13 @@ pub fn truth_op(b: u8) -> TruthOp
     }
 }
 
-// ---- bytes
-
-pub fn wide(b: u8) -> usize
-    ensures { result ≡ b }
+// The signed number of four bytes, low byte first.
+pub fn value_of(bytes: [u8; 4]) -> i32
+    ensures { result ≡ signed (word (get_or bytes 0 0) (get_or bytes 1 0) (get_or bytes 2 0) (get_or bytes 3 0)) }
 {
-    b as usize
+    i32::from_le_bytes(bytes)
 }
+// ---- bytes
 
 // Four bytes, low byte first.
 pub fn word_of(a: u8, b: u8, c: u8, d: u8) -> u32

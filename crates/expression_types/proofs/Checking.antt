@@ -1,6 +1,6 @@
 -- The type check: only the end of an expression counts, and it is known from the ends of its operands. Assumes nothing.
 use Prim.Native.Nat.{ℕ, zero, suc, ◌+◌, ◌<◌, ◌≤◌}
-use mathlib.Core.Path.{◌≡◌, refl, sym}
+use mathlib.Core.Path.{◌≡◌, refl, sym, ap, ◌∙◌}
 use mathlib.Core.Bool.{Bool}
 use mathlib.Core.List.{List}
 use native.Mathlib.Omega.{arith}
@@ -9,7 +9,7 @@ use Rattle.expression.specs.Syntax.{Num, literal, own, far, two, negation}
 use Rattle.expression.specs.Syntax.{Truth, opposite, both, compared}
 use Rattle.expression.specs.Reading.{Read, got, nothing, literal_at, channel_at, num_op, truth_op}
 use Rattle.expression.specs.Reading.{Scope, num_operands, truth_operands}
-use Rattle.expression.specs.Answers.{map_read, Answers, end_of, num_end, truth_end, of_end}
+use Rattle.expression.specs.Answers.{map_read, Answers, end_of, num_end, truth_end}
 use Rattle.expression.specs.declared.Arith.{Arith}
 use Rattle.expression.specs.declared.Arith.TheVariants as OfArith
 use Rattle.expression.specs.declared.Join.{Join}
@@ -21,11 +21,6 @@ use Rattle.expression.specs.declared.TruthOp.TheVariants as OfTruth
 use Rattle.expression.proofs.Laws.Readings.{Reader, map_two, map_same, map-map, map-one, map-two, ahead-map, literal-ahead, channel-ahead}
 use Rattle.expression.proofs.Laws.Readings.{num-outside, truth-outside, num-inside, truth-inside}
 use Rattle.expression.proofs.Laws.Readings.{with_none, with-one, with_two, without-first}
-
--- the answer of a place that is not 0
-pub an-end : (n : ℕ) → ¬ (n ≡ 0) → of_end n ≡ got tt n
-an-end zero h = absurd (h refl)
-an-end (suc n) h = refl
 
 -- only the last operand's end counts
 abbrev same : Unit {0} → Unit {0}
@@ -84,12 +79,12 @@ module _ (out go : Reader (Unit {0})) (s : List ℕ) (at : ℕ) (inside : at < l
   one {r} e d = with-one out s at inside go same e d (sym (map_same r))
 
   module _ (e : (g : ℕ) → out (suc g) s at ≡ map_two last (go g s (at + 1)) (λ n. go g s n))
-      {n : ℕ} (d : Answers go s (at + 1) (of_end n)) where
-    second : {r : Read (Unit {0})} → ¬ (n ≡ 0) → Answers go s n r → Answers out s at r
-    second {r} h d' = with_two out s at inside go last e (rw (an-end n h) at d) d' (sym (map_same r))
+    where
+      second : {n : ℕ} {r : Read (Unit {0})} → Answers go s (at + 1) (got tt n) → Answers go s n r → Answers out s at r
+      second {n} {r} d d' = with_two out s at inside go last e d d' (sym (map_same r))
 
-    no-first : n ≡ 0 → Answers out s at nothing
-    no-first h = without-first out s at inside go last e (rw h at d)
+      no-first : Answers go s (at + 1) nothing → Answers out s at nothing
+      no-first d = without-first out s at inside go last e d
 
 -- ---- what the check answers, by the operator that stands at a place
 
@@ -101,6 +96,15 @@ pub record Here {Op : Type 0} (of : ℕ → Op) (sc : Scope) (s : List ℕ) (at 
 -- the operator of numbers that stands at a place
 pub here : (sc : Scope) (s : List ℕ) (at : ℕ) → at < length s → Here num_op sc s at (num_op (get_or s at 0))
 here sc s at h = record { inside = h; is = refl }
+
+-- the same, where the byte that was got there is b
+pub byte-here : {sc : Scope} {s : List ℕ} {at b : ℕ} → (at < length s) × ((d : ℕ) → b ≡ get_or s at d) → Here num_op sc s at (num_op b)
+byte-here h = record { inside = h.0; is = ap num_op (h.1 0) }
+
+-- and an operator of truths
+pub op-here : {sc : Scope} {s : List ℕ} {at b : ℕ} {op : TruthOp} → (at < length s) × ((d : ℕ) → b ≡ get_or s at d) → op ≡ truth_op b
+    → Here truth_op sc s at op
+op-here h e = record { inside = h.0; is = e ∙ ap truth_op (h.1 0) }
 
 -- which bytes are operations
 pub operation : (b : ℕ) → 3 ≤ b → b < 6 → (k : Arith) × (num_op b ≡ OfNum.Two k)
@@ -134,12 +138,13 @@ module _ {sc : Scope} {s : List ℕ} {at : ℕ} {op : NumOp} (h : Here num_op sc
   pub as-negation : {r : Read (Unit {0})} → op ≡ OfNum.Negation → Answers (num_end sc) s (at + 1) r → Answers (num_end sc) s at r
   as-negation e = one (num_end sc) (num_end sc) s at h.inside (step-num OfNum.Negation e)
 
-  module _ {k : Arith} (e : op ≡ OfNum.Two k) {n : ℕ} (d : Answers (num_end sc) s (at + 1) (of_end n)) where
-    pub as-two : {r : Read (Unit {0})} → ¬ (n ≡ 0) → Answers (num_end sc) s n r → Answers (num_end sc) s at r
-    as-two = second (num_end sc) (num_end sc) s at h.inside (step-num (OfNum.Two k) e) d
+  module _ {k : Arith} (e : op ≡ OfNum.Two k) where
+    pub as-two : {n : ℕ} {r : Read (Unit {0})} → Answers (num_end sc) s (at + 1) (got tt n) → Answers (num_end sc) s n r
+        → Answers (num_end sc) s at r
+    as-two = second (num_end sc) (num_end sc) s at h.inside (step-num (OfNum.Two k) e)
 
-    pub as-two-nothing : n ≡ 0 → Answers (num_end sc) s at nothing
-    as-two-nothing = no-first (num_end sc) (num_end sc) s at h.inside (step-num (OfNum.Two k) e) d
+    pub as-two-nothing : Answers (num_end sc) s (at + 1) nothing → Answers (num_end sc) s at nothing
+    as-two-nothing = no-first (num_end sc) (num_end sc) s at h.inside (step-num (OfNum.Two k) e)
 
 module _ {sc : Scope} {s : List ℕ} {at : ℕ} {op : TruthOp} (h : Here truth_op sc s at op) where
   step-truth : (op' : TruthOp) → op ≡ op' → (g : ℕ)
@@ -147,10 +152,9 @@ module _ {sc : Scope} {s : List ℕ} {at : ℕ} {op : TruthOp} (h : Here truth_o
   unfolding num_end truth_end
   step-truth op' e g = rw (truth-inside sc s at h.inside g, ← h.is, e) (truth-operands op' (at + 1) _ _)
 
-  pub as-constant : {b : Bool} → op ≡ OfTruth.Constant b → Answers (truth_end sc) s at (of_end (at + 1))
+  pub as-constant : {b : Bool} → op ≡ OfTruth.Constant b → Answers (truth_end sc) s at (got tt (at + 1))
   as-constant {b} e =
-      with_none (truth_end sc) s at h.inside (got tt (at + 1)) (omega (arith, h.inside)) (step-truth (OfTruth.Constant b) e)
-      (an-end (at + 1) (omega arith))
+      with_none (truth_end sc) s at h.inside (got tt (at + 1)) (omega (arith, h.inside)) (step-truth (OfTruth.Constant b) e) refl
 
   pub as-no-truth : op ≡ OfTruth.Unknown → Answers (truth_end sc) s at nothing
   as-no-truth e = with_none (truth_end sc) s at h.inside nothing tt (step-truth OfTruth.Unknown e) refl
@@ -158,16 +162,18 @@ module _ {sc : Scope} {s : List ℕ} {at : ℕ} {op : TruthOp} (h : Here truth_o
   pub as-not : {r : Read (Unit {0})} → op ≡ OfTruth.Not → Answers (truth_end sc) s (at + 1) r → Answers (truth_end sc) s at r
   as-not e = one (truth_end sc) (truth_end sc) s at h.inside (step-truth OfTruth.Not e)
 
-  module _ {k : Join} (e : op ≡ OfTruth.Both k) {n : ℕ} (d : Answers (truth_end sc) s (at + 1) (of_end n)) where
-    pub as-both : {r : Read (Unit {0})} → ¬ (n ≡ 0) → Answers (truth_end sc) s n r → Answers (truth_end sc) s at r
-    as-both = second (truth_end sc) (truth_end sc) s at h.inside (step-truth (OfTruth.Both k) e) d
+  module _ {k : Join} (e : op ≡ OfTruth.Both k) where
+    pub as-both : {n : ℕ} {r : Read (Unit {0})} → Answers (truth_end sc) s (at + 1) (got tt n) → Answers (truth_end sc) s n r
+        → Answers (truth_end sc) s at r
+    as-both = second (truth_end sc) (truth_end sc) s at h.inside (step-truth (OfTruth.Both k) e)
 
-    pub as-both-nothing : n ≡ 0 → Answers (truth_end sc) s at nothing
-    as-both-nothing = no-first (truth_end sc) (truth_end sc) s at h.inside (step-truth (OfTruth.Both k) e) d
+    pub as-both-nothing : Answers (truth_end sc) s (at + 1) nothing → Answers (truth_end sc) s at nothing
+    as-both-nothing = no-first (truth_end sc) (truth_end sc) s at h.inside (step-truth (OfTruth.Both k) e)
 
-  module _ {k : Compare} (e : op ≡ OfTruth.Two k) {n : ℕ} (d : Answers (num_end sc) s (at + 1) (of_end n)) where
-    pub as-compared : {r : Read (Unit {0})} → ¬ (n ≡ 0) → Answers (num_end sc) s n r → Answers (truth_end sc) s at r
-    as-compared = second (truth_end sc) (num_end sc) s at h.inside (step-truth (OfTruth.Two k) e) d
+  module _ {k : Compare} (e : op ≡ OfTruth.Two k) where
+    pub as-compared : {n : ℕ} {r : Read (Unit {0})} → Answers (num_end sc) s (at + 1) (got tt n) → Answers (num_end sc) s n r
+        → Answers (truth_end sc) s at r
+    as-compared = second (truth_end sc) (num_end sc) s at h.inside (step-truth (OfTruth.Two k) e)
 
-    pub as-compared-nothing : n ≡ 0 → Answers (truth_end sc) s at nothing
-    as-compared-nothing = no-first (truth_end sc) (num_end sc) s at h.inside (step-truth (OfTruth.Two k) e) d
+    pub as-compared-nothing : Answers (num_end sc) s (at + 1) nothing → Answers (truth_end sc) s at nothing
+    as-compared-nothing = no-first (truth_end sc) (num_end sc) s at h.inside (step-truth (OfTruth.Two k) e)

@@ -1,6 +1,6 @@
 -- Reading and then evaluating is evaluating straight: an operator's value is made of its operands' values. Assumes nothing.
 use Prim.Native.Nat.{ℕ, zero, suc, ◌+◌, ◌<◌, ◌≤◌}
-use mathlib.Core.Path.{◌≡◌, refl, ◌∙◌}
+use mathlib.Core.Path.{◌≡◌, refl, ap, ◌∙◌}
 use mathlib.Core.Bool.{Bool, not}
 use mathlib.Core.List.{List}
 use native.Mathlib.Omega.{arith as numbers}
@@ -90,6 +90,11 @@ pub record NumHere (o f : List ℤ) (s : List ℕ) (at : ℕ) (op : NumOp) : Typ
   pub inside : at < length s
   pub is : op ≡ num_op (get_or s at 0)
 
+-- the same, where the byte that was got there is b
+pub op-here : {o f : List ℤ} {s : List ℕ} {at b : ℕ} {op : NumOp} → (at < length s) × ((d : ℕ) → b ≡ get_or s at d) → op ≡ num_op b
+    → NumHere o f s at op
+op-here h e = record { inside = h.0; is = e ∙ ap num_op (h.1 0) }
+
 module _ {o f : List ℤ} {s : List ℕ} {at : ℕ} {op : NumOp} (h : NumHere o f s at op) where
   step-num : (op' : NumOp) → op ≡ op' → (g : ℕ) → num_at o f (suc g) s at ≡ num_step o f op' s (at + 1) (λ n. num_at o f g s n)
   step-num = num-step o f s at h.inside h.is
@@ -133,6 +138,10 @@ past-leaves (suc (suc (suc (suc (suc (suc (suc b))))))) l two_not negation_not =
 pub record TruthHere (o f : List ℤ) (s : List ℕ) (at : ℕ) (op : TruthOp) : Type 0 where
   pub inside : at < length s
   pub is : op ≡ truth_op (get_or s at 0)
+
+pub truth-here : {o f : List ℤ} {s : List ℕ} {at b : ℕ} {op : TruthOp} → (at < length s) × ((d : ℕ) → b ≡ get_or s at d) → op ≡ truth_op b
+    → TruthHere o f s at op
+truth-here h e = record { inside = h.0; is = e ∙ ap truth_op (h.1 0) }
 
 module _ {o f : List ℤ} {s : List ℕ} {at : ℕ} {op : TruthOp} (h : TruthHere o f s at op) where
   step-truth : (op' : TruthOp) → op ≡ op' → (g : ℕ)

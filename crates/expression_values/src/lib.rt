@@ -10,7 +10,7 @@ ghost use Rattle.expression.specs.Reading.{literal_at, channel_at};
 ghost use Rattle.expression.specs.Answers.{map_read, Answers, value_in, num_at, truth_at, of_num, of_truth};
 ghost use Rattle.expression.specs.Answers.{whole_num_value, whole_truth_value};
 
-use expression::{Arith, Compare, Join, NumAt, NumOp, NumValue, TruthAt, TruthOp, TruthValue};
+use expression::{Arith, Compare, Join, NumOp, TruthOp};
 
 // How many bytes stand from a place on.
 fn left(s: &[u8], at: usize) -> usize
@@ -20,48 +20,36 @@ fn left(s: &[u8], at: usize) -> usize
 }
 
 // A literal's four bytes.
-fn literal_at(s: &[u8], at: usize) -> NumAt
+fn literal_at(s: &[u8], at: usize) -> Option<(i32, usize)>
     ensures { of_num result ≡ literal_at s.now at }
 {
     if left(s, at) < 4 {
-        return NumAt::Nothing;
+        return None;
     }
-    let word = expression::word_of(s[at], s[at + 1], s[at + 2], s[at + 3]);
-    let next = at + 4;
-    NumAt::Value(expression::signed_of(word), next)
+    let value = expression::value_of([s[at], s[at + 1], s[at + 2], s[at + 3]]);
+    Some((value, at + 4))
 }
 
 // The value of one of the channels xs, by its number.
-fn channel_at(s: &[u8], at: usize, xs: &[i32]) -> NumAt
+fn channel_at(s: &[u8], at: usize, xs: &[i32]) -> Option<(i32, usize)>
     ensures { of_num result ≡ map_read (value_in xs.now) (channel_at (length xs.now) s.now at) }
 {
-    if s.len() <= at {
-        return NumAt::Nothing;
-    }
-    let c = expression::wide(s[at]);
-    let next = at + 1;
-    if c < xs.len() {
-        let v = xs[c];
-        NumAt::Value(v, next)
-    } else {
-        NumAt::Nothing
-    }
+    let c = usize::from(*s.get(at)?);
+    let value = *xs.get(c)?;
+    Some((value, at + 1))
 }
 
 // The value of a literal or of a channel, which have no operands.
-fn leaf_at(s: &[u8], at: usize, own: &[i32], far: &[i32]) -> NumAt
+fn leaf_at(s: &[u8], at: usize, own: &[i32], far: &[i32]) -> Option<(i32, usize)>
     requires { (at < length s.now) × (get_or s.now at 0 < 3) }
     ensures { Answers (num_at own.now far.now) s.now at (of_num result) }
 {
-    let b = s[at];
     let next = at + 1;
-    if b == 0 {
-        return literal_at(s, next);
+    match s[at] {
+        0 => literal_at(s, next),
+        1 => channel_at(s, next, own),
+        _ => channel_at(s, next, far),
     }
-    if b == 1 {
-        return channel_at(s, next, own);
-    }
-    channel_at(s, next, far)
 }
 
 fn calculate(k: Arith, a: i32, b: i32) -> i32
@@ -74,48 +62,29 @@ fn calculate(k: Arith, a: i32, b: i32) -> i32
     }
 }
 
-// An operation whose first operand is a: nothing where the second one is none.
-fn calculate_at(k: Arith, a: i32, operand: NumAt) -> NumAt
-    ensures { of_num result ≡ map_read (arith k a) (of_num operand) }
-{
-    match operand {
-        NumAt::Value(b, n) => NumAt::Value(calculate(k, a, b), n),
-        NumAt::Nothing => NumAt::Nothing,
-    }
-}
-
-fn negate_at(operand: NumAt) -> NumAt
-    ensures { of_num result ≡ map_read negated (of_num operand) }
-{
-    match operand {
-        NumAt::Value(a, n) => NumAt::Value(clamped::neg(a), n),
-        NumAt::Nothing => NumAt::Nothing,
-    }
-}
-
 // The number at a place of s, with the values of the own and of the far channels. Literals and channels, the bytes below 3, come
 // first: for them the compiled code saves no registers.
-fn num_at(s: &&[u8], at: usize, own: &&[i32], far: &&[i32]) -> NumAt
+fn num_at(s: &&[u8], at: usize, own: &&[i32], far: &&[i32]) -> Option<(i32, usize)>
     requires { length s.now.now < 18446744073709551616 }
     ensures { Answers (num_at own.now.now far.now.now) s.now.now at (of_num result) }
 {
     let bytes = *s;
-    if bytes.len() <= at {
-        return NumAt::Nothing;
-    }
-    let b = bytes[at];
+    let b = *bytes.get(at)?;
     if b < 3 {
         return leaf_at(bytes, at, *own, *far);
     }
-    let op = expression::num_op(b);
     let next = at + 1;
-    match op {
-        NumOp::Two(k) => match num_at(s, next, own, far) {
-            NumAt::Value(a, n) => calculate_at(k, a, num_at(s, n, own, far)),
-            NumAt::Nothing => NumAt::Nothing,
-        },
-        NumOp::Negation => negate_at(num_at(s, next, own, far)),
-        _ => NumAt::Nothing,
+    match expression::num_op(b) {
+        NumOp::Two(k) => {
+            let (x, n) = num_at(s, next, own, far)?;
+            let (y, end) = num_at(s, n, own, far)?;
+            Some((calculate(k, x, y), end))
+        }
+        NumOp::Negation => {
+            let (x, end) = num_at(s, next, own, far)?;
+            Some((clamped::neg(x), end))
+        }
+        _ => None,
     }
 }
 
@@ -128,24 +97,6 @@ fn join_truths(k: Join, p: bool, q: bool) -> bool
     }
 }
 
-fn join_at(k: Join, p: bool, operand: TruthAt) -> TruthAt
-    ensures { of_truth result ≡ map_read (join k p) (of_truth operand) }
-{
-    match operand {
-        TruthAt::Value(q, n) => TruthAt::Value(join_truths(k, p, q), n),
-        TruthAt::Nothing => TruthAt::Nothing,
-    }
-}
-
-fn not_at(operand: TruthAt) -> TruthAt
-    ensures { of_truth result ≡ map_read not (of_truth operand) }
-{
-    match operand {
-        TruthAt::Value(p, n) => TruthAt::Value(!p, n),
-        TruthAt::Nothing => TruthAt::Nothing,
-    }
-}
-
 fn compare_nums(k: Compare, a: i32, b: i32) -> bool
     ensures { result ≡ comparison k a b }
 {
@@ -155,71 +106,48 @@ fn compare_nums(k: Compare, a: i32, b: i32) -> bool
     }
 }
 
-fn compare_at(k: Compare, a: i32, operand: NumAt) -> TruthAt
-    ensures { of_truth result ≡ map_read (comparison k a) (of_num operand) }
-{
-    match operand {
-        NumAt::Value(b, n) => TruthAt::Value(compare_nums(k, a, b), n),
-        NumAt::Nothing => TruthAt::Nothing,
-    }
-}
-
 // The truth at a place of s, with the values of the own and of the far channels.
-fn truth_at(s: &&[u8], at: usize, own: &&[i32], far: &&[i32]) -> TruthAt
+fn truth_at(s: &&[u8], at: usize, own: &&[i32], far: &&[i32]) -> Option<(bool, usize)>
     requires { length s.now.now < 18446744073709551616 }
     ensures { Answers (truth_at own.now.now far.now.now) s.now.now at (of_truth result) }
 {
     let bytes = *s;
-    if bytes.len() <= at {
-        return TruthAt::Nothing;
-    }
-    let op = expression::truth_op(bytes[at]);
+    let op = expression::truth_op(*bytes.get(at)?);
     let next = at + 1;
     match op {
-        TruthOp::Constant(p) => TruthAt::Value(p, next),
-        TruthOp::Not => not_at(truth_at(s, next, own, far)),
-        TruthOp::Both(k) => match truth_at(s, next, own, far) {
-            TruthAt::Value(p, n) => join_at(k, p, truth_at(s, n, own, far)),
-            TruthAt::Nothing => TruthAt::Nothing,
-        },
-        TruthOp::Two(k) => match num_at(s, next, own, far) {
-            NumAt::Value(a, n) => compare_at(k, a, num_at(s, n, own, far)),
-            NumAt::Nothing => TruthAt::Nothing,
-        },
-        TruthOp::Unknown => TruthAt::Nothing,
+        TruthOp::Constant(p) => Some((p, next)),
+        TruthOp::Not => {
+            let (p, end) = truth_at(s, next, own, far)?;
+            Some((!p, end))
+        }
+        TruthOp::Both(k) => {
+            let (p, n) = truth_at(s, next, own, far)?;
+            let (q, end) = truth_at(s, n, own, far)?;
+            Some((join_truths(k, p, q), end))
+        }
+        TruthOp::Two(k) => {
+            let (x, n) = num_at(s, next, own, far)?;
+            let (y, end) = num_at(s, n, own, far)?;
+            Some((compare_nums(k, x, y), end))
+        }
+        TruthOp::Unknown => None,
     }
 }
 
 // ---- whole expressions
 
 // The value of the number that the bytes are.
-pub fn num_value(s: &[u8], own: &[i32], far: &[i32]) -> NumValue
+pub fn num_value(s: &[u8], own: &[i32], far: &[i32]) -> Option<i32>
     ensures { result ≡ whole_num_value own.now far.now s.now }
 {
-    match num_at(&s, 0, &own, &far) {
-        NumAt::Value(v, n) => {
-            if n == s.len() {
-                NumValue::Value(v)
-            } else {
-                NumValue::None
-            }
-        }
-        NumAt::Nothing => NumValue::None,
-    }
+    let (value, end) = num_at(&s, 0, &own, &far)?;
+    if end == s.len() { Some(value) } else { None }
 }
 
 // The value of the truth that the bytes are.
-pub fn truth_value(s: &[u8], own: &[i32], far: &[i32]) -> TruthValue
+pub fn truth_value(s: &[u8], own: &[i32], far: &[i32]) -> Option<bool>
     ensures { result ≡ whole_truth_value own.now far.now s.now }
 {
-    match truth_at(&s, 0, &own, &far) {
-        TruthAt::Value(v, n) => {
-            if n == s.len() {
-                TruthValue::Value(v)
-            } else {
-                TruthValue::None
-            }
-        }
-        TruthAt::Nothing => TruthValue::None,
-    }
+    let (value, end) = truth_at(&s, 0, &own, &far)?;
+    if end == s.len() { Some(value) } else { None }
 }

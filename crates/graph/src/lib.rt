@@ -8,7 +8,7 @@ ghost use Rattle.std.specs.Prelude.{◌≡◌, ◌≤◌, ◌<◌, length};
 ghost use Rattle.lists.specs.Lists.{select, below, first_or};
 ghost use Rattle.deck.specs.Shape.{shape};
 ghost use Rattle.graph.specs.Graph.{reaches_itself};
-ghost use Rattle.graph.specs.FirstCycle.{first_cycle};
+ghost use Rattle.graph.specs.FirstCycle.{first_cycle, FoundBelow};
 ghost use Rattle.graph.specs.Masks.{Sized, edge_at, Added, CarriedIs, Drawn, Spread};
 
 use deck::Deck;
@@ -21,7 +21,7 @@ fn add_edges(edges: &mut [u64], events: u64, targets: u64)
     let mut left = events;
     let mut c = lists::lowest(left);
     while c < Deck::CHANNELS {
-        edges[c] = edges[c] | targets;
+        edges[c] |= targets;
         left = lists::rest(left);
         c = lists::lowest(left);
     }
@@ -33,10 +33,8 @@ pub fn carried_by_some(parts: &[u64], parts_count: usize) -> u64
     ensures { CarriedIs parts.now parts_count result }
 {
     let mut set: u64 = 0;
-    let mut p: usize = 0;
-    while p < parts_count {
-        set = set | parts[Deck::PART_ROW * p];
-        p += 1;
+    for p in 0..parts_count {
+        set |= parts[Deck::PART_ROW * p];
     }
     set
 }
@@ -67,45 +65,42 @@ fn spread(edges: &[u64], channels: usize, fresh: u64, seen: u64) -> u64
     let mut left = fresh;
     let mut b = lists::lowest(left);
     while b < channels {
-        set = set | edges[b];
+        set |= edges[b];
         left = lists::rest(left);
         b = lists::lowest(left);
     }
     set
 }
 
-// The lowest channel that can reach itself, or `channels` where none can. No path needs more edges than there are channels,
-// and a round that sees nothing new is the last.
-fn lowest_cycle(edges: &[u64], channels: usize) -> usize
+// The lowest channel that can reach itself, if one can. No path needs more edges than there are channels, and a round that sees
+// nothing new is the last.
+fn lowest_cycle(edges: &[u64], channels: usize) -> Option<usize>
     requires { (length edges.now ≡ 32) × (channels ≤ 32) }
-    ensures { result ≡ first_or channels (select (reaches_itself channels (edge_at edges.now)) (below channels)) }
+    ensures { FoundBelow channels
+        (first_or channels (select (reaches_itself channels (edge_at edges.now)) (below channels))) result }
 {
-    let mut start: usize = 0;
-    'search: while start < channels {
+    for start in 0..channels {
         let mut seen: u64 = 0;
         let mut fresh: u64 = 1u64 << start;
-        let mut round: usize = 0;
-        while round < channels {
+        for _ in 0..channels {
             let next = spread(edges, channels, fresh, seen);
             if (next >> start) % 2 == 1 {
-                break 'search;
+                return Some(start);
             }
             if next == seen {
                 break;
             }
             fresh = next ^ seen;
             seen = next;
-            round += 1;
         }
-        start += 1;
     }
-    start
+    None
 }
 
-// The lowest channel of the tables that can reach itself, or the number of channels where none can.
-pub fn first_cycle(rules: &[u64], parts: &[u64], counts: Deck) -> usize
+// The lowest channel of the tables that can reach itself, if one can.
+pub fn first_cycle(rules: &[u64], parts: &[u64], counts: Deck) -> Option<usize>
     requires { Sized rules.now parts.now counts.rules counts.parts × (counts.channels ≤ 32) }
-    ensures { result ≡ first_cycle (shape rules.now parts.now counts) }
+    ensures { FoundBelow counts.channels (first_cycle (shape rules.now parts.now counts)) result }
 {
     let mut edges = [0u64; Deck::CHANNELS];
     draw(rules, parts, counts.rules, counts.parts, &mut edges);

@@ -1,5 +1,5 @@
 -- Laws of reading an action in turns, one assignment a turn, with the targets so far as a set. Assumes nothing.
-use Rattle.std.specs.Prelude.{ℕ, suc, ◌+◌, ◌-◌, ◌≤◌, ◌<◌, ◌^◌, ◌≡◌, refl, not, ◌||◌, eqb, length, drop}
+use Rattle.std.specs.Prelude.{ℕ, suc, ◌+◌, ◌-◌, ◌≤◌, ◌<◌, ◌^◌, ◌≡◌, refl, not, ◌||◌, eqb, length, drop, Ok, Err}
 use Rattle.std.proofs.Math.Path.{sym, ap, ap₂, subst}
 use Rattle.std.proofs.Common.{◌∙◌, arith}
 use Rattle.std.proofs.Math.Bool.{or_comm}
@@ -10,12 +10,13 @@ use Rattle.lists.specs.Bits.{bit, mask_of}
 use Rattle.lists.specs.Laws.Bits.{bit-or, bit-zero, bit-power, mask-add, mask-empty}
 use Rattle.refusals.specs.Outcome.{Outcome, refused, accepted}
 use Rattle.refusals.specs.Numbers.{repeated_target}
+use Rattle.refusals.specs.Declined.{fault_outcome}
+use Rattle.refusals.specs.declared.Fault.{Fault}
 use Rattle.expression.specs.Reading.{Scope}
 use Rattle.deck.specs.Deck.{Assignment, Action, targets}
 use Rattle.deck.specs.Reader.{Got, Reader, and_then, expect, number, readers}
 use Rattle.deck.specs.Layout.{numbers, expression, assignments, action}
 use Rattle.deck.specs.Marks.{Reads, ReadsAssignment, assignment}
-use Rattle.deck.specs.declared.Advance.TheVariants.{Next, Fault}
 use Rattle.deck.proofs.Laws.Turns.{Turns, first, turns-none, turn-next, turn-fault, turn_end}
 use Rattle.deck.proofs.Laws.Offsets.{got_to, then_next, then-fault}
 
@@ -64,8 +65,8 @@ module _ (sc : Scope) (s : List ℕ) (at : ℕ) where
             (turns-none (sym ((mask-empty []).1 refl)));
       }
 
--- turn i of `count`, with an assignment to t
-module _ {sc : Scope} {o : Outcome (Got Action)} (count i : ℕ) (s : List ℕ) (place mask t : ℕ) where
+-- turn i of `count`
+module _ {sc : Scope} {o : Outcome (Got Action)} (count i : ℕ) (s : List ℕ) (place mask : ℕ) where
   left : i < count → (w : Assigning sc o (count - i) s place mask)
       → Turns o (first (assignment sc w.ts) (others sc (count - (i + 1)) w.ts) (drop place s) place) (λ a. mask ≡ mask_of (targets a))
   left h w =
@@ -74,10 +75,11 @@ module _ {sc : Scope} {o : Outcome (Got Action)} (count i : ℕ) (s : List ℕ) 
       (ap (λ n. assignments sc n w.ts (drop place s) place) k ∙ assignments-first sc (count - (i + 1)) w.ts (drop place s) place)
       w.turns
 
-  pub assigning-next : {next : ℕ} → i < count → ReadsAssignment sc s place mask t (Next next)
+  -- with an assignment to t
+  pub assigning-next : (t : ℕ) {next : ℕ} → i < count → ReadsAssignment sc s place mask (Ok (record { value = t; next = next }))
       → Assigning sc o (count - i) s place mask → Assigning sc o (count - (i + 1)) s next (bit_or mask (2 ^ t))
   unfolding lists targets
-  assigning-next {next} h r w =
+  assigning-next t {next} h r w =
       let x = r w.ts w.same in
       record {
         ts = x.0.target ∷ w.ts;
@@ -93,13 +95,13 @@ module _ {sc : Scope} {o : Outcome (Got Action)} (count i : ℕ) (s : List ℕ) 
             (left h w);
       }
 
-  pub assigning-fault : {n p : ℕ} → i < count → ReadsAssignment sc s place mask t (Fault n p)
-      → Assigning sc o (count - i) s place mask → o ≡ refused n p
-  assigning-fault h r w =
+  pub assigning-fault : (f : Fault) → i < count → ReadsAssignment sc s place mask (Err f)
+      → Assigning sc o (count - i) s place mask → o ≡ fault_outcome f
+  assigning-fault f h r w =
       turn-fault (assignment sc w.ts) (others sc (count - (i + 1)) w.ts) (drop place s) place (r w.ts w.same) (left h w)
 
 pub assigning-end : {sc : Scope} {o : Outcome (Got Action)} (count i : ℕ) (s : List ℕ) (place mask : ℕ) → count ≤ i → place ≤ length s
-    → Assigning sc o (count - i) s place mask → Reads s o (λ a. mask ≡ mask_of (targets a)) (Next place)
+    → Assigning sc o (count - i) s place mask → Reads s o (λ a. mask ≡ mask_of (targets a)) (Ok place)
 unfolding assignments
 assigning-end {sc} {o} count i s place mask h b w =
     let k : count - i ≡ 0 = omega arith in

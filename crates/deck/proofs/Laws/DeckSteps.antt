@@ -1,8 +1,9 @@
 -- The reading of a deck section by section, as the code makes it. Assumes nothing.
-use Rattle.std.specs.Prelude.{ℕ, ◌≡◌, List, [], ◌∷◌, drop}
+use Rattle.std.specs.Prelude.{ℕ, ◌≡◌, List, [], ◌∷◌, drop, Result}
 use Rattle.std.proofs.Common.{sym, ◌∙◌, ap₂, subst}
 use Rattle.std.proofs.Math.Path.{ap}
 use Rattle.refusals.specs.Outcome.{Outcome, refused, accepted}
+use Rattle.refusals.specs.declared.Fault.{Fault}
 use Rattle.refusals.specs.Numbers.{bytes_follow}
 use Rattle.deck.specs.declared.Form.{Form}
 use Rattle.deck.specs.Reader.{Got, ◌>>=◌, ◌>>◌, and_then, give, end, number, repeats, label}
@@ -10,7 +11,6 @@ use Rattle.deck.specs.Marks.{MarkedRule, marked_rule, MarkedFront, marked_front,
 use Rattle.deck.proofs.Laws.Offsets.{then_next, then-fault, reads-last}
 use Rattle.deck.proofs.Laws.PartSteps.{got_at, here-next}
 use Rattle.deck.specs.declared.Deck.{Deck}
-use Rattle.deck.specs.declared.Advance.{Advance}
 
 abbrev deck_of : ℕ → ℕ → ℕ → ℕ → ℕ → Deck
 deck_of R M N rules_at parts_at = record { channels = R; rules = M; parts = N; rules_at = rules_at; parts_at = parts_at }
@@ -39,7 +39,7 @@ module _ (form : Form) (s : List ℕ) where
         unfolding marked_front ◌>>=◌
         front-last = then_next _ e ∙ then_next _ f ∙ here-next _ (drop rules_at s) rules_at ∙ then_next _ g
 
-        pub front_read : (P : List MarkedRule → Type 0) (Q : MarkedFront → Type 0) (step : Advance)
+        pub front_read : (P : List MarkedRule → Type 0) (Q : MarkedFront → Type 0) (step : Result ℕ Fault)
             → ((rules : List MarkedRule) → P rules
             → Q (record { channels = R; labels = labels; rules_at = rules_at; count = M; rules = rules }))
             → Reads s (repeats M (marked_rule form R) (drop b s) b) P step → Reads s (marked_front form s 0) Q step

@@ -1,24 +1,22 @@
 -- Laws of reading one thing after another at offsets of the whole deck, where the bytes left are `drop at s`: an expression,
 -- an assignment, a rule's task, a rule. Assumes nothing.
-use Rattle.std.specs.Prelude.{ℕ, zero, suc, ◌+◌, ◌-◌, ◌≤◌, ◌<◌, ◌≡◌, refl, Bool, List, [], ◌∷◌, take, drop}
-use Rattle.std.proofs.Common.{sym, ◌∙◌, subst, arith, add-zero, drop-drop}
+use Rattle.std.specs.Prelude.{ℕ, zero, suc, ◌+◌, ◌-◌, ◌≤◌, ◌<◌, ◌≡◌, refl, Bool, List, [], ◌∷◌, take, drop, Result, Ok, Err}
+use Rattle.std.proofs.Common.{sym, ap₂, ◌∙◌, subst, arith, add-zero, drop-drop}
 use Rattle.std.proofs.Math.Path.{ap}
 use Rattle.std.proofs.Math.Bool.{true, false, not}
 use Rattle.std.proofs.Math.ListN.{length, length-drop}
 use Rattle.lists.specs.Lists.{member}
 use Rattle.refusals.specs.Outcome.{Outcome, refused, accepted}
+use Rattle.refusals.specs.declared.Fault.{Fault}
+use Rattle.refusals.specs.Laws.Outcomes.{refused≢accepted, accepted-inj, number-inj, place-inj}
 use Rattle.refusals.specs.Numbers.{deck_ends, repeated_target}
 use Rattle.expression.specs.Reading.{Scope}
 use Rattle.expression.specs.Answers.{is_got}
 use Rattle.expression.specs.Faults.{Found, sound, faulty, first_fault}
-use Rattle.expression.specs.Searching.{awaited_for, answer_for}
-use Rattle.expression.specs.declared.Search.{Search}
-use Rattle.expression.specs.declared.Search.TheVariants as Of
+use Rattle.expression.specs.Searching.{of_search, awaited_for, answer_for}
 use Rattle.deck.specs.Reader.{Got, Reader, and_then, ◌>>=◌, give, expect, byte, number, repeats, readers}
 use Rattle.deck.specs.Layout.{Expected, numbers, truths, judged, expression}
 use Rattle.deck.specs.Marks.{Reads, expression_for, is_whole, assignment}
-use Rattle.deck.specs.declared.Advance.{Advance}
-use Rattle.deck.specs.declared.Advance.TheVariants.{Next, Fault}
 use Rattle.deck.proofs.Laws.Turns.{number-below}
 use Rattle.deck.proofs.Laws.Judging.{judged-read, judged-nothing, value-got, whole-if-sound, none-if-faulty}
 
@@ -38,11 +36,11 @@ module _ {A B : Type 0} {o : Outcome (Got A)} (f : A → Reader B) where
   then-fault e = ap (λ o. and_then o f) e
 
 -- the last reading, and then f of its value
-pub reads-last : {A B : Type 0} (s : List ℕ) (o : Outcome (Got A)) (P : A → Type 0) (f : A → B) (Q : B → Type 0) (step : Advance)
+pub reads-last : {A B : Type 0} (s : List ℕ) (o : Outcome (Got A)) (P : A → Type 0) (f : A → B) (Q : B → Type 0) (step : Result ℕ Fault)
     → ((a : A) → P a → Q (f a)) → Reads s o P step → Reads s (and_then o (λ a. give (f a))) Q step
 unfolding give
-reads-last s o P f Q (Next n) q r = (f r.0, then_next (λ a. give (f a)) r.1, r.2, q r.0 r.3)
-reads-last s o P f Q (Fault n p) q r = then-fault (λ a. give (f a)) r
+reads-last s o P f Q (Ok n) q r = (f r.0, then_next (λ a. give (f a)) r.1, r.2, q r.0 r.3)
+reads-last s o P f Q (Err x) q r = then-fault (λ a. give (f a)) r
 
 module _ {b : Bool} (n p : ℕ) (s : List ℕ) (at : ℕ) where
   expect-passes : b ≡ true → expect b n p s at ≡ accepted (record { value = tt; rest = s; at = at })
@@ -96,7 +94,7 @@ module _ {A : Type 0} (j : Expected A) (s : List ℕ) (at n from : ℕ)
       ∙ then_next _ (bytes-there n (drop from s) from (omega (arith, length-drop from s)))
       ∙ ap (λ l. judged (j.whole bytes) (j.find bytes from) (j.has_fault bytes from) l (from + n)) (drop-drop n from s)
 
-  good : from + n ≤ length s → is_got (j.whole bytes) ≡ true → Reads s (expression j (drop at s) at) (λ _. Unit {0}) (Next (from + n))
+  good : from + n ≤ length s → is_got (j.whole bytes) ≡ true → Reads s (expression j (drop at s) at) (λ _. Unit {0}) (Ok (from + n))
   good h w =
       let g = value-got (j.whole bytes) w in
       let read = judged-read (j.whole bytes) (j.find bytes from) (j.has_fault bytes from) (drop (from + n) s) (from + n) g.1.1 in
@@ -106,11 +104,6 @@ module _ {A : Type 0} (j : Expected A) (s : List ℕ) (at n from : ℕ)
       → expression j (drop at s) at ≡ refused m p
   bad h w f =
       whole-there h ∙ judged-nothing (j.whole bytes) (j.find bytes from) (j.has_fault bytes from) (drop (from + n) s) (from + n) w f
-
--- the search's answer as a step
-abbrev pub step_of : Search → Advance
-step_of (Of.After n) = Next n
-step_of (Of.Fault k p) = Fault k p
 
 -- the same of both kinds
 pub expression-fault : (truth : Bool) (sc : Scope) (s : List ℕ) (at : ℕ) {n p : ℕ} → number 1 65 s at ≡ refused n p
@@ -136,12 +129,12 @@ module _ (truth : Bool) (sc : Scope) (s : List ℕ) (at n from : ℕ) (e : numbe
   found = first_fault sc (awaited_for truth ∷ []) content from
 
   pub expression-good : from + n ≤ length s → is_whole truth sc content ≡ true
-      → Reads s (expression_for truth sc (drop at s) at) (λ _. Unit {0}) (Next (from + n))
+      → Reads s (expression_for truth sc (drop at s) at) (λ _. Unit {0}) (Ok (from + n))
   unfolding expression_for
   expression-good h w = go truth w
     where
       go : (truth : Bool) → is_whole truth sc content ≡ true
-          → Reads s (expression_for truth sc (drop at s) at) (λ _. Unit {0}) (Next (from + n))
+          → Reads s (expression_for truth sc (drop at s) at) (λ _. Unit {0}) (Ok (from + n))
       go true w = good (truths sc) s at n from e h w
       go false w = good (numbers sc) s at n from e h w
 
@@ -155,15 +148,18 @@ module _ (truth : Bool) (sc : Scope) (s : List ℕ) (at n from : ℕ) (e : numbe
       go false f = bad (numbers sc) s at n from e h (none-if-faulty sc content from false f) f
 
   -- the search for a fault answers for an expression: it is read where none is found, and else the fault is its own
-  abbrev ReadsAs : Search → Type 0
-  ReadsAs r = Reads s (expression_for truth sc (drop at s) at) (λ _. Unit {0}) (step_of r)
+  abbrev ReadsAs : Result ℕ Fault → Type 0
+  ReadsAs r = Reads s (expression_for truth sc (drop at s) at) (λ _. Unit {0}) r
 
-  pub expression-searched : from + n ≤ length s → (r : Search) → r ≡ answer_for (from + n) found → ReadsAs r
-  expression-searched h r q = go found refl
+  pub expression-searched : from + n ≤ length s → (r : Result ℕ Fault) → of_search r ≡ answer_for (from + n) found → ReadsAs r
+  expression-searched h r q = go r found refl q
     where
-      go : (f : Found) → found ≡ f → ReadsAs r
-      go sound k = subst ReadsAs (sym (q ∙ ap (answer_for (from + n)) k)) (expression-good h (whole-if-sound sc content from truth k))
-      go (faulty m p) k = subst ReadsAs (sym (q ∙ ap (answer_for (from + n)) k)) (expression-bad h k)
+      go : (r : Result ℕ Fault) (f : Found) → found ≡ f → of_search r ≡ answer_for (from + n) f → ReadsAs r
+      go (Ok m) sound k e =
+          rw (accepted-inj e) (expression-good h (whole-if-sound sc content from truth k))
+      go (Err x) sound k e = refused≢accepted e
+      go (Ok m) (faulty p q) k e = refused≢accepted (sym e)
+      go (Err x) (faulty p q) k e = expression-bad h k ∙ sym (ap₂ refused (number-inj e) (place-inj e))
 
 -- ---- an assignment
 
@@ -183,7 +179,7 @@ module _ (sc : Scope) (ts : List ℕ) (s : List ℕ) (at : ℕ) where
   unfolding assignment readers
   new-target e m = then_next _ e ∙ then_next _ (expect-passes repeated_target at _ _ (ap not m))
 
-pub assignment-value : (sc : Scope) (ts : List ℕ) (s : List ℕ) (at t next : ℕ) (step : Advance)
+pub assignment-value : (sc : Scope) (ts : List ℕ) (s : List ℕ) (at t next : ℕ) (step : Result ℕ Fault)
     → number 0 sc.owns (drop at s) at ≡ accepted (got_to s t next) → member t ts ≡ false
     → Reads s (expression_for false sc (drop next s) next) (λ _. Unit {0}) step
     → Reads s (assignment sc ts (drop at s) at) (λ a. (t ≡ a.target) × (a.target < sc.owns)) step

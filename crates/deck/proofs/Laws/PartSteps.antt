@@ -1,15 +1,15 @@
 -- The reading of a part step by step, as the code makes it. Assumes nothing.
-use Rattle.std.specs.Prelude.{ℕ, suc, ◌≡◌, refl, true, ℤ, drop}
+use Rattle.std.specs.Prelude.{ℕ, suc, ◌≡◌, refl, true, ℤ, drop, Result}
 use Rattle.std.proofs.Common.{sym, ◌∙◌}
 use Rattle.std.proofs.Math.Path.{ap, subst}
 use mathlib.Core.List.{List, [], ◌∷◌}
 use Rattle.lists.specs.Bits.{mask_of}
 use Rattle.refusals.specs.Outcome.{Outcome, refused, accepted}
+use Rattle.refusals.specs.declared.Fault.{Fault}
 use Rattle.deck.specs.Reader.{Got, Reader, ◌>>=◌, and_then, give, here, number, repeats, rising, value}
 use Rattle.deck.specs.Layout.{truths, expression, own_only}
 use Rattle.deck.specs.Marks.{MarkedPart, marked_part, part_row, Reads, scope_of, expression_for, marks}
 use Rattle.deck.proofs.Laws.Offsets.{then_next, then-fault, reads-last}
-use Rattle.deck.specs.declared.Advance.{Advance}
 
 -- what was read at n of s
 abbrev pub got_at : {A : Type 0} → List ℕ → A → ℕ → Outcome (Got A)
@@ -49,7 +49,7 @@ module _ (R M : ℕ) (s : List ℕ) (at : ℕ) where
             ∙ then_next _ g ∙ here-next _ (drop l s) l
 
         -- the row that the code keeps, mask being the set of the carried rules
-        pub part-read : (mask : ℕ) (step : Advance) → mask ≡ mask_of cs
+        pub part-read : (mask : ℕ) (step : Result ℕ Fault) → mask ≡ mask_of cs
             → Reads s (expression_for true (scope_of R 0) (drop l s) l) (λ _. Unit {0}) step
             → Reads s whole (λ m. mask ∷ at ∷ l ∷ 0 ∷ [] ≡ part_row m) step
         unfolding marks own_only

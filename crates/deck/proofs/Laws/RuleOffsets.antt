@@ -1,10 +1,11 @@
 -- Laws of reading a rule's task, and a rule, at an offset of the whole deck, with what the code keeps of them. Assumes nothing.
-use Rattle.std.specs.Prelude.{ℕ, zero, suc, ◌*◌, ◌<◌, ◌≡◌, true, List, [], ◌∷◌, drop}
+use Rattle.std.specs.Prelude.{ℕ, zero, suc, ◌*◌, ◌<◌, ◌≡◌, true, List, [], ◌∷◌, drop, Result}
 use Rattle.std.proofs.Math.Path.{refl, subst}
 use Rattle.std.proofs.Common.{sym, ap, ◌∙◌, arith, mul-zero, mul-one}
 use Rattle.std.proofs.Math.Dec.{eqb}
 use Rattle.lists.specs.Bits.{mask_of}
 use Rattle.refusals.specs.Outcome.{refused, accepted}
+use Rattle.refusals.specs.declared.Fault.{Fault}
 use Rattle.expression.specs.Syntax.{Truth}
 use Rattle.expression.specs.Reading.{Scope}
 use Rattle.deck.specs.declared.Form.{Form}
@@ -13,7 +14,6 @@ use Rattle.deck.specs.Reader.{number, rising, readers}
 use Rattle.deck.specs.Layout.{truths, expression, own_only, own_and_far, task_scope, action, default_action}
 use Rattle.deck.specs.Encoding.{kind_byte}
 use Rattle.deck.specs.Marks.{Reads, scope_of, expression_for, MarkedTask, marked_task, MarkedRule, marked_rule, rule_row}
-use Rattle.deck.specs.declared.Advance.{Advance}
 use Rattle.deck.proofs.Laws.Turns.{number-below}
 use Rattle.deck.proofs.Laws.Offsets.{got_to, then_next, then-fault, reads-last}
 
@@ -52,7 +52,7 @@ module _ (R : ℕ) (s : List ℕ) (at kind from : ℕ) (e : number 0 2 (drop at 
       then_next _ e
       ∙ then-fault _ (subst (λ sc. expression (truths sc) (drop from s) from ≡ refused n p) (scope-by-kind R kind small) f)
 
-  pub task-reads : (condition : Truth) (to mask : ℕ) (step : Advance)
+  pub task-reads : (condition : Truth) (to mask : ℕ) (step : Result ℕ Fault)
       → expression_for true (scope_of R (R * kind)) (drop from s) from ≡ accepted (got_to s condition to)
       → Reads s (action (scope_of R (R * kind)) (drop to s) to) (λ a. mask ≡ mask_of (targets a)) step
       → Reads s (marked_task R (drop at s) at) (KeepsTask kind from to mask) step
@@ -91,7 +91,7 @@ module _ (form : Form) (R : ℕ) (s : List ℕ) (at count from : ℕ) (e : numbe
     default-fault g = then_next _ e ∙ then_next _ f ∙ then-fault _ g
 
     -- the row that the code makes, with the sets of the events and of the default action's targets
-    pub rule-reads : (default : Action) (next es ds kind condition act mask : ℕ) (step : Advance)
+    pub rule-reads : (default : Action) (next es ds kind condition act mask : ℕ) (step : Result ℕ Fault)
         → es ≡ mask_of events → ds ≡ mask_of (targets default)
         → default_action form R (drop to s) to ≡ accepted (got_to s default next)
         → Reads s (marked_task R (drop next s) next) (KeepsTask kind condition act mask) step

@@ -9,7 +9,7 @@ use Rattle.lists.specs.Laws.Alls.{all_of-weaken, all_of-get_or}
 use Rattle.expression.specs.Syntax.{Truth}
 use Rattle.expression.specs.Reading.{Scope}
 use Rattle.expression.specs.Encoding.{encode_num, encode_truth, fits, good_num, good_truth, encoding_expressions}
-use Rattle.deck.specs.Deck.{Assignment, Action, Rule, Part, Deck, R, M, N, rule_at, part_at, targets, decks}
+use Rattle.deck.specs.Deck.{Assignment, Action, Rule, Part, Deck, R, M, N, targets, decks}
 use Rattle.deck.specs.Layout.{own_only, task_scope, layouts}
 use Rattle.deck.specs.Encoding.{in_range, is_rising, fitting_length, good_assignment, good_action, good_condition, good_rule, good_part}
 use Rattle.deck.specs.Encoding.{is_label}

@@ -1,20 +1,24 @@
 -- Laws of reading at an offset of the whole deck, where the bytes left are `drop at s`: a number, and lists in turns, one
 -- element a turn. Assumes nothing.
 use Prim.Native.Nat.{ℕ, zero, suc, ◌+◌, ◌*◌, ◌-◌, ◌≤◌, ◌<◌}
-use Rattle.std.specs.Prelude.{◌≡◌, Bool, true, false, ◌&&◌, cond, List, [], ◌∷◌, ◌++◌, leb, ltb, ℤ, length, get_or}
+use Rattle.std.specs.Prelude.{◌≡◌, Bool, true, false, ◌&&◌, cond, List, [], ◌∷◌, ◌++◌, leb, ltb, ℤ, length, get_or, Result, Ok}
 use Rattle.std.proofs.Math.Path.{refl, ap}
 use Rattle.std.proofs.Common.{sym, ap₂, ◌∙◌, subst, append-nil, add-zero, add-one, ltb-true, lt-ltb, le-ltb, le-leb, length-drop, drop_of_length-le, drop-cons, drop-drop}
 use native.Mathlib.Omega.{arith}
 use Rattle.std.proofs.lemmas.Bool.{lt-leb}
+use Rattle.std.proofs.lemmas.Result.{err_from_is_err_and}
+use Rattle.std.specs.Result.{IsErrAnd}
 use Rattle.std.proofs.Math.ListN.{drop}
 use Rattle.std.proofs.Math.Seq.{append_snoc}
 use Rattle.lists.specs.Laws.Booleans.{and_both, and_right}
 use Rattle.refusals.specs.Outcome.{Outcome, refused, accepted}
 use Rattle.refusals.specs.Numbers.{deck_ends, out_of_range}
+use Rattle.refusals.specs.Declined.{fault_outcome}
+use Rattle.refusals.specs.declared.Fault.{Fault}
 use Rattle.expression.specs.Reading.{word, signed}
 use Rattle.deck.specs.Reader.{Got, Reader, and_then, ◌>>=◌, give, expect, number, repeats, rising, value, readers}
-use Rattle.deck.specs.Marks.{Reads}
-use Rattle.deck.specs.declared.Advance.TheVariants.{Next}
+use Rattle.deck.specs.Marks.{Reads, ReadsKept}
+use Rattle.deck.specs.declared.Read.{Read}
 use Rattle.deck.proofs.Laws.Exact.{Accepts, accepting, refusing, accepts}
 
 -- ---- a number
@@ -71,9 +75,27 @@ number-below lo hi s at g e = accepts (below s) e
     below (b ∷ s) = by_test b s (leb lo b && ltb b hi) refl
 
 -- what was read is the value that the code holds
-pub got-value : {A : Type 0} {o : Outcome (Got A)} (s : List ℕ) (n : ℕ) (a : A) → Reads s o (λ v. a ≡ v) (Next n)
+pub got-value : {A : Type 0} {o : Outcome (Got A)} (s : List ℕ) (n : ℕ) (a : A) → Reads s o (λ v. a ≡ v) (Ok n)
     → o ≡ accepted (record { value = a; rest = drop n s; at = n })
 got-value s n a r = r.1 ∙ ap (λ x. accepted (record { value = x; rest = drop n s; at = n })) (sym r.3)
+
+-- and so it is below its bound
+pub kept-below : (lo hi : ℕ) (s : List ℕ) (at n a : ℕ) → Reads s (number lo hi (drop at s) at) (λ v. a ≡ v) (Ok n) → a < hi
+kept-below lo hi s at n a r = number-below lo hi (drop at s) at _ (got-value s n a r)
+
+-- ---- a fault that `?` hands on: f of the part that is read, and so of the whole
+
+module _ {A : Type 0} (s : List ℕ) (o : Outcome (Got A)) (f : Fault) where
+  pub hands-on : (P : A → Type 0) (r : Result ℕ Fault) → IsErrAnd r (λ e. e ≡ f) → o ≡ fault_outcome f → Reads s o P r
+  hands-on P r e h =
+      let p = err_from_is_err_and r e in
+      rw (p.1, p.2) h
+
+  pub hands_on_kept : {T : Type 0} (P : T → A → Type 0) (r : Result (Read T) Fault) → IsErrAnd r (λ e. e ≡ f)
+      → o ≡ fault_outcome f → ReadsKept s o P r
+  hands_on_kept P r e h =
+      let p = err_from_is_err_and r e in
+      rw (p.1, p.2) h
 
 -- ---- lists in turns
 
@@ -124,7 +146,7 @@ module _ {A : Type 0} {o : Outcome (Got (List A))} {P : List A → Type 0} where
   turn-fault r others s at e t =
       t.outcome ∙ ap (λ u. and_then (and_then u (λ x. others x >>= λ xs. give (x ∷ xs))) (λ l. give (t.list ++ l))) e
 
-  pub turn_end : (s : List ℕ) (place : ℕ) → place ≤ length s → Turns o (give [] (drop place s) place) P → Reads s o P (Next place)
+  pub turn_end : (s : List ℕ) (place : ℕ) → place ≤ length s → Turns o (give [] (drop place s) place) P → Reads s o P (Ok place)
   unfolding readers
   turn_end s place b t = (
     t.list,
@@ -152,7 +174,7 @@ module _ {A : Type 0} {o : Outcome (Got (List A))} {P : List A → Type 0} (r : 
       turn-fault r (λ _. repeats (count - (i + 1)) r) (drop place s) place e
       (subst (λ n. Turns o (repeats n r (drop place s) place) P) k t)
 
-  pub repeats-end : count ≤ i → place ≤ length s → Turns o (repeats (count - i) r (drop place s) place) P → Reads s o P (Next place)
+  pub repeats-end : count ≤ i → place ≤ length s → Turns o (repeats (count - i) r (drop place s) place) P → Reads s o P (Ok place)
   unfolding readers
   repeats-end h b t =
       let k : count - i ≡ 0 = omega arith in
@@ -179,7 +201,7 @@ module _ {o : Outcome (Got (List ℕ))} {P : List ℕ → Type 0} (count i low h
       (subst (λ n. Turns o (rising n low hi (drop place s) place) P) k t)
 
   pub rising-end : count ≤ i → place ≤ length s → Turns o (rising (count - i) low hi (drop place s) place) P
-      → Reads s o P (Next place)
+      → Reads s o P (Ok place)
   unfolding readers
   rising-end h b t =
       let k : count - i ≡ 0 = omega arith in
@@ -221,7 +243,7 @@ values-short (suc n) (a ∷ []) at h = ap (λ p. refused deck_ends p) (omega ari
 values-short (suc n) [] at h = ap (λ p. refused deck_ends p) (omega arith)
 
 module _ (n : ℕ) (s : List ℕ) (at : ℕ) where
-  pub values-read : at + 4 * n ≤ length s → Reads s (repeats n value (drop at s) at) (λ _. Unit {0}) (Next (at + 4 * n))
+  pub values-read : at + 4 * n ≤ length s → Reads s (repeats n value (drop at s) at) (λ _. Unit {0}) (Ok (at + 4 * n))
   values-read h =
       let v : Values n (drop at s) at = values-there n (drop at s) at (omega (arith, length-drop at s)) in
       (v.0, v.1 ∙ ap (λ t. accepted (record { value = v.0; rest = t; at = at + 4 * n })) (drop-drop (4 * n) at s), h, tt)

@@ -1,9 +1,6 @@
 -- `deck_fields::expression_at` meets its contract. Assumes nothing.
 use Rattle.deck_fields.proofs.expression_at.Goals as goal
 
-pub returns-then-end-ne0 : goal.returns-then-end-ne0
-returns-then-end-ne0 c = c.expression_end-end.ensures c.if-end-ne0.true
-
 pub returns-then-truth : goal.returns-then-truth
 returns-then-truth c = rw c.if-truth.true c.expression_step.ensures
 

@@ -1,27 +1,30 @@
 -- `deck_fields::number_at` meets its contract: where the deck ends, where the byte is too small or too large, and where it is read.
 -- Assumes nothing.
+use mathlib.Core.Path.{◌∙◌}
 use native.Mathlib.Omega.{arith}
 use Rattle.deck.proofs.Laws.Turns.{number-ends, number_small, number-large, number-reads}
+use Rattle.deck_fields.proofs.number_at.Goals.{then-value-lo-via-then-value-lo, then-value-lo-via-else-value-lo+then-hi-value}
 use Rattle.deck_fields.proofs.number_at.Goals as goal
 
-pub returns-then-s-at : goal.returns-then-s-at
-returns-then-s-at c = number-ends _ _ _ _ c.if-s-at.true
+pub returns-in_default : goal.returns-in_default
+returns-in_default c = number-ends _ _ _ _ c.in_default.ensures.lookup.3
 
-pub returns-then-b-lo : goal.returns-then-b-lo
-returns-then-b-lo c =
-    let e = c.wide-b.ensures in
-    number_small _ _ _ _ c.if-s-at.false (omega arith)
-
-pub returns-then-hi-b : goal.returns-then-hi-b
-returns-then-hi-b c =
-    let e = c.wide-b.ensures in
-    number-large _ _ _ _ c.if-s-at.false (omega arith) (omega arith)
+pub returns-then-value-lo : goal.returns-then-value-lo
+returns-then-value-lo c =
+    let at = c.in-Some.ensures.lookup.3 in
+    let e = c.from-value.ensures ∙ at.1 0 in
+    elim c.then-value-lo.branch [
+      | then-value-lo-via-then-value-lo w ↦ number_small _ _ _ _ at.0 (omega (arith, e, w.if-value-lo.true))
+      | then-value-lo-via-else-value-lo+then-hi-value w ↦
+          number-large _ _ _ _ at.0 (omega (arith, e, w.if-value-lo.false)) (omega (arith, e, w.if-hi-value.true))
+    ]
 
 pub returns : goal.returns
 returns c =
-    let e = c.wide-b.ensures in (
+    let at = c.in-Some.ensures.lookup.3 in
+    let e = c.from-value.ensures ∙ at.1 0 in (
       _,
-      number-reads _ _ _ _ c.if-s-at.false (omega arith) (omega arith),
-      omega arith,
+      number-reads _ _ _ _ at.0 (omega (arith, e, c.if-value-lo.false)) (omega (arith, e, c.if-hi-value.false)),
+      omega (arith, at.0),
       e,
     )

@@ -1,4 +1,4 @@
--- `deck_fields::rising_at` meets its contract. The loop's invariant: i rising numbers were read, all below `low`, and `mask` is
+-- `deck_fields::rising_at` meets its contract. The loop's invariant: i rising numbers were read, all below `low`, and `value` is
 -- their set. Assumes nothing.
 use Prim.Native.Nat.{◌<◌}
 use mathlib.Core.Path.{refl, sym, ap₂, ◌∙◌}
@@ -6,42 +6,34 @@ use native.Mathlib.Omega.{arith}
 use native.Mathlib.Nat.{sub-zero}
 use lib.Bits.{bit_or}
 use Rattle.lists.specs.Laws.Bits.{bit_shifted, mask-add, mask-empty}
-use Rattle.deck.proofs.Laws.Turns.{turns-none, number-below, got-value, rising-next, rising-fault, rising-end}
+use Rattle.deck.proofs.Laws.Turns.{turns-none, got-value, kept-below, rising-next, rising-fault, rising-end, hands_on_kept}
 use Rattle.deck_fields.proofs.rising_at.Goals as goal
 
-pub loop-i-init : goal.loop-i-init
-loop-i-init c = (omega arith, c.requires.0, rw sub-zero (turns-none (sym ((mask-empty _).1 refl))))
+pub loop-init : goal.loop-init
+loop-init c = (c.requires.0, rw sub-zero (turns-none (sym ((mask-empty _).1 refl))))
 
-pub overflow_shl-mask : goal.overflow_shl-mask
-overflow_shl-mask c =
-    let read = rw c.in-Next.is at c.number_at-b.ensures in
-    let got = got-value c.args.s.now c.in-Next.next c.number_at-b.result.value read in
-    omega (arith, number-below _ _ _ _ _ got, c.requires.1)
+pub returns-in_err-c : goal.returns-in_err-c
+returns-in_err-c c =
+    hands_on_kept _ _ _ _ _ c.from_residual.ensures.1
+    (rising-fault _ _ _ _ c.args.s.now c.loop.next c.loop-test.true c.in_err-c.ensures c.loop.invariant.1)
+
+pub overflow_shl-value : goal.overflow_shl-value
+overflow_shl-value c = omega (arith, kept-below _ _ _ _ _ _ c.in_ok-c.ensures, c.requires.1)
 
 pub overflow_add-low : goal.overflow_add-low
-overflow_add-low c =
-    let read = rw c.in-Next.is at c.number_at-b.ensures in
-    let got = got-value c.args.s.now c.in-Next.next c.number_at-b.result.value read in
-    omega (arith, number-below _ _ _ _ _ got, c.requires.1)
+overflow_add-low c = omega (arith, kept-below _ _ _ _ _ _ c.in_ok-c.ensures, c.requires.1)
 
-pub returns-in-Fault : goal.returns-in-Fault
-returns-in-Fault c =
-    let read = rw c.in-Fault.is at c.number_at-b.ensures in
-    rising-fault _ _ _ _ c.args.s.now c.loop-i.place c.loop-i-test.true read c.loop-i.invariant.2
-
-pub loop-i-preserved : goal.loop-i-preserved
-loop-i-preserved c =
+pub loop-preserved : goal.loop-preserved
+loop-preserved c =
     let s = c.args.s.now in
-    let read = rw c.in-Next.is at c.number_at-b.ensures in
-    let got = got-value s c.in-Next.next c.number_at-b.result.value read in
-    let below : c.number_at-b.result.value < 64 = omega (arith, number-below _ _ _ _ _ got, c.requires.1) in (
-      omega arith,
+    let read = c.in_ok-c.ensures in
+    let below : c.in_ok-c.c.value < 64 = omega (arith, kept-below _ _ _ _ _ _ read, c.requires.1) in (
       read.2,
-      rising-next _ _ _ _ s c.loop-i.place c.loop-i-test.true
-          got
+      rising-next _ _ _ _ s c.loop.next c.loop-test.true
+          (got-value s c.in_ok-c.c.next c.in_ok-c.c.value read)
           (λ cs e. ap₂ bit_or e (bit_shifted 64 _ below) ∙ sym (mask-add cs _))
-          c.loop-i.invariant.2,
+          c.loop.invariant.1,
     )
 
 pub returns : goal.returns
-returns c = rising-end _ _ _ _ _ _ c.loop-i-test.false c.loop-i.invariant.1 c.loop-i.invariant.2
+returns c = rising-end _ _ _ _ _ _ c.loop-test.false c.loop.invariant.0 c.loop.invariant.1

@@ -1,18 +1,13 @@
--- `deck_fields::rising_at` meets its contract. The loop's invariant: i rising numbers were read, all below `low`, and `mask` is
+-- `deck_fields::rising_at` meets its contract. The loop's invariant: i rising numbers were read, all below `low`, and `value` is
 -- their set. Assumes nothing.
-use Prim.Native.Nat.{◌≤◌, ◌-◌}
-use mathlib.Core.Path.{◌≡◌}
-use lib.ListN.{length, drop}
+use Rattle.std.proofs.Common.{◌≡◌, ◌≤◌, ◌-◌, length, drop}
 use Rattle.lists.specs.Bits.{mask_of}
 use Rattle.deck.specs.Reader.{rising}
 use Rattle.deck.proofs.Laws.Turns.{Turns}
 use Rattle.deck_fields.proofs.rising_at.Given as goal
 
-abbrev pub invariant-loop-i : goal.invariant-loop-i
-invariant-loop-i l =
-    (l.i ≤ l.count) × (l.place ≤ length l.s)
+abbrev pub invariant-loop : goal.invariant-loop
+invariant-loop l =
+    (l.next ≤ length l.s)
     × Turns (rising l.count 0 l.hi (drop l.at l.s) l.at)
-    (rising (l.count - l.i) l.low l.hi (drop l.place l.s) l.place) (λ cs. l.mask ≡ mask_of cs)
-
-abbrev pub decreases-loop-i : goal.decreases-loop-i
-decreases-loop-i l = l.count - l.i
+    (rising (l.count - l.counter) l.low l.hi (drop l.next l.s) l.next) (λ cs. l.value ≡ mask_of cs)

@@ -4,61 +4,49 @@ use mathlib.Core.Path.{◌≡◌, refl, ap}
 use native.Mathlib.Omega.{arith}
 use native.Mathlib.Nat.{sub-zero}
 use lib.ListN.{length, length-take, length-drop}
-use borrow.Author.Rules.{rules}
 use Rattle.deck.specs.Marks.{marked_part, part_row}
-use Rattle.deck.proofs.Laws.Turns.{turns-none, repeats-next, repeats-fault, repeats-end}
+use Rattle.deck.proofs.Laws.Turns.{turns-none, repeats-next, repeats-fault, repeats-end, hands-on}
 use Rattle.deck.proofs.Laws.Rows.{filled_none, filled_next, filled-all}
 use Rattle.deck_parts.proofs.parts_at.Goals as goal
 
 pub loop-i-init : goal.loop-i-init
-loop-i-init c = (omega arith, c.requires.0, refl, rw sub-zero (turns-none (filled_none part_row 4 _)))
+loop-i-init c = (c.requires.0, rw sub-zero (turns-none (filled_none part_row 4 _)))
 
-pub part_at-part-requires : goal.part_at-part-requires
-part_at-part-requires c = (c.loop-i.invariant.1, c.requires.1, c.requires.2)
+pub part_at-requires : goal.part_at-requires
+part_at-requires c = (c.loop-i.invariant.0, c.requires.1, c.requires.2)
 
-pub shape_of-table-in_default : goal.shape_of-table-in_default
-shape_of-table-in_default c = c.loop-i.invariant.2
-
-pub returns-in_default : goal.returns-in_default
-returns-in_default c =
+pub returns-in_err-part : goal.returns-in_err-part
+returns-in_err-part c =
     let a = c.args in
-    let read = rw c.in_default.is at c.part_at-part.ensures in
-    rw c.in_default.is
-    (repeats-fault (marked_part a.own a.rules) _ _ a.s.now c.loop-i.place c.loop-i-test.true read c.loop-i.invariant.3)
+    hands-on _ _ _ _ _ c.from_residual.ensures.1
+    (repeats-fault (marked_part a.own a.rules) _ _ a.s.now c.loop-i.next c.loop-i-test.true c.in_err-part.ensures c.loop-i.invariant.1)
 
 pub write_row-requires : goal.write_row-requires
 unfolding part_row
 write_row-requires c =
-    let read = rw c.in-Next.is at c.part_at-part.ensures in
-    let size = ap length read.3 in
+    let size = ap length c.in_ok-part.ensures.3 in
     simp (length-take, length-drop) (omega (arith, size, c.requires.3))
 
 pub loop-i-preserved : goal.loop-i-preserved
 unfolding part_row
 loop-i-preserved c =
     let a = c.args in
-    let read = rw c.in-Next.is at c.part_at-part.ensures in (
-      omega arith,
+    let read = c.in_ok-part.ensures in (
       read.2,
-      search rules,
-      repeats-next (marked_part a.own a.rules) _ _ a.s.now c.loop-i.place c.loop-i-test.true read.1
+      repeats-next (marked_part a.own a.rules) _ _ a.s.now c.loop-i.next c.loop-i-test.true read.1
           (λ ms f.
           filled_next part_row 4 c.loop-i.i a.table.now c.loop-i.table ms read.0 refl f
-          c.part_at-part.result.row
+          c.in_ok-part.part.value
           c.write_row.new.tail
           read.3
           c.write_row.ensures)
-          c.loop-i.invariant.3,
+          c.loop-i.invariant.1,
     )
-
-pub shape_of-table : goal.shape_of-table
-shape_of-table c = c.loop-i.invariant.2
 
 pub returns : goal.returns
 returns c =
     let a = c.args in
     let e : c.loop-i.i ≡ a.count = omega arith in
-    let all =
-    repeats-end (marked_part a.own a.rules) a.count c.loop-i.i a.s.now c.loop-i.place c.loop-i-test.false
-    c.loop-i.invariant.1 c.loop-i.invariant.3 in
+    let all = repeats-end (marked_part a.own a.rules) a.count c.loop-i.i a.s.now c.loop-i.next c.loop-i-test.false
+    c.loop-i.invariant.0 c.loop-i.invariant.1 in
     (all.0, all.1, all.2, filled-all part_row 4 c.loop-i.i a.count a.table.now c.loop-i.table all.0 e all.3)

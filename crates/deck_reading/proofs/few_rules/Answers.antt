@@ -18,24 +18,22 @@ use Rattle.deck_reading.proofs.few_rules.Goals as goal
 none : {s : List ℕ} → ((f : Form) (g : Got Marked) → marked_sections f s 0 ≡ accepted g → ⊥) → FewRules s false
 none h = record { right = λ f g e. absurd (h f g e); low = λ e. absurd (false≢true e) }
 
-pub returns : goal.returns
-returns c =
+pub returns-in_default : goal.returns-in_default
+returns-in_default c = none (λ f g e. omega (arith, c.in_default.ensures.item.3, (rule-count f _ g e).0))
+
+pub returns-in-Some-get : goal.returns-in-Some-get
+returns-in-Some-get c =
     let s = c.args.deck.now in
-    let told : c.wide.result ≡ rules_at s
-    = c.wide.ensures ∙ ap (λ k. get_or s (1 + k) 0) c.wide-channels.ensures in
+    let channels : c.from.result ≡ get_or s 0 0 = c.from.ensures ∙ c.in-Some.ensures.item.3.1 0 in
+    let told : c.from-in-Some-get.result ≡ rules_at s
+    = c.from-in-Some-get.ensures ∙ c.in-Some-get.ensures.lookup.3.1 0 ∙ ap (λ k. get_or s (1 + k) 0) channels in
     record {
       right = λ f g e. ap (λ n. leb n 16) (told ∙ sym (rule-count f s g e).1);
-      low = λ e. omega (arith, told, leb-true c.wide.result 16 e);
+      low = λ e. omega (arith, told, leb-true c.from-in-Some-get.result 16 e);
     }
 
-pub returns-then-deck-eq0 : goal.returns-then-deck-eq0
-returns-then-deck-eq0 c = none (λ f g e. omega (arith, c.if-deck-eq0.true, (rule-count f _ g e).0))
-
-pub overflow_sub-deck : goal.overflow_sub-deck
-overflow_sub-deck c = omega (arith, c.if-deck-eq0.false)
-
-pub returns-then-deck-channels : goal.returns-then-deck-channels
-returns-then-deck-channels c = none (λ f g e. omega (arith, c.if-deck-channels.true, c.wide-channels.ensures, (rule-count f _ g e).0))
-
-pub bounds-deck-channels : goal.bounds-deck-channels
-bounds-deck-channels c = omega (arith, c.if-deck-channels.false)
+pub returns-in-None : goal.returns-in-None
+returns-in-None c =
+    let s = c.args.deck.now in
+    let channels : c.from.result ≡ get_or s 0 0 = c.from.ensures ∙ c.in-Some.ensures.item.3.1 0 in
+    none (λ f g e. omega (arith, channels, c.in-None.ensures.lookup.3, (rule-count f s g e).0))

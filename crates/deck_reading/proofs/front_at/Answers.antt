@@ -1,69 +1,82 @@
 -- `deck_reading::front_at` meets its contract: count of channels, labels, count of rules and rules, one after the other. Assumes nothing.
 use mathlib.Core.Path.{refl}
 use native.Mathlib.Omega.{arith}
-use lib.ListN.{drop}
-use Rattle.deck.proofs.Laws.Turns.{got-value, number-below}
+use Rattle.std.proofs.Common.{Ok, Err}
+use Rattle.deck.proofs.Laws.Turns.{got-value, number-below, kept-below, hands_on_kept}
 use Rattle.deck.proofs.Laws.RuleCount.{count-read}
 use Rattle.deck.proofs.Laws.DeckSteps.{no-channels, no-labels, no-rules, front_read}
 use Rattle.deck_reading.proofs.front_at.Goals as goal
 
-pub returns-in_default : goal.returns-in_default
-returns-in_default c =
-    let a = c.args in
-    rw (c.no_front.ensures, c.in_default.is)
-    (no-channels a.form a.s.now (rw c.in_default.is at c.number_at-r.ensures))
+pub returns-in_err-channels : goal.returns-in_err-channels
+returns-in_err-channels c =
+    hands_on_kept _ _ _ _ _ c.from_residual.ensures.1 (no-channels c.args.form c.args.s.now c.in_err-channels.ensures)
 
-pub labels_at-after-requires : goal.labels_at-after-requires
-labels_at-after-requires c =
-    let read = rw c.in-Next.is at c.number_at-r.ensures in
-    read.2
+pub labels_at-requires : goal.labels_at-requires
+labels_at-requires c = c.in_ok-channels.ensures.2
 
-pub returns-in_default-after : goal.returns-in_default-after
-returns-in_default-after c =
+pub returns-in_err-rules_at : goal.returns-in_err-rules_at
+returns-in_err-rules_at c =
     let a = c.args in
-    let read = rw c.in-Next.is at c.number_at-r.ensures in
-    let got = got-value a.s.now c.in-Next.labels c.number_at-r.result.value read in
-    rw (c.no_front-in_default-after.ensures, c.in_default-after.is)
-    (no-labels a.form a.s.now c.number_at-r.result.value c.in-Next.labels got
-    (rw c.in_default-after.is at c.labels_at-after.ensures))
+    let channels = c.in_ok-channels.field-0 in
+    hands_on_kept _ _ _ _ _ c.from_residual-in_err-rules_at.ensures.1
+    (no-labels a.form a.s.now channels.value channels.next
+    (got-value a.s.now channels.next channels.value c.in_ok-channels.ensures)
+    c.in_err-rules_at.ensures)
 
-pub returns-in_default-count : goal.returns-in_default-count
-returns-in_default-count c =
+pub returns-in_err-rules : goal.returns-in_err-rules
+returns-in_err-rules c =
     let a = c.args in
-    let read = rw c.in-Next.is at c.number_at-r.ensures in
-    let got = got-value a.s.now c.in-Next.labels c.number_at-r.result.value read in
-    let labels = rw c.in-Next-after.is at c.labels_at-after.ensures in
-    rw (c.no_front-in_default-count.ensures, c.in_default-count.is)
-    (no-rules a.form a.s.now c.number_at-r.result.value c.in-Next.labels got
-    labels.0 c.in-Next-after.rules_at labels.1
-    (rw c.in_default-count.is at c.number_at-m.ensures))
+    let channels = c.in_ok-channels.field-0 in
+    let labels = c.in_ok-rules_at.ensures in
+    hands_on_kept _ _ _ _ _ c.from_residual-in_err-rules.ensures.1
+    (no-rules a.form a.s.now channels.value channels.next
+    (got-value a.s.now channels.next channels.value c.in_ok-channels.ensures)
+    labels.0 c.in_ok-rules_at.rules_at labels.1
+    c.in_err-rules.ensures)
 
-pub rules_at-last-requires : goal.rules_at-last-requires
-rules_at-last-requires c =
+pub rules_at-requires : goal.rules_at-requires
+rules_at-requires c =
+    let s = c.args.s.now in
+    let channels = c.in_ok-channels.field-0 in
+    let got = got-value s channels.next channels.value c.in_ok-channels.ensures in
+    let rules = c.in_ok-rules.field-0 in
+    let got_rules = got-value s rules.next rules.value c.in_ok-rules.ensures in
+    let told = (count-read s _ got _ c.in_ok-rules_at.ensures.1 _ got_rules).1 in
+    let few = kept-below 0 65 s c.in_ok-rules_at.rules_at rules.next rules.value c.in_ok-rules.ensures in (
+      c.in_ok-rules.ensures.2,
+      omega (arith, number-below 1 33 s 0 _ got),
+      omega (arith, told, c.requires (omega (arith, told, few))),
+    )
+
+pub returns-in_err-next : goal.returns-in_err-next
+returns-in_err-next c =
     let a = c.args in
-    let read = rw c.in-Next.is at c.number_at-r.ensures in
-    let got = got-value a.s.now c.in-Next.labels c.number_at-r.result.value read in
-    let channels = number-below 1 33 a.s.now 0 _ got in
-    let labels = rw c.in-Next-after.is at c.labels_at-after.ensures in
-    let count = rw c.in-Next-count.is at c.number_at-m.ensures in
-    let got_count = got-value a.s.now c.in-Next-count.from c.number_at-m.result.value count in
-    let rules = number-below 0 65 (drop c.in-Next-after.rules_at a.s.now) c.in-Next-after.rules_at _ got_count in
-    let told = (count-read a.s.now _ got _ labels.1 _ got_count).1 in
-    (count.2, omega (arith, channels), omega (arith, told, c.requires (omega (arith, told, rules))))
+    let channels = c.in_ok-channels.field-0 in
+    let labels = c.in_ok-rules_at.ensures in
+    let rules = c.in_ok-rules.field-0 in
+    hands_on_kept _ _ _ _ _ c.from_residual-in_err-next.ensures.1
+    (front_read a.form a.s.now channels.value channels.next
+    (got-value a.s.now channels.next channels.value c.in_ok-channels.ensures)
+    labels.0 c.in_ok-rules_at.rules_at labels.1
+    rules.value rules.next
+    (got-value a.s.now rules.next rules.value c.in_ok-rules.ensures)
+    (λ _. Unit {0}) (λ _. Unit {0}) (Err c.in_err-next.field-0.0)
+    (λ ms p. tt)
+    c.in_err-next.ensures)
 
 pub returns : goal.returns
 returns c =
     let a = c.args in
-    let read = rw c.in-Next.is at c.number_at-r.ensures in
-    let got = got-value a.s.now c.in-Next.labels c.number_at-r.result.value read in
-    let channels = number-below 1 33 a.s.now 0 _ got in
-    let labels = rw c.in-Next-after.is at c.labels_at-after.ensures in
-    let count = rw c.in-Next-count.is at c.number_at-m.ensures in
-    let got_count = got-value a.s.now c.in-Next-count.from c.number_at-m.result.value count in
-    let rules = number-below 0 65 (drop c.in-Next-after.rules_at a.s.now) c.in-Next-after.rules_at _ got_count in
-    front_read a.form a.s.now c.number_at-r.result.value c.in-Next.labels got
-    labels.0 c.in-Next-after.rules_at labels.1
-    c.number_at-m.result.value c.in-Next-count.from got_count
-    _ _ c.rules_at-last.result
-    (λ ms p. (refl, refl, refl, omega (arith, channels), omega (arith, rules), p))
-    c.rules_at-last.ensures
+    let channels = c.in_ok-channels.field-0 in
+    let labels = c.in_ok-rules_at.ensures in
+    let rules = c.in_ok-rules.field-0 in
+    let got = got-value a.s.now channels.next channels.value c.in_ok-channels.ensures in
+    let below = number-below 1 33 a.s.now 0 _ got in
+    let few = kept-below 0 65 a.s.now c.in_ok-rules_at.rules_at rules.next rules.value c.in_ok-rules.ensures in
+    front_read a.form a.s.now channels.value channels.next got
+    labels.0 c.in_ok-rules_at.rules_at labels.1
+    rules.value rules.next
+    (got-value a.s.now rules.next rules.value c.in_ok-rules.ensures)
+    _ _ (Ok c.in_ok-next.next)
+    (λ ms p. (refl, refl, refl, omega (arith, below), omega (arith, few), p))
+    c.in_ok-next.ensures

@@ -6,20 +6,19 @@ use Rattle.deck.specs.Sections.{offset_of}
 use Rattle.deck.proofs.Laws.Stretches.{offset-end}
 use Rattle.deck_reading.proofs.offset.Goals as goal
 
-pub returns-then-number-eq0 : goal.returns-then-number-eq0
+pub returns-in-0 : goal.returns-in-0
 unfolding offset_of
-returns-then-number-eq0 c = search rules
+returns-in-0 c = search rules
 
-pub returns-then-number-eq1 : goal.returns-then-number-eq1
+pub returns-in-1 : goal.returns-in-1
 unfolding offset_of
-returns-then-number-eq1 c = search rules
+returns-in-1 c = search rules
 
-pub returns-then-number-eq2 : goal.returns-then-number-eq2
+pub returns-in-2 : goal.returns-in-2
 unfolding offset_of
-returns-then-number-eq2 c = search rules
+returns-in-2 c = search rules
 
-pub returns : goal.returns
-returns c =
+pub returns-in_default : goal.returns-in_default
+returns-in_default c =
     let a = c.args in
-    sym (offset-end a.deck.rules_at a.deck.parts_at a.end a.number
-    (omega (arith, c.if-number-eq2.false, c.if-number-eq1.false, c.if-number-eq0.false)))
+    sym (offset-end a.deck.rules_at a.deck.parts_at a.end a.number (omega arith))

@@ -2,54 +2,61 @@
 -- nothing.
 use native.Mathlib.Omega.{arith}
 use lib.ListN.{drop}
-use Rattle.deck.proofs.Laws.Turns.{got-value}
+use Rattle.std.proofs.Common.{Ok, Err}
+use Rattle.deck.proofs.Laws.Turns.{got-value, hands_on_kept}
 use Rattle.deck.proofs.Laws.RuleOffsets.{rule-fault, events-fault, default-fault, rule-reads}
 use Rattle.deck_rules.proofs.rule_at.Goals as goal
 
-pub returns-in_default : goal.returns-in_default
-returns-in_default c =
+pub returns-in_err-count : goal.returns-in_err-count
+returns-in_err-count c =
     let a = c.args in
-    let told = c.in_default.is in
-    rw (c.no_rule.ensures, told) (rule-fault a.form a.own (drop a.at a.s.now) a.at (rw told at c.number_at-n.ensures))
+    hands_on_kept _ _ _ _ _ c.from_residual.ensures.1 (rule-fault a.form a.own (drop a.at a.s.now) a.at c.in_err-count.ensures)
 
-pub rising_at-events-requires : goal.rising_at-events-requires
-rising_at-events-requires c =
-    let read = rw c.in-Next.is at c.number_at-n.ensures in
-    (read.2, omega (arith, c.requires))
+pub rising_at-requires : goal.rising_at-requires
+rising_at-requires c = (c.in_ok-count.ensures.2, omega (arith, c.requires))
 
-pub returns-in_default-second : goal.returns-in_default-second
-returns-in_default-second c =
+pub returns-in_err-events : goal.returns-in_err-events
+returns-in_err-events c =
     let a = c.args in
-    let told = c.in_default-second.is in
-    let read = rw c.in-Next.is at c.number_at-n.ensures in
-    let got = got-value a.s.now c.in-Next.events_at c.number_at-n.result.value read in
-    rw (c.no_rule-in_default-second.ensures, told)
-    (events-fault a.form a.own a.s.now a.at c.number_at-n.result.value c.in-Next.events_at got
-    (rw told at c.rising_at-events.ensures))
+    let count = c.in_ok-count.count in
+    hands_on_kept _ _ _ _ _ c.from_residual-in_err-events.ensures.1
+    (events-fault a.form a.own a.s.now a.at count.value count.next (got-value a.s.now count.next count.value c.in_ok-count.ensures)
+    c.in_err-events.ensures)
 
-pub returns-in_default-third : goal.returns-in_default-third
-returns-in_default-third c =
+pub returns-in_err-default : goal.returns-in_err-default
+returns-in_err-default c =
     let a = c.args in
-    let told = c.in_default-third.is in
-    let read = rw c.in-Next.is at c.number_at-n.ensures in
-    let got = got-value a.s.now c.in-Next.events_at c.number_at-n.result.value read in
-    let events = rw c.in-Next-second.is at c.rising_at-events.ensures in
-    rw (c.no_rule-in_default-third.ensures, told)
-    (default-fault a.form a.own a.s.now a.at c.number_at-n.result.value c.in-Next.events_at got
-    events.0 c.in-Next-second.default_from events.1
-    (rw told at c.default_at-default.ensures))
+    let count = c.in_ok-count.count in
+    let events = c.in_ok-events.ensures in
+    hands_on_kept _ _ _ _ _ c.from_residual-in_err-default.ensures.1
+    (default-fault a.form a.own a.s.now a.at count.value count.next (got-value a.s.now count.next count.value c.in_ok-count.ensures)
+    events.0 c.in_ok-events.events.next events.1
+    c.in_err-default.ensures)
+
+pub returns-in_err-task : goal.returns-in_err-task
+returns-in_err-task c =
+    let a = c.args in
+    let count = c.in_ok-count.count in
+    let events = c.in_ok-events.ensures in
+    let default = c.in_ok-default.ensures in
+    hands_on_kept _ _ _ _ _ c.from_residual-in_err-task.ensures.1
+    (rule-reads a.form a.own a.s.now a.at count.value count.next (got-value a.s.now count.next count.value c.in_ok-count.ensures)
+    events.0 c.in_ok-events.events.next events.1
+    default.0 c.in_ok-default.default.next c.in_ok-events.events.value c.in_ok-default.default.value
+    0 0 0 0 (Err c.in_err-task.field-0.0)
+    events.3 default.3 default.1
+    c.in_err-task.ensures)
 
 pub returns : goal.returns
 returns c =
     let a = c.args in
-    let read = rw c.in-Next.is at c.number_at-n.ensures in
-    let got = got-value a.s.now c.in-Next.events_at c.number_at-n.result.value read in
-    let events = rw c.in-Next-second.is at c.rising_at-events.ensures in
-    let default = rw c.in-Next-third.is at c.default_at-default.ensures in
-    let t = c.task_at-t.result in
-    rule-reads a.form a.own a.s.now a.at c.number_at-n.result.value c.in-Next.events_at got
-    events.0 c.in-Next-second.default_from events.1
-    default.0 c.in-Next-third.task_from c.rising_at-events.result.mask c.default_at-default.result.mask
-    t.kind t.condition t.action t.targets t.step
+    let count = c.in_ok-count.count in
+    let events = c.in_ok-events.ensures in
+    let default = c.in_ok-default.ensures in
+    let task = c.in_ok-task.field-0.value in
+    rule-reads a.form a.own a.s.now a.at count.value count.next (got-value a.s.now count.next count.value c.in_ok-count.ensures)
+    events.0 c.in_ok-events.events.next events.1
+    default.0 c.in_ok-default.default.next c.in_ok-events.events.value c.in_ok-default.default.value
+    task.kind task.condition task.action task.targets (Ok c.in_ok-task.field-0.next)
     events.3 default.3 default.1
-    c.task_at-t.ensures
+    c.in_ok-task.ensures

@@ -4,60 +4,46 @@ use mathlib.Core.Path.{◌≡◌, refl, ap}
 use native.Mathlib.Omega.{arith}
 use native.Mathlib.Nat.{sub-zero}
 use lib.ListN.{length, length-take, length-drop}
-use borrow.Author.Rules.{rules}
 use Rattle.deck.specs.Marks.{marked_rule, rule_row}
-use Rattle.deck.proofs.Laws.Turns.{turns-none, repeats-next, repeats-fault, repeats-end}
+use Rattle.deck.proofs.Laws.Turns.{turns-none, repeats-next, repeats-fault, repeats-end, hands-on}
 use Rattle.deck.proofs.Laws.Rows.{filled_none, filled_next, filled-all}
 use Rattle.deck_rules.proofs.rules_at.Goals as goal
 
 pub loop-i-init : goal.loop-i-init
-loop-i-init c = (omega arith, c.requires.0, refl, rw sub-zero (turns-none (filled_none rule_row 8 _)))
+loop-i-init c = (c.requires.0, rw sub-zero (turns-none (filled_none rule_row 8 _)))
 
-pub rule_at-rule-requires : goal.rule_at-rule-requires
-rule_at-rule-requires c = c.requires.1
-
-pub shape_of-table-in_default : goal.shape_of-table-in_default
-shape_of-table-in_default c = c.loop-i.invariant.2
-
-pub returns-in_default : goal.returns-in_default
-returns-in_default c =
+pub returns-in_err-rule : goal.returns-in_err-rule
+returns-in_err-rule c =
     let a = c.args in
-    let read = rw c.in_default.is at c.rule_at-rule.ensures in
-    rw c.in_default.is
-    (repeats-fault (marked_rule a.form a.own) _ _ a.s.now c.loop-i.place c.loop-i-test.true read c.loop-i.invariant.3)
+    hands-on _ _ _ _ _ c.from_residual.ensures.1
+    (repeats-fault (marked_rule a.form a.own) _ _ a.s.now c.loop-i.next c.loop-i-test.true c.in_err-rule.ensures c.loop-i.invariant.1)
 
 pub write_row-requires : goal.write_row-requires
 unfolding rule_row
 write_row-requires c =
-    let read = rw c.in-Next.is at c.rule_at-rule.ensures in
-    let size = ap length read.3 in
+    let size = ap length c.in_ok-rule.ensures.3 in
     simp (length-take, length-drop) (omega (arith, size, c.requires.2))
 
 pub loop-i-preserved : goal.loop-i-preserved
 unfolding rule_row
 loop-i-preserved c =
     let a = c.args in
-    let read = rw c.in-Next.is at c.rule_at-rule.ensures in (
-      omega arith,
+    let read = c.in_ok-rule.ensures in (
       read.2,
-      search rules,
-      repeats-next (marked_rule a.form a.own) _ _ a.s.now c.loop-i.place c.loop-i-test.true read.1
+      repeats-next (marked_rule a.form a.own) _ _ a.s.now c.loop-i.next c.loop-i-test.true read.1
           (λ ms f.
           filled_next rule_row 8 c.loop-i.i a.table.now c.loop-i.table ms read.0 refl f
-          c.rule_at-rule.result.row
+          c.in_ok-rule.rule.value
           c.write_row.new.tail
           read.3
           c.write_row.ensures)
-          c.loop-i.invariant.3,
+          c.loop-i.invariant.1,
     )
-
-pub shape_of-table : goal.shape_of-table
-shape_of-table c = c.loop-i.invariant.2
 
 pub returns : goal.returns
 returns c =
     let a = c.args in
     let e : c.loop-i.i ≡ a.count = omega arith in
-    let all = repeats-end (marked_rule a.form a.own) a.count c.loop-i.i a.s.now c.loop-i.place c.loop-i-test.false
-    c.loop-i.invariant.1 c.loop-i.invariant.3 in
+    let all = repeats-end (marked_rule a.form a.own) a.count c.loop-i.i a.s.now c.loop-i.next c.loop-i-test.false
+    c.loop-i.invariant.0 c.loop-i.invariant.1 in
     (all.0, all.1, all.2, filled-all rule_row 8 c.loop-i.i a.count a.table.now c.loop-i.table all.0 e all.3)

@@ -1,7 +1,6 @@
 -- Lists of bytes: every element is below 256. Assumes nothing.
-use Rattle.std.specs.Prelude.{ℕ, ◌<◌, ◌≡◌, true, List, ltb, length, get_or}
+use Rattle.std.specs.Prelude.{ℕ, ◌<◌, List, ltb, length, get_or}
 use Rattle.std.proofs.Common.{ltb-true}
-use Rattle.lists.specs.Lists.{all_of}
 use Rattle.lists.specs.Laws.Alls.{all_of-at}
 use Rattle.expression.specs.Bytes.{Bytes}
 

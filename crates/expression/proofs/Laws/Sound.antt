@@ -1,6 +1,7 @@
 -- No fault is found exactly where the bytes are the expression that is awaited. Assumes nothing.
 use Prim.Native.Nat.{ℕ, zero, suc, ◌+◌, ◌-◌, ◌≤◌, ◌<◌}
-use Rattle.std.specs.Prelude.{◌≡◌, Bool, cond, leb, ℤ, get_or}
+use Rattle.std.specs.Prelude.{◌≡◌, Bool, cond, leb, ℤ, get_or, Ok, Err}
+use Rattle.refusals.specs.declared.Fault.{Fault}
 use Rattle.std.proofs.Math.Path.{refl, ap, subst}
 use Rattle.std.proofs.Common.{sym, ◌∙◌, arith, drop_of_length-le, drop-cons}
 use Rattle.std.proofs.Math.Bool.{true, false}
@@ -39,7 +40,6 @@ use Rattle.expression.specs.declared.NumOp.{NumOp}
 use Rattle.expression.specs.declared.NumOp.TheVariants as OfNum
 use Rattle.expression.specs.declared.TruthOp.{TruthOp}
 use Rattle.expression.specs.declared.TruthOp.TheVariants as OfTruth
-use Rattle.expression.specs.declared.Search.TheVariants as Of
 
 -- there is a fault
 abbrev pub Faulty : Found → Type 0
@@ -92,8 +92,8 @@ moved-agrees k nothing (faulty n p) h = tt
 module _ (sc : Scope) (s : List ℕ) where
   -- what a reader gives for the values vs, in terms of faults: they end where it says; or they have a fault, and it gives nothing
   data Tells {A : Type 0} (vs : List Awaited) (at : ℕ) : Read A → Type 0 where
-    ends : {a : A} {n : ℕ} → Searched sc s vs at (Of.After n) → Tells vs at (got a n)
-    fails : {k p : ℕ} → Searched sc s vs at (Of.Fault k p) → Tells vs at nothing
+    ends : {a : A} {n : ℕ} → Searched sc s vs at (Ok n) → Tells vs at (got a n)
+    fails : {f : Fault} → Searched sc s vs at (Err f) → Tells vs at nothing
 
   -- what was read with something made of it
   made : {A B : Type 0} {vs : List Awaited} {at : ℕ} (f : A → B) (r : Read A) → Tells vs at r → Tells vs at (then r (λ a n. got (f a) n))
@@ -106,15 +106,15 @@ module _ (sc : Scope) (s : List ℕ) where
   made-of-two {A} {B} v at f go (got x n) (ends t) u = second (go n) (u n t.says.0)
     where
       second : (r : Read A) → Tells (v ∷ []) n r → Tells (v ∷ v ∷ []) at (then r (λ y m. got (f x y) m))
-      second (got y m) (ends w) = ends (by_two sc s v (v ∷ []) at t (Of.After m) w)
-      second nothing (fails {k} {p} w) = fails (by_two sc s v (v ∷ []) at t (Of.Fault k p) w)
+      second (got y m) (ends w) = ends (by_two sc s v (v ∷ []) at t (Ok m) w)
+      second nothing (fails {f} w) = fails (by_two sc s v (v ∷ []) at t (Err f) w)
   made-of-two v at f go nothing (fails t) u = fails (by_first sc s v (v ∷ []) at t)
 
   -- a byte that is taken: what is told of what it asks for is told of it
   asked : {A : Type 0} {w : Awaited} {us : List Awaited} {at : ℕ} → at < length s → judgement sc w (get_or s at 0) ≡ asks_for us
       → (r : Read A) → Tells us (at + 1) r → Tells (w ∷ []) at r
-  asked {A} {w} {us} {at} h e (got a n) (ends t) = ends (by-asking sc s w at h e (Of.After n) t)
-  asked {A} {w} {us} {at} h e nothing (fails {k} {p} t) = fails (by-asking sc s w at h e (Of.Fault k p) t)
+  asked {A} {w} {us} {at} h e (got a n) (ends t) = ends (by-asking sc s w at h e (Ok n) t)
+  asked {A} {w} {us} {at} h e nothing (fails {f} t) = fails (by-asking sc s w at h e (Err f) t)
 
   -- ---- literals and channels
 

@@ -1,36 +1,41 @@
 -- `expression_types::truth_end` meets its contract. It calls itself where fewer bytes are left. Assumes nothing.
-use Rattle.expression_types.proofs.Checking.{no_truth, as-constant, as-no-truth, as-not}
+use native.Mathlib.Omega.{arith}
+use Rattle.expression_types.proofs.Checking.{op-here, no_truth, as-constant, as-no-truth, as-not}
 use Rattle.expression_types.proofs.Checking.{as-both, as-both-nothing, as-compared, as-compared-nothing}
 use Rattle.expression_types.proofs.+truth_end.Goals as goal
 
-pub returns-then-bytes-at : goal.returns-then-bytes-at
-returns-then-bytes-at t c = no_truth _ _ _ c.if-bytes-at.true
+pub returns-in_err-get : goal.returns-in_err-get
+returns-in_err-get t c =
+    let outside = c.in_err-get.ensures.lookup in
+    rw c.from_residual.ensures (no_truth _ _ _ (omega arith))
 
 pub returns-in-Constant : goal.returns-in-Constant
-returns-in-Constant t c = as-constant (record { inside = c.if-bytes-at.false; is = c.truth_op-op.ensures }) c.in-Constant.is
+returns-in-Constant t c = as-constant (op-here c.in_ok-get.ensures.lookup.3 c.truth_op-op.ensures) c.in-Constant.is
 
 pub returns-in-Not : goal.returns-in-Not
-returns-in-Not t c = as-not (record { inside = c.if-bytes-at.false; is = c.truth_op-op.ensures }) c.in-Not.is c.truth_end.ensures
+returns-in-Not t c = as-not (op-here c.in_ok-get.ensures.lookup.3 c.truth_op-op.ensures) c.in-Not.is c.truth_end.ensures
 
-pub returns-then-n-eq0 : goal.returns-then-n-eq0
-returns-then-n-eq0 t c =
-    as-both-nothing (record { inside = c.if-bytes-at.false; is = c.truth_op-op.ensures }) c.in-Both.is c.truth_end-n.ensures
-    c.if-n-eq0.true
+pub returns-in_err-n-in-Both : goal.returns-in_err-n-in-Both
+returns-in_err-n-in-Both t c =
+    rw c.from_residual-in_err-n-in-Both.ensures (as-both-nothing (op-here c.in_ok-get.ensures.lookup.3 c.truth_op-op.ensures) c.in-Both.is
+    (rw c.in_err-n-in-Both.was at c.truth_end-in-Both.ensures))
 
-pub returns-else-n-eq0 : goal.returns-else-n-eq0
-returns-else-n-eq0 t c =
-    as-both (record { inside = c.if-bytes-at.false; is = c.truth_op-op.ensures }) c.in-Both.is c.truth_end-n.ensures
-    c.if-n-eq0.false c.truth_end-else-n-eq0.ensures
+pub returns-in_ok-n-in-Both : goal.returns-in_ok-n-in-Both
+returns-in_ok-n-in-Both t c =
+    as-both (op-here c.in_ok-get.ensures.lookup.3 c.truth_op-op.ensures) c.in-Both.is
+    (rw c.in_ok-n-in-Both.was at c.truth_end-in-Both.ensures)
+    c.truth_end-in-Both-2.ensures
 
-pub returns-then-n-eq0-2 : goal.returns-then-n-eq0-2
-returns-then-n-eq0-2 t c =
-    as-compared-nothing (record { inside = c.if-bytes-at.false; is = c.truth_op-op.ensures }) c.in-Two.is c.num_end-n.ensures
-    c.if-n-eq0-2.true
+pub returns-in_err-n-in-Two : goal.returns-in_err-n-in-Two
+returns-in_err-n-in-Two t c =
+    rw c.from_residual-in_err-n-in-Two.ensures (as-compared-nothing (op-here c.in_ok-get.ensures.lookup.3 c.truth_op-op.ensures) c.in-Two.is
+    (rw c.in_err-n-in-Two.was at c.num_end.ensures))
 
-pub returns-else-n-eq0-2 : goal.returns-else-n-eq0-2
-returns-else-n-eq0-2 t c =
-    as-compared (record { inside = c.if-bytes-at.false; is = c.truth_op-op.ensures }) c.in-Two.is c.num_end-n.ensures
-    c.if-n-eq0-2.false c.num_end.ensures
+pub returns-in_ok-n-in-Two : goal.returns-in_ok-n-in-Two
+returns-in_ok-n-in-Two t c =
+    as-compared (op-here c.in_ok-get.ensures.lookup.3 c.truth_op-op.ensures) c.in-Two.is
+    (rw c.in_ok-n-in-Two.was at c.num_end.ensures)
+    c.num_end-in-Two.ensures
 
 pub returns-in-Unknown : goal.returns-in-Unknown
-returns-in-Unknown t c = as-no-truth (record { inside = c.if-bytes-at.false; is = c.truth_op-op.ensures }) c.in-Unknown.is
+returns-in-Unknown t c = as-no-truth (op-here c.in_ok-get.ensures.lookup.3 c.truth_op-op.ensures) c.in-Unknown.is

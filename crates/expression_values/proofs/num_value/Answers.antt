@@ -5,25 +5,24 @@ use mir.Val.{SFits}
 use mir.ValLaws.{to_z-of_z}
 use borrow.Author.Rules.{rules}
 use borrow.Author.Tests.{eq-eqb, ne_eqb}
-use Rattle.expression.specs.declared.NumValue.TheVariants.{Value}
+use Rattle.std.specs.Prelude.{Some}
 use Rattle.expression.proofs.Laws.WholeAnswers.{whole-num}
 use Rattle.expression_values.proofs.num_value.Goals as goal
 
-pub returns-then-n-s : goal.returns-then-n-s
-returns-then-n-s c =
+pub returns-in_err-value : goal.returns-in_err-value
+returns-in_err-value c =
     let a = c.args in
-    let d = rw c.in-Value.is at c.num_at.ensures in
-    let f : SFits w32 c.in-Value.v = search rules in
-    rw (← whole-num a.own.now a.far.now a.s.now d, eq-eqb _ _ c.if-n-s.true)
-    (ap Value (to_z-of_z w32 _ f))
+    rw c.from_residual.ensures (rw (← whole-num a.own.now a.far.now a.s.now (rw c.in_err-value.was at c.num_at.ensures)))
 
-pub returns-else-n-s : goal.returns-else-n-s
-returns-else-n-s c =
+pub returns-then-end-s : goal.returns-then-end-s
+returns-then-end-s c =
     let a = c.args in
-    let d = rw c.in-Value.is at c.num_at.ensures in
-    rw (← whole-num a.own.now a.far.now a.s.now d, ne_eqb _ _ c.if-n-s.false)
+    let d = rw c.in_ok-value.was at c.num_at.ensures in
+    let f : SFits w32 c.in_ok-value.value = search rules in
+    rw (← whole-num a.own.now a.far.now a.s.now d, eq-eqb _ _ c.if-end-s.true) (ap Some (to_z-of_z w32 _ f))
 
-pub returns-in-Nothing : goal.returns-in-Nothing
-returns-in-Nothing c =
+pub returns-else-end-s : goal.returns-else-end-s
+returns-else-end-s c =
     let a = c.args in
-    rw (← whole-num a.own.now a.far.now a.s.now (rw c.in-Nothing.is at c.num_at.ensures))
+    let d = rw c.in_ok-value.was at c.num_at.ensures in
+    rw (← whole-num a.own.now a.far.now a.s.now d, ne_eqb _ _ c.if-end-s.false)

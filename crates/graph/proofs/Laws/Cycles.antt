@@ -4,7 +4,7 @@ use Rattle.std.specs.Prelude.{ℕ, ◌<◌, ◌≡◌, ◌↔◌, true, List, []
 use Rattle.lists.specs.Laws.Booleans.{contradiction, not-true→false}
 use Rattle.lists.specs.Laws.Below.{none_below, select-first}
 use Rattle.deck.specs.Deck.{Deck, R}
-use Rattle.graph.specs.Graph.{Reaches, one, more, reaches_itself, assigns, edge, cyclic}
+use Rattle.graph.specs.Graph.{Reaches, one, more, reaches_itself, edge, cyclic}
 use Rattle.graph.proofs.Laws.Edges.{edge-found}
 use Rattle.graph.proofs.Laws.Reach.{reaches-itself}
 use Rattle.graph.specs.Acyclic.{Acyclic, KnownTargets}

@@ -1,8 +1,7 @@
 -- `graph::carried_by_some` meets its contract: the rules that a part below `p` carries are in the set. Assumes nothing.
 use Prim.Native.Nat.{◌*◌}
-use mathlib.Core.Path.{◌≡◌, sym, ap, ◌∙◌}
+use mathlib.Core.Path.{sym, ap, ◌∙◌}
 use mathlib.Core.Bool.{◌||◌}
-use native.Mathlib.Omega.{arith}
 use lib.ListN.{get_or}
 use Rattle.lists.specs.Lists.{lists}
 use Rattle.lists.specs.Bits.{bit}
@@ -13,23 +12,16 @@ use Rattle.graph.proofs.carried_by_some.Goals as goal
 
 pub loop-p-init : goal.loop-p-init
 unfolding carried_at lists
-loop-p-init c = (omega arith, record { each = λ r. bit-zero r })
+loop-p-init c = record { each = λ r. bit-zero r }
 
 pub loop-p-preserved : goal.loop-p-preserved
 unfolding carried_at
 loop-p-preserved c =
     let parts = c.args.parts.now in
-    let i = c.loop-p in (
-      omega arith,
-      record {
-        each = λ r.
-            bit-or i.set (get_or parts (4 * i.p) 0) r
-            ∙ ap (λ b. b || bit (get_or parts (4 * i.p) 0) r) (i.invariant.1.each r)
-            ∙ sym (any_of-more (λ p. bit (get_or parts (4 * p) 0) r) i.p);
-      },
-    )
-
-pub returns : goal.returns
-returns c =
-    let e : c.loop-p.p ≡ c.args.parts_count = omega arith in
-    record { each = λ r. c.loop-p.invariant.1.each r ∙ ap (λ n. carried_at c.args.parts.now n r) e }
+    let i = c.loop-p in
+    record {
+      each = λ r.
+          bit-or i.set (get_or parts (4 * i.p) 0) r
+          ∙ ap (λ b. b || bit (get_or parts (4 * i.p) 0) r) (i.invariant.each r)
+          ∙ sym (any_of-more (λ p. bit (get_or parts (4 * p) 0) r) i.p);
+    }

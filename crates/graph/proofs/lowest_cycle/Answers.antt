@@ -1,5 +1,6 @@
 -- `graph::lowest_cycle` meets its contract: no channel below `start` can reach itself, and the rounds made from `start`
 -- have not led back to it. Assumes nothing.
+use mathlib.Core.Path.{sym}
 use native.Mathlib.Omega.{arith}
 use borrow.Author.Count.{below_more}
 use Rattle.lists.specs.Laws.Bits.{bit_shifted}
@@ -7,40 +8,34 @@ use Rattle.lists.specs.Laws.BitTests.{bit-yes, bit-no}
 use Rattle.lists.specs.Laws.First.{first-is}
 use Rattle.graph.proofs.Searching.{searching-none, searching-more, searching-hit, searching-miss, searching-closed}
 use Rattle.graph.proofs.lowest_cycle.Goals as goal
-use Rattle.graph.proofs.lowest_cycle.Goals.{else-loop-round-test, then-loop-round-test+else-next-start-eq1+then-next-seen}
+use Rattle.graph.proofs.lowest_cycle.Goals.{else-loop-test, then-loop-test+else-next-start-eq1+then-next-seen}
 
-pub loop-round-preserved : goal.loop-round-preserved
-loop-round-preserved c = (
-  omega arith,
-  searching-more c.loop-round.invariant.1 c.search-test.true
-      c.spread-next.ensures
-      (bit-no _ _ c.if-next-start-eq1.false),
-)
+pub loop-init : goal.loop-init
+loop-init c = searching-none _ _ _ _ (bit_shifted 64 c.loop-start.start (omega arith))
 
-pub search-preserved : goal.search-preserved
-search-preserved c =
-    let h = c.loop-round.invariant.1 in
-    let l = c.search-test.true in (
-      omega arith,
-      below_more _ _ c.search.invariant.1
-          (elim c.loop-round-test.branch [
-            | else-loop-round-test w ↦ searching-miss h l (omega arith)
-            | then-loop-round-test+else-next-start-eq1+then-next-seen w ↦
-                searching-closed h l w.spread-next.ensures w.if-next-seen.true
-          ]),
-    )
+pub loop-preserved : goal.loop-preserved
+loop-preserved c =
+    searching-more c.loop.invariant c.loop-start-test.true c.spread-next.ensures (bit-no _ _ c.if-next-start-eq1.false)
 
-pub returns-after-search : goal.returns-after-search
-returns-after-search c = first-is _ _ _ (omega arith) (λ l. absurd (omega arith)) c.search.invariant.1
+pub loop-start-preserved : goal.loop-start-preserved
+loop-start-preserved c =
+    let h = c.loop.invariant in
+    let l = c.loop-start-test.true in
+    below_more _ _ c.loop-start.invariant
+    (elim c.loop-test.branch [
+      | else-loop-test w ↦ searching-miss h l (omega arith)
+      | then-loop-test+else-next-start-eq1+then-next-seen w ↦ searching-closed h l w.spread-next.ensures w.if-next-seen.true
+    ])
 
 pub returns-then-next-start-eq1 : goal.returns-then-next-start-eq1
 returns-then-next-start-eq1 c =
-    first-is _ _ _ (omega arith)
-    (λ m. searching-hit c.loop-round.invariant.1 m c.spread-next.ensures (bit-yes _ _ c.if-next-start-eq1.true))
-    c.search.invariant.1
+    let l = c.loop-start-test.true in (
+      sym (first-is _ _ _ (omega arith)
+          (λ m. searching-hit c.loop.invariant m c.spread-next.ensures (bit-yes _ _ c.if-next-start-eq1.true))
+          c.loop-start.invariant),
+      l,
+    )
 
-pub search-init : goal.search-init
-search-init c = (omega arith, λ k l. absurd (omega arith))
-
-pub loop-round-init : goal.loop-round-init
-loop-round-init c = (omega arith, searching-none _ _ _ _ (bit_shifted 64 c.search.start (omega arith)))
+pub returns : goal.returns
+returns c =
+    sym (first-is _ _ c.args.channels (omega arith) (λ l. absurd (omega arith)) (λ k l. c.loop-start.invariant k (omega arith)))
