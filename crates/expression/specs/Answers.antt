@@ -53,14 +53,14 @@ num_end sc fuel s at = end_of (num sc fuel s at)
 unfoldable pub truth_end : Scope → ℕ → List ℕ → ℕ → Read (Unit {0})
 truth_end sc fuel s at = end_of (truth sc fuel s at)
 
--- the code's answers, as readers give them
-abbrev pub of_num : Option (ℤ × ℕ) → Read ℤ
-of_num (Some (z, n)) = got z n
-of_num None = nothing
+-- the code's answers, as readers give them: n is the place that it has come to
+abbrev pub of_num : Option ℤ → ℕ → Read ℤ
+of_num (Some z) n = got z n
+of_num None n = nothing
 
-abbrev pub of_truth : Option (Bool × ℕ) → Read Bool
-of_truth (Some (b, n)) = got b n
-of_truth None = nothing
+abbrev pub of_truth : Option Bool → ℕ → Read Bool
+of_truth (Some b) n = got b n
+of_truth None n = nothing
 
 abbrev pub of_end : Option ℕ → Read (Unit {0})
 of_end (Some n) = got tt n

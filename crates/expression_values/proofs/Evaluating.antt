@@ -1,5 +1,5 @@
 -- Reading and then evaluating is evaluating straight: an operator's value is made of its operands' values. Assumes nothing.
-use Prim.Native.Nat.{ℕ, zero, suc, ◌+◌, ◌<◌, ◌≤◌}
+use Prim.Native.Nat.{ℕ, suc, ◌+◌, ◌<◌, ◌≤◌}
 use mathlib.Core.Path.{◌≡◌, refl, ap, ◌∙◌}
 use mathlib.Core.Bool.{Bool, not}
 use mathlib.Core.List.{List}
@@ -13,7 +13,6 @@ use Rattle.expression.specs.Values.{arith, join, comparison, evaluation}
 use Rattle.expression.specs.Reading.{Read, got, nothing, literal_at, channel_at, num_op, truth_op, num_operands, truth_operands}
 use Rattle.expression.specs.Answers.{map_read, Answers, scope, value_in, num_in, truth_in, num_at, truth_at}
 use Rattle.expression.specs.declared.Arith.{Arith}
-use Rattle.expression.specs.declared.Arith.TheVariants as OfArith
 use Rattle.expression.specs.declared.Join.{Join}
 use Rattle.expression.specs.declared.Compare.{Compare}
 use Rattle.expression.specs.declared.NumOp.{NumOp}
@@ -90,7 +89,7 @@ pub record NumHere (o f : List ℤ) (s : List ℕ) (at : ℕ) (op : NumOp) : Typ
   pub inside : at < length s
   pub is : op ≡ num_op (get_or s at 0)
 
--- the same, where the byte that was got there is b
+-- the byte that was got there is b
 pub op-here : {o f : List ℤ} {s : List ℕ} {at b : ℕ} {op : NumOp} → (at < length s) × ((d : ℕ) → b ≡ get_or s at d) → op ≡ num_op b
     → NumHere o f s at op
 op-here h e = record { inside = h.0; is = e ∙ ap num_op (h.1 0) }
@@ -122,18 +121,6 @@ module _ {o f : List ℤ} {s : List ℕ} {at : ℕ} {op : NumOp} (h : NumHere o 
 
     pub as-two-nothing : Answers (num_at o f) s (at + 1) nothing → Answers (num_at o f) s at nothing
     as-two-nothing = without-first (num_at o f) s at h.inside (num_at o f) (arith k) (step-num (OfNum.Two k) e)
-
--- a byte past the leaves that is neither an operation's nor the negation's is no operator's
-pub past-leaves : (b : ℕ) → 3 ≤ b → ((k : Arith) → ¬ (num_op b ≡ OfNum.Two k)) → ¬ (num_op b ≡ OfNum.Negation)
-    → num_op b ≡ OfNum.Unknown
-past-leaves zero l two_not negation_not = absurd (omega numbers)
-past-leaves (suc zero) l two_not negation_not = absurd (omega numbers)
-past-leaves (suc (suc zero)) l two_not negation_not = absurd (omega numbers)
-past-leaves (suc (suc (suc zero))) l two_not negation_not = absurd (two_not OfArith.Sum refl)
-past-leaves (suc (suc (suc (suc zero)))) l two_not negation_not = absurd (two_not OfArith.Difference refl)
-past-leaves (suc (suc (suc (suc (suc zero))))) l two_not negation_not = absurd (two_not OfArith.Product refl)
-past-leaves (suc (suc (suc (suc (suc (suc zero)))))) l two_not negation_not = absurd (negation_not refl)
-past-leaves (suc (suc (suc (suc (suc (suc (suc b))))))) l two_not negation_not = refl
 
 pub record TruthHere (o f : List ℤ) (s : List ℕ) (at : ℕ) (op : TruthOp) : Type 0 where
   pub inside : at < length s

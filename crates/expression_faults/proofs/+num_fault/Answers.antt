@@ -28,7 +28,8 @@ returns-in-Own t c =
 
 pub returns-then-far-eq0 : goal.returns-then-far-eq0
 returns-then-far-eq0 t c =
-    rw c.fault-then-far-eq0.ensures (as-no-far (record { inside = c.if-s-at.false; is = c.num_op-op.ensures }) c.in-Far.is c.if-far-eq0.true)
+    rw c.fault-then-far-eq0.ensures
+    (as-no-far (record { inside = c.if-s-at.false; is = c.num_op-op.ensures }) c.in-Far.is c.if-far-eq0.true)
 
 pub returns-else-far-eq0 : goal.returns-else-far-eq0
 returns-else-far-eq0 t c =

@@ -3,4 +3,4 @@ use Rattle.std.proofs.Common.{◌-◌, length}
 use Rattle.expression_values.proofs.+num_at.Given as goal
 
 abbrev pub decreases-num_at : goal.decreases-num_at
-decreases-num_at l = length l.s.now.now - l.at
+decreases-num_at l = length l.lent.now.bytes.now - l.at.now

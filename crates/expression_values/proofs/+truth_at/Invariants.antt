@@ -3,4 +3,4 @@ use Rattle.std.proofs.Common.{◌-◌, length}
 use Rattle.expression_values.proofs.+truth_at.Given as goal
 
 abbrev pub decreases-truth_at : goal.decreases-truth_at
-decreases-truth_at l = length l.s.now.now - l.at
+decreases-truth_at l = length l.lent.now.bytes.now - l.at.now

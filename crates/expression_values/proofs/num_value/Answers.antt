@@ -14,15 +14,15 @@ returns-in_err-value c =
     let a = c.args in
     rw c.from_residual.ensures (rw (← whole-num a.own.now a.far.now a.s.now (rw c.in_err-value.was at c.num_at.ensures)))
 
-pub returns-then-end-s : goal.returns-then-end-s
-returns-then-end-s c =
+pub returns-then-at-s : goal.returns-then-at-s
+returns-then-at-s c =
     let a = c.args in
     let d = rw c.in_ok-value.was at c.num_at.ensures in
     let f : SFits w32 c.in_ok-value.value = search rules in
-    rw (← whole-num a.own.now a.far.now a.s.now d, eq-eqb _ _ c.if-end-s.true) (ap Some (to_z-of_z w32 _ f))
+    rw (← whole-num a.own.now a.far.now a.s.now d, eq-eqb _ _ c.if-at-s.true) (ap Some (to_z-of_z w32 _ f))
 
-pub returns-else-end-s : goal.returns-else-end-s
-returns-else-end-s c =
+pub returns-else-at-s : goal.returns-else-at-s
+returns-else-at-s c =
     let a = c.args in
     let d = rw c.in_ok-value.was at c.num_at.ensures in
-    rw (← whole-num a.own.now a.far.now a.s.now d, ne_eqb _ _ c.if-end-s.false)
+    rw (← whole-num a.own.now a.far.now a.s.now d, ne_eqb _ _ c.if-at-s.false)

@@ -8,14 +8,14 @@ returns-in_err-value c =
     let a = c.args in
     rw c.from_residual.ensures (rw (← whole-truth a.own.now a.far.now a.s.now (rw c.in_err-value.was at c.truth_at.ensures)))
 
-pub returns-then-end-s : goal.returns-then-end-s
-returns-then-end-s c =
+pub returns-then-at-s : goal.returns-then-at-s
+returns-then-at-s c =
     let a = c.args in
     let d = rw c.in_ok-value.was at c.truth_at.ensures in
-    rw (← whole-truth a.own.now a.far.now a.s.now d, eq-eqb _ _ c.if-end-s.true)
+    rw (← whole-truth a.own.now a.far.now a.s.now d, eq-eqb _ _ c.if-at-s.true)
 
-pub returns-else-end-s : goal.returns-else-end-s
-returns-else-end-s c =
+pub returns-else-at-s : goal.returns-else-at-s
+returns-else-at-s c =
     let a = c.args in
     let d = rw c.in_ok-value.was at c.truth_at.ensures in
-    rw (← whole-truth a.own.now a.far.now a.s.now d, ne_eqb _ _ c.if-end-s.false)
+    rw (← whole-truth a.own.now a.far.now a.s.now d, ne_eqb _ _ c.if-at-s.false)
