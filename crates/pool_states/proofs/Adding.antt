@@ -5,15 +5,20 @@ use mathlib.Core.Path.{◌≡◌, refl, sym, ap, subst, ◌∙◌}
 use mathlib.Core.Bool.{Bool, true, false, not, ◌&&◌, cond, and-false}
 use mathlib.Core.List.{List, [], ◌∷◌}
 use native.Mathlib.Omega.{arith}
-use lib.ListN.{length, take, drop, replicate, length-take, length-drop}
-use lib.IntN.{ℤ}
+use lib.ListN.{length, get_or, take, drop, replicate, length-take, length-drop}
+use lib.IntN.{ℤ, pos, nat_abs}
+use Rattle.std.specs.Prelude.{None, Some}
 use Rattle.lists.specs.Lists.{lists, all_of, any_of, eq_z, eq_list}
 use Rattle.lists.specs.Laws.Alls.{all_of-append, all_of-at, all_of-cons, all_of-map, all_of-none}
 use Rattle.lists.specs.Laws.Booleans.{and_both, and_left, and_right, contradiction, not-true→false}
 use Rattle.lists.specs.Laws.Sums.{sum_of-append}
+use Rattle.lists.specs.Bits.{mask_of}
 use Rattle.deck.specs.Deck.{Deck}
+use Rattle.deck.specs.declared.Deck as Counted
+use Rattle.deck.specs.Shape.{shape, bits_of}
+use Rattle.deck.proofs.Laws.Shape.{counted-R, counted-N}
 use Rattle.charge.specs.Charge.{update_charge}
-use Rattle.charge.specs.Memo.{Memo, capped}
+use Rattle.charge.specs.Memo.{Memo, Answered, capped}
 use Rattle.pool.specs.Updates.{Update, channels, all_different, charge}
 use Rattle.pool.specs.Places.{update_of, well_written, places, updates_of}
 use Rattle.pool.specs.States.{known}
@@ -22,8 +27,9 @@ use Rattle.pool_index.specs.Index.{heads_of, Ends, Indexed, Roomy, Entering, Ent
 use Rattle.pool_index.specs.Laws.Entering.{entered-none, entered-next, roomy-heads}
 use Rattle.pool_index.specs.Laws.Front.{places-length, places-at, places-end}
 use Rattle.pool_index.specs.Laws.Indexed.{heads-same}
-use Rattle.pool_states.specs.Answer.{HoldsKnown, PlaceGives, all_fit, weight_of, Weighs}
-use Rattle.pool_states.specs.declared.Goodness.TheVariants.{Good, Bad}
+use Rattle.pool_states.specs.Fits.{within, IsNatural}
+use Rattle.pool_states.specs.Laws.Charges.{holds-natural, holds-number, holds-part, holds-charge}
+use Rattle.pool_states.specs.Answer.{HoldsKnown, PlaceGives, FitsPlace, all_fit, weight_of, Weighs}
 use Rattle.pool_states.specs.Laws.Indexing.{index-none}
 use Rattle.pool_states.specs.Laws.Shape.{fit-holds}
 use Rattle.pool_states.proofs.Different.{here, updates-end, different-next, different-stop}
@@ -91,8 +97,8 @@ pub record Adding (d : Deck) (n : ℕ) (pool : List ℤ) (index₀ m index : Lis
 
 module _ (d : Deck) (n : ℕ) (pool : List ℤ) where
   answer : (b : Bool) → (all_fit d n pool && all_different (updates_of n pool)) ≡ b
-      → cond b (Good (capped (charge d (updates_of n pool)))) Bad ≡ weight_of d n pool
-  answer b e = ap (λ b. cond b (Good (capped (charge d (updates_of n pool)))) Bad) (sym e)
+      → cond b (Some (capped (charge d (updates_of n pool)))) None ≡ weight_of d n pool
+  answer b e = ap (λ b. cond b (Some (capped (charge d (updates_of n pool)))) None) (sym e)
 
   pub adding-none : {m index : List ℕ} → Memo d m → Roomy n index → index ≡ replicate (length index) 0
       → Adding d n pool index m index 0 0
@@ -112,12 +118,12 @@ module _ (d : Deck) (n : ℕ) (pool : List ℤ) where
   adding-heads {index₀} {m} {index} a = heads-same index index₀ a.long
 
   pub adding-all : {index₀ m index : List ℕ} {total k : ℕ} → Adding d n pool index₀ m index total k → n ≤ k
-      → Weighs d n pool m index₀ index (Good total)
+      → Weighs d n pool m index₀ index (Some total)
   adding-all {index₀} {m} {index} {total} {k} a h =
       let e : k ≡ n = omega (arith, a.reached) in
       let both = and_both (ap (λ j. all_fit d j pool) (sym e) ∙ a.fit) (ap (λ j. all_different (updates_of j pool)) (sym e) ∙ a.different) in
       record {
-        answer = ap Good (a.same ∙ ap (λ j. capped (charge d (updates_of j pool))) e) ∙ answer true both;
+        answer = ap Some (a.same ∙ ap (λ j. capped (charge d (updates_of j pool))) e) ∙ answer true both;
         memo = a.memo;
         indexes = record { indexed = λ _. rw e at a.indexed; long = a.long };
       }
@@ -143,7 +149,7 @@ module _ (d : Deck) (n : ℕ) (pool : List ℤ) where
         }
 
     -- a place that does not fit
-    pub adding-unfit : fits d pool k l ≡ false → Weighs d n pool m index₀ index Bad
+    pub adding-unfit : fits d pool k l ≡ false → Weighs d n pool m index₀ index None
     adding-unfit f =
         let none = fit-stop d pool k n h (ap (fits d pool k) (sym (lent_same k pool)) ∙ f) in
         record {
@@ -151,9 +157,6 @@ module _ (d : Deck) (n : ℕ) (pool : List ℤ) where
           memo = a.memo;
           indexes = index-none a.long;
         }
-
-    pub adding-place : 10 * n ≤ length pool → fits d pool k l ≡ true → HoldsKnown d l
-    adding-place room e = fit-holds d l (lent_length n k pool h room) e
 
     module _ {m' : List ℕ} {c : ℕ} (f : fits d pool k l ≡ true) (g : PlaceGives d l m' c) where
       fit-here : fits d pool k (here pool k) ≡ true
@@ -167,7 +170,7 @@ module _ (d : Deck) (n : ℕ) (pool : List ℤ) where
           ∙ ap (λ x. all_different (updates_of k pool) && not (any_of (λ w. eq_list eq_z w x) (places k pool))) (sym (lent_same k pool))
 
       -- a place with the numbers of an earlier one
-      pub adding-twice : found ≡ true → Weighs d n pool m' index₀ index Bad
+      pub adding-twice : found ≡ true → Weighs d n pool m' index₀ index None
       adding-twice b =
           let twice = different ∙ ap (λ x. all_different (updates_of k pool) && not x) b ∙ and-false (all_different (updates_of k pool)) in
           record {
@@ -189,3 +192,36 @@ module _ (d : Deck) (n : ℕ) (pool : List ℤ) where
             long = w.long ∙ a.long;
             indexed = entered-next pool k a.indexed (subst (λ x. Enters k x index index') (lent_same k pool) w);
           }
+
+-- the place at hand holds a known update, and the set has its channels
+pub record HeldHere (d : Deck) (l : List ℤ) (mask : ℕ) : Type 0 where
+  pub fit : (well_written l && known d (update_of l)) ≡ true
+  pub set : mask ≡ mask_of (channels (update_of l))
+  pub holds : HoldsKnown d l
+
+-- the test passed it, for the deck by its tables
+module _ (rules parts : List ℕ) (counts : Counted.Deck) (n : ℕ) (pool : List ℤ) {k mask : ℕ} (h : k < n) (room : 10 * n ≤ length pool)
+    (f : FitsPlace counts.channels counts.parts (lent k pool) (Some mask)) where
+  abbrev deck : Deck
+  deck = shape rules parts counts
+
+  pub place-held : HeldHere deck (lent k pool) mask
+  place-held =
+      let g = f deck (counted-R rules parts counts) (counted-N rules parts counts) in
+      record { fit = g.0; set = g.1; holds = fit-holds deck (lent k pool) (lent_length n k pool h room) g.0 }
+
+  pub place-natural : IsNatural (get_or (lent k pool) 0 (pos 0))
+  place-natural = holds-natural deck counts.parts (counted-N rules parts counts) (lent k pool) place-held.holds
+
+  module _ {p : ℕ} (q : p ≡ nat_abs (get_or (lent k pool) 0 (pos 0))) where
+    part-is : p ≡ within counts.parts (get_or (lent k pool) 0 (pos 0))
+    part-is = q ∙ holds-number deck counts.parts (counted-N rules parts counts) (lent k pool) place-held.holds
+
+    pub place-part : p < counts.parts
+    place-part = holds-part deck counts.parts (counted-N rules parts counts) (lent k pool) place-held.holds part-is
+
+    pub place-charged : counts.channels ≤ 32 → {m : List ℕ} {c : ℕ} → Answered deck (update_charge deck p (bits_of 32 mask)) m c
+        → PlaceGives deck (lent k pool) m c
+    place-charged few a =
+        holds-charge deck counts.parts (counted-N rules parts counts) (lent k pool) place-held.holds
+        (omega (arith, few, counted-R rules parts counts)) part-is place-held.set a

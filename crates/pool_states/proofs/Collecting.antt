@@ -13,8 +13,8 @@ use Rattle.lists.specs.Bits.{mask_from, mask_of}
 use Rattle.lists.specs.Laws.Booleans.{and_left, and_right}
 use Rattle.pool.specs.Updates.{channels}
 use Rattle.pool.specs.Places.{pairs_of, update_of}
-use Rattle.pool_states.specs.Fits.{within, channels_of, in_range}
-use Rattle.pool_states.specs.Laws.Fits.{within-below}
+use Rattle.pool_states.specs.Fits.{within, IsNatural, channels_of, in_range}
+use Rattle.pool_states.specs.Laws.Fits.{within-natural}
 use Rattle.pool_states.specs.Laws.PairsHeld.{PairsHeld}
 use Rattle.pool_states.proofs.Turns.{pair-at}
 
@@ -43,35 +43,42 @@ module _ (l : List ℤ) (n : ℕ) where
       let e : n - i ≡ 0 = omega arith in
       sym (ap (λ j. mask_from m (channels_of j (drop (2 + 2 * i) l))) e) ∙ k.same
 
-  module _ (long : length l ≡ 10) {m i c : ℕ} (k : Collected l n m i) (h : i < n) (e : c ≡ within 32 (get_or l (2 + 2 * i) (pos 0))) where
+  module _ (long : length l ≡ 10) {m i : ℕ} (k : Collected l n m i) (h : i < n) where
+    abbrev z : ℤ
+    z = get_or l (2 + 2 * i) (pos 0)
+
     abbrev behind : List ℤ
     behind = drop (2 + 2 * (i + 1)) l
 
     left : n - i ≡ suc (n - (i + 1))
     left = omega arith
 
-    here : drop (2 + 2 * i) l ≡ get_or l (2 + 2 * i) (pos 0) ∷ get_or l (suc (2 + 2 * i)) (pos 0) ∷ behind
+    here : drop (2 + 2 * i) l ≡ z ∷ get_or l (suc (2 + 2 * i)) (pos 0) ∷ behind
     here = pair-at l i (omega (arith, k.few))
 
-    tests : (ltb c 32 && in_range 32 (n - (i + 1)) behind) ≡ true
+    tests : (ltb (within 32 z) 32 && in_range 32 (n - (i + 1)) behind) ≡ true
     unfolding in_range
-    tests = ap (λ x. ltb x 32 && in_range 32 (n - (i + 1)) behind) e ∙ sym (ap₂ (in_range 32) left here) ∙ k.ranged
+    tests = sym (ap₂ (in_range 32) left here) ∙ k.ranged
 
-    pub collected-low : c < 32
-    collected-low = ltb-true c 32 (and_left (ltb c 32) (in_range 32 (n - (i + 1)) behind) tests)
+    natural : IsNatural z × (nat_abs z ≡ within 32 z)
+    natural = within-natural 32 z (ltb-true (within 32 z) 32 (and_left (ltb (within 32 z) 32) (in_range 32 (n - (i + 1)) behind) tests))
 
-    number : nat_abs (get_or l (2 + 2 * i) (pos 0)) ≡ c
-    number = ap nat_abs (within-below 32 (get_or l (2 + 2 * i) (pos 0)) (omega (arith, e, collected-low))) ∙ sym e
+    pub collected-natural : IsNatural z
+    collected-natural = natural.0
 
-    pub collected-more : Collected l n (bit_or m (2 ^ c)) (i + 1)
+    pub collected-low : {c : ℕ} → c ≡ nat_abs z → c < 32
+    collected-low e =
+        omega (arith, e, natural.1, ltb-true (within 32 z) 32 (and_left (ltb (within 32 z) 32) (in_range 32 (n - (i + 1)) behind) tests))
+
+    pub collected-more : {c : ℕ} → c ≡ nat_abs z → Collected l n (bit_or m (2 ^ c)) (i + 1)
     unfolding mask_from pairs_of
-    collected-more =
+    collected-more e =
         record {
           few = k.few;
           reached = omega arith;
-          ranged = and_right (ltb c 32) (in_range 32 (n - (i + 1)) behind) tests;
+          ranged = and_right (ltb (within 32 z) 32) (in_range 32 (n - (i + 1)) behind) tests;
           same =
-              ap (λ x. mask_from (bit_or m (2 ^ x)) (channels_of (n - (i + 1)) behind)) (sym number)
+              ap (λ x. mask_from (bit_or m (2 ^ x)) (channels_of (n - (i + 1)) behind)) e
               ∙ sym (ap₂ (λ j t. mask_from m (channels_of j t)) left here)
               ∙ k.same;
         }

@@ -1,5 +1,5 @@
 -- A place as the code tests it, number by number. Assumes nothing.
-use Rattle.std.specs.Prelude.{ℕ, zero, suc, ◌+◌, ◌*◌, ◌^◌, min, Bool, true, false, not, ◌&&◌, List, [], ◌∷◌, map, ltb, get_or, take, drop, ℤ, pos, negsuc}
+use Rattle.std.specs.Prelude.{ℕ, zero, suc, ◌+◌, ◌*◌, ◌^◌, ◌<◌, ◌≡◌, min, Bool, true, false, not, ◌&&◌, List, [], ◌∷◌, map, ltb, get_or, take, drop, ℤ, pos, negsuc, nat_abs, Option, None, Some}
 use Rattle.std.specs.Int.Bits.{bit_or}
 use Rattle.lists.specs.Lists.{all_of}
 use Rattle.lists.specs.Bits.{bit}
@@ -9,6 +9,15 @@ use Rattle.pool.specs.Places.{is_zero, pairs_of}
 unfoldable pub within : ℕ → ℤ → ℕ
 within b (pos n) = min n b
 within b (negsuc n) = b
+
+-- what the test of a number against a bound answers: the number if it is from 0 to below b, else none
+abbrev pub Bounded : ℕ → ℤ → Option ℕ → Type 0
+Bounded b z None = within b z ≡ b
+Bounded b z (Some n) = (n ≡ within b z) × (n < b)
+
+-- not below 0
+abbrev pub IsNatural : ℤ → Type 0
+IsNatural z = z ≡ pos (nat_abs z)
 
 -- the channels of the first n pairs
 abbrev pub channels_of : ℕ → List ℤ → List ℕ

@@ -9,12 +9,12 @@ use mir.Val.{SFits, of_z}
 use Rattle.pool_holes.proofs.gather_place.Goals as goal
 
 -- a number is 0 exactly where its bits are
-is_zero : (x : ℤ) → SFits w32 x → of_z w32 x ≡ 0 → x ≡ pos 0
-is_zero (pos n) f e = ap pos e
-is_zero (negsuc n) f e = absurd (omega arith)
+is_zero : (x : ℤ) → of_z w32 x ≡ 0 → SFits w32 x → x ≡ pos 0
+is_zero (pos n) e f = ap pos e
+is_zero (negsuc n) e f = absurd (omega arith)
 
 pub returns-then-count-eq0 : goal.returns-then-count-eq0
-returns-then-count-eq0 c = inl (is_zero _ (record { sfits = search rules }) c.if-count-eq0.true, refl, refl)
+returns-then-count-eq0 c = inl (is_zero _ c.if-count-eq0.true (record { sfits = search rules }), refl, refl)
 
 pub returns : goal.returns
 returns c =

@@ -1,13 +1,17 @@
 -- `pool_states::place_charge` meets its contract: part and channels of the place give the charge. Assumes nothing.
+use mathlib.Core.Path.{◌∙◌}
 use native.Mathlib.Omega.{arith}
 use Rattle.deck.proofs.Laws.Shape.{counted-R, counted-N}
 use Rattle.pool.specs.Places.{update_of}
 use Rattle.pool_states.specs.Laws.PairsHeld.{known-low}
-use Rattle.pool_states.specs.Laws.Charges.{holds-part, holds-charge}
+use Rattle.pool_states.specs.Laws.Charges.{holds-natural, holds-number, holds-part, holds-charge}
 use Rattle.pool_states.proofs.place_charge.Goals as goal
 
-pub bounded_at-p-requires : goal.bounded_at-p-requires
-bounded_at-p-requires c = omega (arith, c.requires.2.long)
+pub number_at-p-requires : goal.number_at-p-requires
+number_at-p-requires c =
+    let a = c.args in
+    let h = c.requires.2 in
+    (omega (arith, h.long), holds-natural _ a.counts.parts (counted-N a.rules.now a.parts.now a.counts) a.place.now h)
 
 pub channels_of-mask-requires : goal.channels_of-mask-requires
 channels_of-mask-requires c =
@@ -18,20 +22,17 @@ channels_of-mask-requires c =
 
 pub update_charge-requires : goal.update_charge-requires
 update_charge-requires c =
-    let a = c.args in (
-      c.requires.0,
-      holds-part _ a.counts.parts (counted-N a.rules.now a.parts.now a.counts) a.place.now
-          c.requires.2
-          c.bounded_at-p.ensures,
-    )
+    let a = c.args in
+    let h = c.requires.2 in
+    let n = counted-N a.rules.now a.parts.now a.counts in
+    (c.requires.0, holds-part _ a.counts.parts n a.place.now h (c.number_at-p.ensures ∙ holds-number _ a.counts.parts n a.place.now h))
 
 pub returns : goal.returns
 returns c =
     let a = c.args in
-    let few = counted-R a.rules.now a.parts.now a.counts in
-    holds-charge _ a.counts.parts (counted-N a.rules.now a.parts.now a.counts) a.place.now
-    c.requires.2
-    (omega (arith, few))
-    c.bounded_at-p.ensures
+    let h = c.requires.2 in
+    let n = counted-N a.rules.now a.parts.now a.counts in
+    holds-charge _ a.counts.parts n a.place.now h (omega (arith, counted-R a.rules.now a.parts.now a.counts))
+    (c.number_at-p.ensures ∙ holds-number _ a.counts.parts n a.place.now h)
     c.channels_of-mask.ensures
     c.update_charge.ensures

@@ -1,33 +1,20 @@
 -- `pool_states::place_fits` meets its contract: the part, and the pairs by their count. Assumes nothing.
+use mathlib.Core.Path.{refl}
 use native.Mathlib.Omega.{arith}
-use lib.ListN.{get_or}
-use lib.IntN.{pos}
-use Rattle.pool.proofs.Scanning.{bits-same}
-use Rattle.pool_states.proofs.Turns.{within-most}
 use Rattle.pool_states.proofs.Deciding.{no_part, with_part}
 use Rattle.pool_states.proofs.place_fits.Goals as goal
 
-pub returns-then-p-parts : goal.returns-then-p-parts
-returns-then-p-parts c =
-    no_part c.args.channels c.args.parts c.args.place.now c.requires.0 c.bounded_at-p.ensures (omega arith)
+pub returns-in_err-bounded_at : goal.returns-in_err-bounded_at
+returns-in_err-bounded_at c d e_r e_n =
+    rw c.from_residual.ensures
+    (no_part c.args.channels c.args.parts c.args.place.now c.requires.0 refl (omega (arith, c.in_err-bounded_at.ensures)) d e_r e_n)
 
-pub single_fits-requires : goal.single_fits-requires
-single_fits-requires c =
-    (c.requires.0, c.requires.1, bits-same (get_or c.args.place.now 1 (pos 0)) (pos 1) c.count-1.given (omega arith) c.if-count-eq1.true)
+pub returns-then-place-eq1 : goal.returns-then-place-eq1
+returns-then-place-eq1 c =
+    let p = c.in_ok-bounded_at.ensures in
+    with_part c.args.channels c.args.parts c.args.place.now c.requires.0 p.0 c.single_fits.result p.1 c.requires.1 c.single_fits.ensures
 
-pub returns-then-count-eq1 : goal.returns-then-count-eq1
-returns-then-count-eq1 c =
-    with_part c.args.channels c.args.parts c.args.place.now c.requires.0 c.bounded_at-p.ensures
-    (omega (arith, c.bounded_at-p.ensures, within-most c.args.parts (get_or c.args.place.now 0 (pos 0))))
-    c.requires.1
-    c.single_fits.ensures
-
-pub returns : goal.returns
-returns c =
-    with_part c.args.channels c.args.parts c.args.place.now c.requires.0 c.bounded_at-p.ensures
-    (omega (arith, c.bounded_at-p.ensures, within-most c.args.parts (get_or c.args.place.now 0 (pos 0))))
-    c.requires.1
-    c.several_fit.ensures
-
-pub several_fit-requires : goal.several_fit-requires
-several_fit-requires c = (c.requires.0, c.requires.1)
+pub returns-else-place-eq1 : goal.returns-else-place-eq1
+returns-else-place-eq1 c =
+    let p = c.in_ok-bounded_at.ensures in
+    with_part c.args.channels c.args.parts c.args.place.now c.requires.0 p.0 c.several_fit.result p.1 c.requires.1 c.several_fit.ensures

@@ -1,12 +1,13 @@
 -- `pool_states::zero_from` meets its contract. The loop's invariant: the numbers from i on are zeros exactly if all are. Assumes
 -- nothing.
-use mathlib.Core.Path.{refl, ap, ◌∙◌}
+use mathlib.Core.Path.{ap, ◌∙◌}
 use mathlib.Core.Bool.{true}
 use native.Mathlib.Omega.{arith}
 use lib.ListN.{get_or}
 use lib.IntN.{pos}
 use mir.Syntax.{w32}
 use mir.Val.{of_z}
+use Rattle.std.proofs.Common.{rules}
 use Rattle.pool.proofs.Scanning.{bits-same, zero-next, zero-not, zero-end}
 use Rattle.pool_states.proofs.zero_from.Goals as goal
 
@@ -17,12 +18,8 @@ returns-then-place-i-ne0 c =
 pub loop-i-preserved : goal.loop-i-preserved
 loop-i-preserved c =
     let place = c.args.place.now in
-    let same = bits-same (get_or place c.loop-i.i (pos 0)) (pos 0) c.t7-1.given (omega arith) c.if-place-i-ne0.false in
+    let same = bits-same (get_or place c.loop-i.i (pos 0)) (pos 0) (search rules) (omega arith) c.if-place-i-ne0.false in
     zero-next place c.loop-i.i true (omega arith) same ∙ c.loop-i.invariant
 
 pub returns : goal.returns
-returns c =
-    zero-end c.args.place.now c.loop-i.i true (omega arith) ∙ c.loop-i.invariant
-
-pub loop-i-init : goal.loop-i-init
-loop-i-init c = refl
+returns c = zero-end c.args.place.now c.loop-i.i true (omega arith) ∙ c.loop-i.invariant

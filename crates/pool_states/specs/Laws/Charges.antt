@@ -1,5 +1,5 @@
 -- The charge of the update that a place holds, from its part and the set of its channels. Assumes nothing.
-use Rattle.std.specs.Prelude.{ℕ, ◌<◌, ◌≤◌, ◌≡◌, refl, true, List, ltb, get_or, ℤ, pos}
+use Rattle.std.specs.Prelude.{ℕ, ◌<◌, ◌≤◌, ◌≡◌, refl, true, List, ltb, get_or, ℤ, pos, nat_abs}
 use Rattle.std.proofs.Common.{sym, ap, ap₂, ◌∙◌, ltb-true}
 use Rattle.lists.specs.Lists.{all_of}
 use Rattle.lists.specs.Bits.{mask_of}
@@ -13,7 +13,8 @@ use Rattle.charge.proofs.Laws.Shape.{same-update-charge}
 use Rattle.pool.specs.Updates.{channels}
 use Rattle.pool.specs.Places.{update_of}
 use Rattle.pool_states.specs.Answer.{HoldsKnown, PlaceGives}
-use Rattle.pool_states.specs.Fits.{within}
+use Rattle.pool_states.specs.Fits.{within, IsNatural}
+use Rattle.pool_states.specs.Laws.Fits.{within-natural}
 use Rattle.pool_states.specs.Laws.PairsHeld.{known-part, known-low, held-part}
 
 same_tests : (d : Deck) → SameTests d d
@@ -39,6 +40,13 @@ mask-charge d p cs low =
 module _ (d : Deck) (n : ℕ) (e : N d ≡ n) (l : List ℤ) (h : HoldsKnown d l) where
   part : within n (get_or l 0 (pos 0)) ≡ (update_of l).part
   part = rw (sym e) (held-part (N d) l h.long h.written (known-part d (update_of l) h.known))
+
+  -- its part as it is read
+  pub holds-natural : IsNatural (get_or l 0 (pos 0))
+  holds-natural = (within-natural n (get_or l 0 (pos 0)) (rw (part, sym e) (known-part d (update_of l) h.known))).0
+
+  pub holds-number : nat_abs (get_or l 0 (pos 0)) ≡ within n (get_or l 0 (pos 0))
+  holds-number = (within-natural n (get_or l 0 (pos 0)) (rw (part, sym e) (known-part d (update_of l) h.known))).1
 
   pub holds-part : {p : ℕ} → p ≡ within n (get_or l 0 (pos 0)) → p < n
   holds-part q = rw (q ∙ part, sym e) (known-part d (update_of l) h.known)

@@ -20,7 +20,7 @@ use Rattle.lists.specs.Laws.Members.{all_of-member}
 use Rattle.lists.specs.Laws.Bits.{bit-or, bit-power}
 use Rattle.pool.specs.Updates.{Pair}
 use Rattle.pool.specs.Places.{pairs_of}
-use Rattle.pool_states.specs.Fits.{within, channels_of, channels_fit}
+use Rattle.pool_states.specs.Fits.{within, IsNatural, channels_of, channels_fit}
 
 pub within-below : (b : ℕ) (z : ℤ) → within b z < b → z ≡ pos (within b z)
 unfolding within
@@ -30,6 +30,12 @@ within-below b (negsuc n) h = absurd (omega arith)
 pub within-pos : (b n : ℕ) → n < b → within b (pos n) ≡ n
 unfolding within
 within-pos b n h = omega arith
+
+-- a number below the bound is the one that is read
+pub within-natural : (b : ℕ) (z : ℤ) → within b z < b → IsNatural z × (nat_abs z ≡ within b z)
+unfolding within
+within-natural b (pos n) h = (refl, omega arith)
+within-natural b (negsuc n) h = absurd (omega arith)
 
 -- ---- channels that are not in a set, and one more in the set
 

@@ -1,12 +1,11 @@
 -- The index that the test for a good state leaves. Assumes nothing.
-use Rattle.std.specs.Prelude.{ℕ, ◌/◌, ◌%◌, ◌≤◌, ◌≡◌, true, ◌&&◌, List, leb, eqb, length, ℤ}
+use Rattle.std.specs.Prelude.{ℕ, ◌/◌, ◌%◌, ◌≤◌, ◌≡◌, true, ◌&&◌, List, leb, eqb, length, ℤ, None, Some}
 use Rattle.std.proofs.Common.{arith, leb-true}
 use Rattle.lists.specs.Laws.Booleans.{and_left, and_right}
 use Rattle.pool.specs.Places.{capacity}
 use Rattle.pool.specs.States.{good_length}
 use Rattle.pool_index.specs.Index.{heads_of, Roomy}
 use Rattle.pool_states.specs.Answer.{Fresh, IndexedIf}
-use Rattle.pool_states.specs.declared.Goodness.TheVariants.{Good, Bad}
 
 -- at most 65,535 places
 pub few-places : (n : ℕ) → good_length n ≡ true → n / 10 ≤ 65535
@@ -22,12 +21,12 @@ fresh-roomy f pending h =
     let r = f.roomy in
     record { some = r.some; few = r.few; links = omega (arith, r.links, h) }
 
--- where the answer is `Bad`, of the index its length
+-- where there is no charge, of the index its length
 pub index-none : {pending : ℕ} {pool : List ℤ} {index₀ index : List ℕ} → length index ≡ length index₀
-    → IndexedIf pending pool index₀ index ((total : ℕ) × (Bad ≡ Good total))
+    → IndexedIf pending pool index₀ index ((total : ℕ) × (None ≡ Some total))
 index-none e = record { indexed = λ g. not_good g.1; long = e }
   where
-    not_good : {total : ℕ} {A : Type 0} → Bad ≡ Good total → A
+    not_good : {total : ℕ} {A : Type 0} → None ≡ Some total → A
     not_good e = let q : ◌≡◌ {A = ℕ} 0 1 = cc in absurd (omega arith)
 
 -- room is a matter of length

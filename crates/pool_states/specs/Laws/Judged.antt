@@ -1,5 +1,5 @@
 -- A good state by the code's tests in their order: the frame, the places, equal ones, the charge. Assumes nothing.
-use Rattle.std.specs.Prelude.{ℕ, ◌*◌, ◌/◌, ◌%◌, ◌<◌, ◌≤◌, ◌≡◌, Bool, ◌&&◌, cond, List, eqb, drop}
+use Rattle.std.specs.Prelude.{ℕ, ◌*◌, ◌/◌, ◌%◌, ◌<◌, ◌≤◌, ◌≡◌, Bool, ◌&&◌, cond, List, eqb, drop, Option, None, Some}
 use Rattle.std.proofs.Math.Path.{refl, ap}
 use Rattle.std.proofs.Common.{sym, ◌∙◌}
 use Rattle.std.proofs.Math.Bool.{true, false, and_assoc, and-false}
@@ -14,17 +14,15 @@ use Rattle.charge.specs.Memo.{capped}
 use Rattle.pool.specs.Updates.{Update, all_different, charge}
 use Rattle.pool.specs.Places.{is_zero, capacity, well_written, places, updates_of}
 use Rattle.pool.specs.States.{Memory, good_length, unused_zero, known, good}
-use Rattle.pool_states.specs.declared.Goodness.{Goodness}
-use Rattle.pool_states.specs.declared.Goodness.TheVariants.{Good, Bad}
 use Rattle.pool_states.specs.Answer.{all_fit, weight_of, framed, uncharged, goodness_of}
 
 -- ---- an answer by a test
 
-said-good : (b : Bool) (x : ℕ) {s : ℕ} → Good s ≡ cond b (Good x) Bad → (b ≡ true) × (s ≡ x)
+said-good : (b : Bool) (x : ℕ) {s : ℕ} → Some s ≡ cond b (Some x) None → (b ≡ true) × (s ≡ x)
 said-good true x e = (refl, cc)
 said-good false x e = let q : ◌≡◌ {A = ℕ} 0 1 = cc in absurd (omega arith)
 
-said-bad : (b : Bool) (x : ℕ) → Bad ≡ cond b (Good x) Bad → b ≡ false
+said-bad : (b : Bool) (x : ℕ) → None ≡ cond b (Some x) None → b ≡ false
 said-bad true x e = let q : ◌≡◌ {A = ℕ} 0 1 = cc in absurd (omega arith)
 said-bad false x e = refl
 
@@ -99,10 +97,10 @@ module _ (d : Deck) (m : Memory) where
       moved true false false k = refl
       moved false w z k = refl
 
-  answer : (b : Bool) → good d m ≡ b → cond b (Good (charge d us)) Bad ≡ goodness_of d m
-  answer b e = ap (λ b. cond b (Good (charge d us)) Bad) (sym e)
+  answer : (b : Bool) → good d m ≡ b → cond b (Some (charge d us)) None ≡ goodness_of d m
+  answer b e = ap (λ b. cond b (Some (charge d us)) None) (sym e)
 
-  pub judged-bad : uncharged d m ≡ false → Bad ≡ goodness_of d m
+  pub judged-bad : uncharged d m ≡ false → None ≡ goodness_of d m
   judged-bad h = answer false (charged ∙ ap (λ x. x && leb (charge d us) (capacity (length m.pool))) h)
 
   module _ (h : uncharged d m ≡ true) {total : ℕ} (e : total ≡ capped (charge d us)) where
@@ -110,10 +108,10 @@ module _ (d : Deck) (m : Memory) where
     unfolding capacity
     bounded = charged ∙ ap (λ x. x && leb (charge d us) (length m.pool / 10)) h
 
-    pub judged-above : length m.pool / 10 < total → Bad ≡ goodness_of d m
+    pub judged-above : length m.pool / 10 < total → None ≡ goodness_of d m
     judged-above k = answer false (bounded ∙ lt-leb (charge d us) (length m.pool / 10) (omega arith))
 
-    pub judged-good : good_length (length m.pool) ≡ true → total ≤ length m.pool / 10 → Good total ≡ goodness_of d m
+    pub judged-good : good_length (length m.pool) ≡ true → total ≤ length m.pool / 10 → Some total ≡ goodness_of d m
     unfolding good_length
     judged-good g k =
         let size = length m.pool in
@@ -121,18 +119,18 @@ module _ (d : Deck) (m : Memory) where
         leb-true size 655350
         (and_right (leb 10 size) (leb size 655350) (and_left (leb 10 size && leb size 655350) (eqb (size % 10) 0) g)) in
         let same : total ≡ charge d us = omega arith in
-        ap Good same ∙ answer true (bounded ∙ le-leb (charge d us) (size / 10) (omega arith))
+        ap Some same ∙ answer true (bounded ∙ le-leb (charge d us) (size / 10) (omega arith))
 
   -- ---- what an answer says
 
-  pub weight-good : {r : Goodness} {s : ℕ} → r ≡ Good s → r ≡ weight_of d n m.pool → (sound ≡ true) × (s ≡ capped (charge d us))
+  pub weight-good : {r : Option ℕ} {s : ℕ} → r ≡ Some s → r ≡ weight_of d n m.pool → (sound ≡ true) × (s ≡ capped (charge d us))
   weight-good q e = said-good sound (capped (charge d us)) (sym q ∙ e)
 
-  pub weight-bad : {r : Goodness} → r ≡ Bad → r ≡ weight_of d n m.pool → sound ≡ false
+  pub weight-bad : {r : Option ℕ} → r ≡ None → r ≡ weight_of d n m.pool → sound ≡ false
   weight-bad q e = said-bad sound (capped (charge d us)) (sym q ∙ e)
 
-  pub good-answer : {s : ℕ} → Good s ≡ goodness_of d m → (good d m ≡ true) × (s ≡ charge d us)
+  pub good-answer : {s : ℕ} → Some s ≡ goodness_of d m → (good d m ≡ true) × (s ≡ charge d us)
   good-answer e = said-good (good d m) (charge d us) e
 
-  pub bad-answer : Bad ≡ goodness_of d m → good d m ≡ false
+  pub bad-answer : None ≡ goodness_of d m → good d m ≡ false
   bad-answer e = said-bad (good d m) (charge d us) e

@@ -1,6 +1,6 @@
 -- The tests of a state see of a deck its counts only, and the charge its tests only. So a deck and the shape of its tables
 -- judge a state alike. Assumes nothing.
-use Rattle.std.specs.Prelude.{ℕ, suc, ◌*◌, ◌/◌, ◌%◌, ◌≡◌, true, ◌&&◌, ◌||◌, cond, length, drop, ℤ}
+use Rattle.std.specs.Prelude.{ℕ, suc, ◌*◌, ◌/◌, ◌%◌, ◌≡◌, true, ◌&&◌, ◌||◌, cond, length, drop, ℤ, None, Some}
 use Rattle.std.proofs.Math.Path.{refl, ap, ap₂, fun_ext}
 use Rattle.std.proofs.Common.{sym, ◌∙◌}
 use Rattle.std.proofs.Math.Bool.{not}
@@ -16,7 +16,6 @@ use Rattle.charge.proofs.Laws.Shape.{shape-update-charge}
 use Rattle.pool.specs.Updates.{Update, channels, all_different, charge}
 use Rattle.pool.specs.Places.{is_zero, capacity, update_of, well_written, places, updates_of}
 use Rattle.pool.specs.States.{Memory, unused_zero, known, good}
-use Rattle.pool_states.specs.declared.Goodness.TheVariants.{Good, Bad}
 use Rattle.pool_states.specs.Answer.{HoldsKnown, all_fit, framed, uncharged, goodness_of}
 use Rattle.pool_states.specs.Laws.Judged.{charged}
 
@@ -79,4 +78,4 @@ module _ {d : Deck} {rules parts : List ℕ} (t : TablesOf d rules parts) (g : R
       ∙ sym (charged d m)
 
   pub shape-goodness : (m : Memory) → goodness_of s m ≡ goodness_of d m
-  shape-goodness m = ap₂ (λ a x. cond a (Good x) Bad) (shape-good m) (shape-charge (updates_of m.state.pending m.pool))
+  shape-goodness m = ap₂ (λ a x. cond a (Some x) None) (shape-good m) (shape-charge (updates_of m.state.pending m.pool))
