@@ -89,13 +89,13 @@ fn expression_end(s: &[u8], at: usize, truth: bool, own: usize, far: usize) -> O
     ensures { ReadsTo s.now (expression_for truth (scope_of own far) (drop at s.now) at) result }
 {
     let n = usize::from(*s.get(at)?);
-    if n == 0 || Deck::EXPRESSION < n {
+    if n == 0 || Deck::EXPRESSION < n || s.len() - at <= n {
         return None;
     }
     let from = at + 1;
-    let bytes = s.get(from..from + n)?;
-    if is_whole(bytes, truth, own, far) {
-        Some(from + n)
+    let to = from + n;
+    if is_whole(&s[from..to], truth, own, far) {
+        Some(to)
     } else {
         None
     }
@@ -120,8 +120,8 @@ fn expression_step(s: &[u8], at: usize, truth: bool, own: usize, far: usize) -> 
     expression_faults::expression_fault(s, from, to, truth, own, far)
 }
 
-// An expression. Mostly it has no fault, and its end comes back as one number. `expression_step` is called in two places: called in one,
-// it would be compiled into this function, and this one no longer into its callers.
+// An expression. Mostly it has no fault. `expression_step` is called in two places: called in one, it would be compiled into this
+// function, and this one no longer into its callers, and reading a deck would take more steps.
 pub fn expression_at(
     s: &[u8],
     at: usize,
