@@ -1,4 +1,3 @@
 -- Laws that the proofs of the operations cite.
-pub mod Clamping
-pub mod Widening
+pub mod Saturating
 pub mod Cases

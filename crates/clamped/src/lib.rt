@@ -1,4 +1,5 @@
-// Operations on signed 32-bit numbers that clamp. The definitions are in specs/.
+// Operations on signed 32-bit numbers that clamp: each is the library's own, named after what document 01 says. The definitions are in
+// specs/.
 #![tactic(auto)]
 
 ghost use Rattle.std.specs.Prelude.{◌≡◌};
@@ -8,36 +9,29 @@ ghost use Rattle.clamped.specs.Clamp.{clamp, plus, minus, times, negated};
 pub fn clamped(x: i64) -> i32
     ensures { result ≡ clamp x }
 {
-    if x < -2147483648 {
-        -2147483648
-    } else if 2147483647 < x {
-        2147483647
-    } else {
-        x as i32
-    }
+    x.clamp(-2147483648, 2147483647) as i32
 }
 
-// 64 bits hold the result of any operation on two numbers of 32, so that it is computed there and then clamped.
 pub fn add(a: i32, b: i32) -> i32
     ensures { result ≡ plus a b }
 {
-    clamped((a as i64) + (b as i64))
+    a.saturating_add(b)
 }
 
 pub fn sub(a: i32, b: i32) -> i32
     ensures { result ≡ minus a b }
 {
-    clamped((a as i64) - (b as i64))
+    a.saturating_sub(b)
 }
 
 pub fn mul(a: i32, b: i32) -> i32
     ensures { result ≡ times a b }
 {
-    clamped((a as i64) * (b as i64))
+    a.saturating_mul(b)
 }
 
 pub fn neg(a: i32) -> i32
     ensures { result ≡ negated a }
 {
-    clamped(0 - (a as i64))
+    a.saturating_neg()
 }
