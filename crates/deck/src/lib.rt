@@ -37,6 +37,16 @@ pub struct Read<T> {
     pub next: usize,
 }
 
+// A deck that was read, as calls go through it: its bytes, its counts and offsets, and the tables of its rules and parts. It is handed
+// on by a reference.
+#[derive(Clone, Copy)]
+pub struct Rig<'a> {
+    pub deck: &'a [u8],
+    pub counts: Deck,
+    pub rules: &'a [u64],
+    pub parts: &'a [u64],
+}
+
 // The largest numbers, as specs/Limits.antt has them for the definitions.
 #[derive(Clone, Copy, Debug, PartialEq, Eq)]
 pub struct Limits {
