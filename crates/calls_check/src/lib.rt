@@ -1,7 +1,7 @@
 // What is behind check, with tables that are long enough for the deck. `calls` has the definitions.
 #![tactic(auto)]
 
-ghost use Rattle.std.specs.Prelude.{◌≡◌, replicate};
+ghost use Rattle.std.specs.Prelude.{◌≡◌, ◌≤◌, replicate};
 ghost use Rattle.calls.specs.Calls as Calls;
 ghost use Rattle.calls.specs.Answers.{check_outcome};
 ghost use Rattle.passing.specs.Judged.{ZeroRules, ZeroMemo};
@@ -14,7 +14,7 @@ use refusals::Declined;
 pub fn check_with<const RULES: usize, const MEMO: usize>(
     deck: &[u8],
 ) -> Result<CheckAnswer, Declined>
-    requires { ZeroRules deck.now (replicate RULES 0) × ZeroMemo deck.now (replicate MEMO 0) }
+    requires { ZeroRules deck.now (replicate RULES 0) × ZeroMemo deck.now (replicate MEMO 0) × (RULES ≤ 512) × (MEMO ≤ 1024) }
     ensures { check_outcome result ≡ Calls.check deck.now }
 {
     let mut rules = [0u64; RULES];

@@ -1,7 +1,7 @@
 // What is behind section, with tables that are long enough for the deck. `calls` has the definitions.
 #![tactic(auto)]
 
-ghost use Rattle.std.specs.Prelude.{◌≡◌, replicate};
+ghost use Rattle.std.specs.Prelude.{◌≡◌, ◌≤◌, replicate};
 ghost use Rattle.deck.specs.Stretch.{LiesAt};
 ghost use Rattle.calls.specs.Calls as Calls;
 ghost use Rattle.calls.specs.Answers.{section_of};
@@ -18,7 +18,7 @@ pub fn section_with<'a, const RULES: usize, const MEMO: usize>(
     refusal: &mut u32,
     place: &mut u32,
 ) -> &'a [u8]
-    requires { ZeroRules deck.now (replicate RULES 0) × ZeroMemo deck.now (replicate MEMO 0) }
+    requires { ZeroRules deck.now (replicate RULES 0) × ZeroMemo deck.now (replicate MEMO 0) × (RULES ≤ 512) × (MEMO ≤ 1024) }
     ensures { (section_of result.now refusal.new place.new ≡ Calls.section deck.now number)
         × LiesAt deck.entry.ref_ptr result.ref_ptr (Calls.section_from deck.now number) }
 {

@@ -1,7 +1,7 @@
 // What is behind start, with tables that are long enough for the deck. `calls` has the definitions.
 #![tactic(auto)]
 
-ghost use Rattle.std.specs.Prelude.{◌≡◌, pos, length, replicate};
+ghost use Rattle.std.specs.Prelude.{◌≡◌, ◌≤◌, pos, length, replicate};
 ghost use Rattle.pool.specs.Places.{zeros};
 ghost use Rattle.calls.specs.Calls as Calls;
 ghost use Rattle.calls.specs.Answers.{start_outcome, reply_of};
@@ -42,7 +42,7 @@ pub fn start_with<const RULES: usize, const MEMO: usize>(
     deck: &[u8],
     pool: &mut [i32],
 ) -> Answered<()>
-    requires { ZeroRules deck.now (replicate RULES 0) × ZeroMemo deck.now (replicate MEMO 0) }
+    requires { ZeroRules deck.now (replicate RULES 0) × ZeroMemo deck.now (replicate MEMO 0) × (RULES ≤ 512) × (MEMO ≤ 1024) }
     ensures { reply_of (start_outcome result.answer) result.state pool.new
         ≡ Calls.start deck.now pool.old }
 {

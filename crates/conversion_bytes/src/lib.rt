@@ -24,24 +24,14 @@ const TRUE_LENGTH: u8 = 1;
 
 const TRUE: u8 = 17;
 
-// A byte as a number that offsets are counted in.
-pub fn wide(x: u8) -> usize
-    ensures { result ≡ x }
-{
-    x as usize
-}
-
 // Writes bytes to a place, and answers the place after them.
 fn put(bytes: &[u8], out: &mut [u8], at: usize) -> usize
     requires { at + length bytes.now ≤ length out.old }
     ensures { Written out.old at bytes.now out.new result }
 {
-    let mut i: usize = 0;
-    while i < bytes.len() {
-        out[at + i] = bytes[i];
-        i = i + 1;
-    }
-    at + i
+    let end = at + bytes.len();
+    out[at..end].copy_from_slice(bytes);
+    end
 }
 
 // Writes a stretch of bytes to a place, and answers the place after it.
@@ -57,12 +47,10 @@ fn action_end(deck: &[u8], at: usize) -> usize
     requires { HasAction deck.now at }
     ensures { (a : Action) → Stands deck.now at (encode_action a) → result ≡ at + length (encode_action a) }
 {
-    let n = wide(deck[at]);
+    let count = deck[at];
     let mut place = at + 1;
-    let mut i: usize = 0;
-    while i < n {
-        place = place + 2 + wide(deck[place + 1]);
-        i = i + 1;
+    for _ in 0..count {
+        place += 2 + usize::from(deck[place + 1]);
     }
     place
 }
@@ -79,16 +67,12 @@ fn rule_ends(deck: &[u8], at: usize) -> Ends
     requires { HasRule deck.now at }
     ensures { RuleEnds deck.now at result }
 {
-    let default = at + 1 + wide(deck[at]);
+    let default = at + 1 + usize::from(deck[at]);
     let task = action_end(deck, default);
     let condition = task + 1;
-    let action = condition + 1 + wide(deck[condition]);
+    let action = condition + 1 + usize::from(deck[condition]);
     let end = action_end(deck, action);
-    Ends {
-        default: default,
-        task: task,
-        end: end,
-    }
+    Ends { default, task, end }
 }
 
 // Writes a new rule: the events, what stands between them and the last bytes, and these.
@@ -128,12 +112,8 @@ fn put_rules(rules: &[u8], count: usize, out: &mut [u8], at: usize) -> usize
 {
     let mut place: usize = 0;
     let mut to = at;
-    let mut i: usize = 0;
-    while i < count {
-        let ends = rule_ends(rules, place);
-        let default = ends.default;
-        let task = ends.task;
-        let end = ends.end;
+    for _ in 0..count {
+        let Ends { default, task, end } = rule_ends(rules, place);
         to = put_rule(
             &rules[place..default],
             &rules[default..task],
@@ -142,7 +122,6 @@ fn put_rules(rules: &[u8], count: usize, out: &mut [u8], at: usize) -> usize
             to,
         );
         place = end;
-        i = i + 1;
     }
     to
 }
@@ -163,14 +142,10 @@ fn number_rules(rules: &[u8], count: usize, numbers: &mut [u8])
 {
     numbers[0] = 0;
     let mut place: usize = 0;
-    let mut i: usize = 0;
-    while i < count {
+    for i in 0..count {
         let ends = rule_ends(rules, place);
-        let default = ends.default;
-        let more = rules_of(rules[default]);
-        numbers[i + 1] = numbers[i] + more;
+        numbers[i + 1] = numbers[i] + rules_of(rules[ends.default]);
         place = ends.end;
-        i = i + 1;
     }
 }
 
@@ -179,12 +154,10 @@ fn put_numbers(first: u8, end: u8, out: &mut [u8], at: usize) -> usize
     requires { at + length (from first (end - first)) ≤ length out.old }
     ensures { Written out.old at (from first (end - first)) out.new result }
 {
-    let mut n = first;
     let mut to = at;
-    while n < end {
+    for n in first..end {
         out[to] = n;
-        to = to + 1;
-        n = n + 1;
+        to += 1;
     }
     to
 }
@@ -197,11 +170,9 @@ fn put_carried(carried: &[u8], numbers: &[u8], out: &mut [u8], at: usize) -> usi
         out.new result }
 {
     let mut to = at;
-    let mut i: usize = 0;
-    while i < carried.len() {
-        let r = wide(carried[i]);
+    for rule in carried {
+        let r = usize::from(*rule);
         to = put_numbers(numbers[r], numbers[r + 1], out, to);
-        i = i + 1;
     }
     to
 }
@@ -219,12 +190,12 @@ fn part_ends(deck: &[u8], at: usize, opening: usize) -> PartEnds
     ensures { (p : Part) → PartStands deck.now at opening p → PartEndings at p result }
 {
     let carried = at + opening;
-    let limit = carried + 1 + wide(deck[carried]);
-    let end = limit + 1 + wide(deck[limit]);
+    let limit = carried + 1 + usize::from(deck[carried]);
+    let end = limit + 1 + usize::from(deck[limit]);
     PartEnds {
-        carried: carried,
-        limit: limit,
-        end: end,
+        carried,
+        limit,
+        end,
     }
 }
 
@@ -266,13 +237,13 @@ fn put_parts(
 {
     let mut place: usize = 0;
     let mut to = at;
-    let mut i: usize = 0;
-    while i < count {
-        let ends = part_ends(parts, place, opening);
-        let carried = ends.carried;
+    for _ in 0..count {
+        let PartEnds {
+            carried,
+            limit,
+            end,
+        } = part_ends(parts, place, opening);
         let first = carried + 1;
-        let limit = ends.limit;
-        let end = ends.end;
         to = put_part(
             &parts[place..carried],
             &parts[first..limit],
@@ -282,7 +253,6 @@ fn put_parts(
             to,
         );
         place = end;
-        i = i + 1;
     }
     to
 }

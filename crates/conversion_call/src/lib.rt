@@ -54,7 +54,7 @@ pub fn convert_with<const RULES: usize, const MEMO: usize>(
     deck: &[u8],
     buffer: &mut [u8],
 ) -> Result<u32, Declined>
-    requires { ZeroRules deck.now (replicate RULES 0) × ZeroMemo deck.now (replicate MEMO 0) }
+    requires { ZeroRules deck.now (replicate RULES 0) × ZeroMemo deck.now (replicate MEMO 0) × (RULES ≤ 512) × (MEMO ≤ 1024) }
     ensures { reply_of (convert_outcome result) buffer.new ≡ convert deck.now buffer.old }
 {
     let mut rules = [0u64; RULES];

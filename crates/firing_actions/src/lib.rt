@@ -13,14 +13,9 @@ fn number_from(deck: &[u8], at: usize, own: &[i32], far: &[i32]) -> i32
     requires { HasNumber deck.now at (length own.now) (length far.now) }
     ensures { NumberIs deck.now at own.now far.now result }
 {
-    let n = deck[at] as usize;
     let from = at + 1;
-    let to = from + n;
-    let value = expression_values::num_value(&deck[from..to], own, far);
-    match value {
-        expression::NumValue::Value(v) => v,
-        expression::NumValue::None => 0,
-    }
+    let to = from + usize::from(deck[at]);
+    expression_values::num_value(&deck[from..to], own, far).unwrap_or(0)
 }
 
 // The place of the update that an action of one assignment, at an offset, makes for a part. Most actions have one, and its numbers are

@@ -1,2 +1,3 @@
 -- Laws of outcomes.
 pub mod Outcomes
+pub mod HandedOn

@@ -1,0 +1,7 @@
+-- What `?` hands on is the same refusal. Assumes nothing.
+use Rattle.std.specs.Prelude.{◌≡◌, Result, Ok, Err, IsErrAnd}
+use Rattle.std.proofs.Common.{ap, ◌∙◌}
+use Rattle.std.proofs.lemmas.Result.{err_from_is_err_and}
+
+pub handed_on : {T E : Type 0} {r : Result T E} {e : E} → IsErrAnd r (λ x. x ≡ e) → r ≡ Err e
+handed_on {r = r} h = let p = err_from_is_err_and r h in p.1 ∙ ap Err p.2
