@@ -19,3 +19,4 @@ pub mod First
 pub mod Lowest
 pub mod Through
 pub mod Walks
+pub mod Iterating

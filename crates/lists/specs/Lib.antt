@@ -1,4 +1,5 @@
 -- Helpers on lists and numbers that several layers use.
 pub mod Lists
 pub mod Bits
+pub mod Iterating
 pub mod Laws
