@@ -4,6 +4,7 @@
 ghost use Rattle.std.specs.Prelude.{◌≡◌, ◌++◌, ◌+◌, ◌*◌, ◌≤◌, ◌<◌, length, drop, replicate};
 ghost use Rattle.lists.specs.Lists.{first_or};
 ghost use Rattle.deck.specs.Deck.{N};
+ghost use Rattle.graph.specs.FirstCycle.{FoundBelow};
 ghost use Rattle.charge.specs.Memo.{memo_size};
 ghost use Rattle.pool.specs.Places.{zeros};
 ghost use Rattle.passing.specs.Check.{opening_values, outside};
@@ -11,10 +12,10 @@ ghost use Rattle.passing.specs.Check as Check;
 ghost use Rattle.passing.specs.Stands.{HasTruth, TruthIs, stretch, values_from};
 ghost use Rattle.passing.specs.Tabled.{deck_of, PartsKnown};
 ghost use Rattle.passing.specs.Judged.{RulesKnown, JudgesRules, ZeroRules, ZeroMemo, WholeKnown, Judges, JudgesRead};
-ghost use Rattle.passing.specs.declared.Judged.TheVariants.{Refused};
 
 use deck::{Deck, Form};
-use passing::Judged;
+use passing::Passing;
+use refusals::{Declined, Refusal};
 
 // The value of the truth that stands at an offset of the deck. Own and far channels are stretches of the values, lent by where they
 // begin and how many they are: a stretch that was just made is slow to hand on.
@@ -32,7 +33,7 @@ pub fn truth_from(
     ensures { TruthIs deck.now at (stretch values.now own_at owns)
         (stretch values.now far_at fars) result }
 {
-    let n = deck[at] as usize;
+    let n = usize::from(deck[at]);
     let from = at + 1;
     let to = from + n;
     let own_to = own_at + owns;
@@ -42,10 +43,7 @@ pub fn truth_from(
         &values[own_at..own_to],
         &values[far_at..far_to],
     );
-    match value {
-        expression::TruthValue::Value(b) => b,
-        expression::TruthValue::None => false,
-    }
+    value.unwrap_or(false)
 }
 
 // The first opening values of a part, `count` of them, written to the front of a part's stretch of the table, or of a row of its own.
@@ -53,13 +51,10 @@ fn open_part(stretch: &mut [i32], deck: &[u8], at: usize, count: usize)
     requires { (count ≤ length stretch.old) × (at + 4 * count ≤ length deck.now) }
     ensures { stretch.new ≡ values_from deck.now at count ++ drop count stretch.old }
 {
-    let mut c: usize = 0;
-    while c < count {
+    for c in 0..count {
         let o = at + 4 * c;
         let word = expression::word_of(deck[o], deck[o + 1], deck[o + 2], deck[o + 3]);
-        let value = expression::signed_of(word);
-        stretch[c] = value;
-        c += 1;
+        stretch[c] = expression::signed_of(word);
     }
 }
 
@@ -77,14 +72,10 @@ pub fn open_parts(values: &mut [i32], deck: &[u8], counts: Deck, parts: &[u64])
     requires { PartsKnown deck.now counts parts.now × (values.old ≡ zeros 512) }
     ensures { values.new ≡ opening_values (deck_of deck.now) }
 {
-    let n = counts.parts;
-    let channels = counts.channels;
-    let mut p: usize = 0;
-    while p < n {
+    for p in 0..counts.parts {
         let at = parts[Deck::PART_ROW * p + Deck::PART_OPENING_AT] as usize;
         let from = Deck::CHANNELS * p;
-        open_part(&mut values[from..], deck, at, channels);
-        p += 1;
+        open_part(&mut values[from..], deck, at, counts.channels);
     }
 }
 
@@ -100,49 +91,46 @@ fn opens_within(deck: &[u8], counts: Deck, parts: &[u64], p: usize) -> bool
     truth_from(deck, limit, &row, 0, counts.channels, 0, 0)
 }
 
-// The lowest part that opens outside its limit, or the number of parts where none does.
-fn first_outside(deck: &[u8], counts: Deck, parts: &[u64]) -> usize
+// The lowest part that opens outside its limit, if one does.
+fn first_outside(deck: &[u8], counts: Deck, parts: &[u64]) -> Option<usize>
     requires { PartsKnown deck.now counts parts.now }
-    ensures { result ≡ first_or (N (deck_of deck.now)) (outside (deck_of deck.now)) }
+    ensures { FoundBelow counts.parts (first_or (N (deck_of deck.now)) (outside (deck_of deck.now)))
+        result }
 {
-    let n = counts.parts;
-    let mut p: usize = 0;
-    while p < n {
-        if opens_within(deck, counts, parts, p) {
-            p += 1;
-        } else {
-            return p;
+    for p in 0..counts.parts {
+        if !opens_within(deck, counts, parts, p) {
+            return Some(p);
         }
     }
-    n
+    None
 }
 
-fn refused(number: u32, place: usize) -> Judged
+fn declined(refusal: Refusal, place: usize) -> Declined
     requires { place ≤ 65536 }
-    ensures { result ≡ Refused number place }
+    ensures { (result.refusal ≡ refusal) × (result.place ≡ place) }
 {
-    Judged::Refused {
-        number: number,
+    Declined {
+        refusal,
         place: place as u32,
     }
 }
 
 // 7 and 8, for a deck whose parts open within their limits.
-fn judge_rules(rules: &[u64], parts: &[u64], memo: &mut [u32], counts: Deck) -> Judged
+fn judge_rules(
+    rules: &[u64],
+    parts: &[u64],
+    memo: &mut [u32],
+    counts: Deck,
+) -> Result<Passing, Declined>
     requires { RulesKnown rules.now parts.now counts × (memo.old ≡ replicate (memo_size counts.rules) 0) }
     ensures { JudgesRules rules.now parts.now memo.new counts result }
 {
-    let c = graph::first_cycle(rules, parts, counts);
-    if c < counts.channels {
-        return refused(refusals::CYCLIC_GRAPH, c);
+    if let Some(c) = graph::first_cycle(rules, parts, counts) {
+        return Err(declined(Refusal::CyclicGraph, c));
     }
-    let bound = charge_bound::first_above(rules, parts, memo, counts);
-    match bound {
-        charge::Bound::Above(place) => refused(refusals::OVERCHARGED, place),
-        charge::Bound::Within(charge) => Judged::Passing {
-            counts: counts,
-            charge: charge,
-        },
+    match charge_bound::first_above(rules, parts, memo, counts) {
+        Ok(charge) => Ok(Passing { counts, charge }),
+        Err(place) => Err(declined(Refusal::Overcharged, place)),
     }
 }
 
@@ -153,13 +141,12 @@ fn judge_whole(
     rules: &mut [u64],
     parts: &[u64],
     memo: &mut [u32],
-) -> Judged
+) -> Result<Passing, Declined>
     requires { WholeKnown deck.now counts rules.old parts.now × (memo.old ≡ replicate (memo_size counts.rules) 0) }
     ensures { JudgesRead deck.now rules.new parts.now memo.new result }
 {
-    let p = first_outside(deck, counts, parts);
-    if p < counts.parts {
-        return refused(refusals::OPENS_OUTSIDE, p);
+    if let Some(p) = first_outside(deck, counts, parts) {
+        return Err(declined(Refusal::OpensOutside, p));
     }
     charge_listeners::note_listeners(rules, parts, counts.rules, counts.parts);
     judge_rules(rules, parts, memo, counts)
@@ -173,13 +160,12 @@ pub fn judge(
     parts: &mut [u64],
     memo: &mut [u32],
     form: Form,
-) -> Judged
+) -> Result<Passing, Declined>
     requires { ZeroRules deck.now rules.old × (parts.old ≡ replicate 64 0) × ZeroMemo deck.now memo.old }
     ensures { Judges form deck.now rules.new parts.new memo.new result }
 {
-    let loaded = deck_reading::read(deck, rules, parts, form);
-    match loaded {
-        deck::Loaded::Wrong { number, place } => refused(number, place),
-        deck::Loaded::Whole(counts) => judge_whole(deck, counts, rules, parts, memo),
+    match deck_reading::read(deck, rules, parts, form) {
+        Ok(counts) => judge_whole(deck, counts, rules, parts, memo),
+        Err(fault) => Err(declined(fault.refusal, fault.place)),
     }
 }

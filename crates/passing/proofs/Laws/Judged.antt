@@ -1,15 +1,13 @@
 -- From what the pass and the searches give to the answer of the tests of a deck. Assumes nothing.
-use Rattle.std.specs.Prelude.{ℕ, suc, ◌≤◌, ◌<◌, ◌≡◌, refl, Bool, List, [], ◌∷◌, length, get_or, replicate, Result, Ok, Err}
+use Rattle.std.specs.Prelude.{ℕ, suc, ◌≤◌, ◌<◌, ◌≡◌, refl, List, [], ◌∷◌, length, get_or, replicate, Result, Ok, Err}
 use Rattle.std.proofs.Math.Path.{sym}
 use Rattle.std.proofs.Common.{ap, ◌∙◌, subst, inl, inr, Fits, lt-ltb}
-use Rattle.std.proofs.Math.Bool.{not}
 use native.Mathlib.Omega.{arith}
 use Rattle.std.proofs.Math.Decide.{dec_lt}
 use Rattle.std.proofs.lemmas.List.{length-replicate, get_or-replicate}
 use Rattle.std.proofs.Math.ListN.{get_or-eq_default}
 use Rattle.std.specs.Int.{w8}
-use Rattle.lists.specs.Lists.{select, below, first_or, lists}
-use Rattle.lists.specs.Laws.Below.{select-first}
+use Rattle.lists.specs.Lists.{first_or, lists}
 use Rattle.lists.specs.Laws.Booleans.{and_both}
 use Rattle.refusals.specs.Outcome.{refused, accepted}
 use Rattle.refusals.specs.Numbers.{opens_outside}
@@ -23,12 +21,10 @@ use Rattle.deck.specs.Layout.{read, value_of}
 use Rattle.deck.specs.Shape.{shape_of}
 use Rattle.deck.specs.Marks.{RulesFit, marked_sections, unmarked, Loads}
 use Rattle.deck.specs.declared.Deck as Counted
-use Rattle.deck.specs.declared.Loaded.TheVariants.{Whole}
 use Rattle.deck.proofs.Laws.Marks.{map_got, read-marked}
 use Rattle.deck.proofs.Laws.Shape.{counted-R, counted-M, counted-N}
 use Rattle.deck.proofs.Laws.Tables.{SameTests, shape-tests}
 use Rattle.deck.proofs.Laws.TablesRead.{Zeros}
-use Rattle.graph.specs.Graph.{edge, reaches_itself, cyclic}
 use Rattle.graph.specs.FirstCycle.{first_cycle}
 use Rattle.graph.specs.Masks.{Sized}
 use Rattle.graph.proofs.Laws.Targets.{known-targets}
@@ -40,7 +36,7 @@ use Rattle.charge.specs.Answer.{bound_of}
 use Rattle.charge.proofs.Laws.Bound.{first_above}
 use Rattle.charge.proofs.Laws.Shape.{shape-bound}
 use Rattle.charge.proofs.Laws.Tables.{memo-new, memo-long}
-use Rattle.passing.specs.Check.{within, opening_values, outside, passing}
+use Rattle.passing.specs.Check.{outside, passing}
 use Rattle.passing.specs.Tabled.{layout_of, deck_of, Tabled, PartsKnown}
 use Rattle.deck.specs.Shape.{shape}
 use Rattle.passing.specs.Judged.{RulesKnown, JudgesRules, ZeroRules, ZeroMemo, WholeKnown, Passed, Judges}
@@ -74,7 +70,7 @@ module _ {s rules : List ℕ} (z : ZeroRules s rules) where
   rules-fit h = omega (arith, size, z.fits h)
 
 module _ (f : Form) (s rules parts rules₀ : List ℕ) where
-  pub loaded-tabled : (k : Counted.Deck) → ZeroRules s rules₀ → Loads f s rules rules₀ parts (replicate 64 0) (Whole k) → Bytes s
+  pub loaded-tabled : (k : Counted.Deck) → ZeroRules s rules₀ → Loads f s rules rules₀ parts (replicate 64 0) (Ok k) → Bytes s
       → WholeKnown s k rules parts
   loaded-tabled k z w b =
       let m = w.0 in
@@ -83,11 +79,11 @@ module _ (f : Form) (s rules parts rules₀ : List ℕ) where
       let t = tabled f s m w.1 rules₀ (replicate 64 0) blank (zeros-table 64) b (long z) (rules-fit z) (length-replicate 64 none) in
       record { tabled = rw (w.2, w.3, w.4) t; bytes = b }
 
-  pub loaded-read : (k : Counted.Deck) → Loads f s rules rules₀ parts (replicate 64 0) (Whole k) → read f s ≡ accepted (layout_of s)
+  pub loaded-read : (k : Counted.Deck) → Loads f s rules rules₀ parts (replicate 64 0) (Ok k) → read f s ≡ accepted (layout_of s)
   loaded-read k w = marked-read f s w.0 w.1 ∙ ap accepted (sym (marked-layout f s w.0 w.1))
 
   -- the memo is as long as the deck that was read needs it
-  pub loaded-memo : (k : Counted.Deck) {memo : List ℕ} → Loads f s rules rules₀ parts (replicate 64 0) (Whole k) → ZeroMemo s memo
+  pub loaded-memo : (k : Counted.Deck) {memo : List ℕ} → Loads f s rules rules₀ parts (replicate 64 0) (Ok k) → ZeroMemo s memo
       → memo ≡ replicate (memo_size k.rules) 0
   loaded-memo k w z = z f w.0 w.1 ∙ ap (λ (c : Counted.Deck). replicate (memo_size c.rules) 0) (sym w.2)
 
@@ -100,15 +96,6 @@ wrong-place Old s n p e = omega (arith, read-place Old s n p e)
 wrong-place New s n p e = omega (arith, read-place New s n p e)
 
 -- ---- the searches
-
--- a search that found none below its bound found the bound
-first-whole : (f : ℕ → Bool) (n c : ℕ) → c ≡ first_or n (select f (below n)) → n ≤ c → first_or n (select f (below n)) ≡ n
-unfolding first_or
-first-whole f n c e h = go (select f (below n)) refl e
-  where
-    go : (l : List ℕ) → select f (below n) ≡ l → c ≡ first_or n l → first_or n l ≡ n
-    go [] g e = refl
-    go (x ∷ xs) g e = absurd (omega (arith, h, e, (select-first f n x xs g).1))
 
 module _ (rules parts : List ℕ) (k : Counted.Deck) (w : RulesKnown rules parts k) where
   abbrev d : Deck
@@ -129,13 +116,6 @@ module _ (rules parts : List ℕ) (k : Counted.Deck) (w : RulesKnown rules parts
         w.sized.few_rules,
         w.sized.few_parts,
       )
-
-  -- the search found no channel below the count
-  pub cycle-none : (c : ℕ) → c ≡ first_cycle d → k.channels ≤ c → first_cycle d ≡ k.channels
-  unfolding first_cycle cyclic
-  cycle-none c e h =
-      first-whole (reaches_itself (R d) (edge d)) (R d) c e (omega (arith, h, counted-R rules parts k))
-      ∙ counted-R rules parts k
 
   pub acyclic-tables : first_cycle d ≡ k.channels → AcyclicTables rules parts k
   unfolding first_cycle
@@ -205,10 +185,8 @@ module _ (s rules parts : List ℕ) (k : Counted.Deck) (t : Tabled s k rules par
   bound-same = ap bound_of shape_is ∙ shape-bound t.sets t.ranged
 
   module _ (f : Form) (r : read f s ≡ accepted (layout_of s)) where
-    pub outside-none : (p : ℕ) → p ≡ first_outside whole → k.parts ≤ p → first_outside whole ≡ N whole
-    unfolding first_outside outside
-    outside-none p e h =
-        first-whole (λ p. not (within whole p (opening_values whole))) (N whole) p e (omega (arith, h, t.counts.parts))
+    pub outside-none : first_outside whole ≡ k.parts → first_outside whole ≡ N whole
+    outside-none e = e ∙ t.counts.parts
 
     pub outside-refused : (p : ℕ) → p ≡ first_outside whole → p < k.parts → passing f s ≡ refused opens_outside p
     outside-refused p e h = passing-6 f s (layout_of s) r p (sym e) (omega (arith, t.counts.parts))

@@ -1,8 +1,8 @@
 -- An expression that can be read at an offset of the deck stands there; so do opening values. Assumes nothing.
 use Prim.Native.Nat.{ℕ, zero, suc, ◌+◌, ◌*◌, ◌≤◌, ◌<◌}
-use Rattle.std.specs.Prelude.{◌≡◌, Bool, false, take, ℤ, pos}
+use Rattle.std.specs.Prelude.{◌≡◌, take, ℤ, pos}
 use Rattle.std.proofs.Math.Path.{refl, sym, ap}
-use Rattle.std.proofs.Common.{ap₂, ◌∙◌, subst, add-zero, get_or-drop}
+use Rattle.std.proofs.Common.{ap₂, ◌∙◌, add-zero, get_or-drop}
 use mathlib.Core.List.{List, [], ◌∷◌}
 use native.Mathlib.Omega.{arith}
 use Rattle.std.proofs.Math.Decide.{dec_lt, dec_le}
@@ -10,12 +10,8 @@ use Rattle.std.proofs.Math.ListN.{length, get_or, drop, length-drop}
 use Rattle.std.proofs.Math.Seq.{drop-drop}
 use Rattle.refusals.specs.Outcome.{refused, accepted}
 use Rattle.refusals.specs.Laws.Outcomes.{refused≢accepted, accepted-inj}
-use Rattle.expression.specs.Syntax.{Truth}
-use Rattle.expression.specs.Reading.{Read, got, nothing, word, signed, whole_truth}
-use Rattle.expression.specs.Answers.{scope, map_read, truth_in, truth_result, whole_truth_value}
+use Rattle.expression.specs.Reading.{Read, got, nothing, word, signed}
 use Rattle.expression.specs.Faults.{Found, sound}
-use Rattle.expression.specs.declared.TruthValue.{TruthValue}
-use Rattle.expression.specs.declared.TruthValue.TheVariants.{Value, None}
 use Rattle.deck.specs.Reader.{Got, ◌>>=◌, give, fault, number, repeats, value, readers}
 use Rattle.deck.specs.Layout.{Expected, judged, expression}
 use Rattle.deck.proofs.Laws.Judging.{judged-cases}
@@ -132,27 +128,6 @@ pub values-stand : (s : List ℕ) (n at : ℕ) (l : List ℤ) → 1 ≤ n → Re
     × (at + 4 * n ≤ length s)
 values-stand s zero at l some r = absurd (omega arith)
 values-stand s (suc n) at l some r = values-got s (suc n) at _ r.1 (values-inside s n at _ r.1)
-
--- ---- the value of a truth
-
--- what was read, evaluated
-pub truth-there : (s : List ℕ) (at : ℕ) (own far : List ℤ) (t : Truth) → Stands (whole_truth (scope (length own) (length far))) s at t
-    → whole_truth_value own far (take (get_or s at 0) (drop (at + 1) s)) ≡ Value (truth_in own far t)
-truth-there s at own far t h = ap (λ r. truth_result (map_read (truth_in own far) r)) h.holds
-
-pub told : (b c : Bool) → Value b ≡ Value c → b ≡ c
-told b c e = ap truth_of e
-  where
-    truth_of : TruthValue → Bool
-    truth_of (Value b) = b
-    truth_of None = false
-
-pub not_none : {A : Type 0} {b : Bool} → None ≡ Value b → A
-not_none e = absurd (subst IsNone e tt)
-  where
-    IsNone : TruthValue → Type 0
-    IsNone (Value b) = ⊥
-    IsNone None = Unit {0}
 
 -- four bytes, as the code puts them together
 pub value-is : (s : List ℕ) (at : ℕ) → signed (word (get_or s at 0) (get_or s (at + 1) 0) (get_or s (at + 2) 0) (get_or s (at + 3) 0))

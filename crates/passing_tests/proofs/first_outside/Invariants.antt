@@ -1,5 +1,5 @@
 -- `passing_tests::first_outside` meets its contract. The loop's invariant: the parts before p open within their limits. Assumes nothing.
-use Prim.Native.Nat.{ℕ, ◌-◌, ◌≤◌, ◌<◌}
+use Prim.Native.Nat.{ℕ, ◌<◌}
 use mathlib.Core.Path.{◌≡◌}
 use mathlib.Core.Bool.{false, not}
 use Rattle.passing.specs.Check.{within, opening_values}
@@ -7,7 +7,4 @@ use Rattle.passing.specs.Tabled.{deck_of}
 use Rattle.passing_tests.proofs.first_outside.Given as goal
 
 abbrev pub invariant-loop-p : goal.invariant-loop-p
-invariant-loop-p l = (l.p ≤ l.n) × ((k : ℕ) → k < l.p → not (within (deck_of l.deck) k (opening_values (deck_of l.deck))) ≡ false)
-
-abbrev pub decreases-loop-p : goal.decreases-loop-p
-decreases-loop-p l = l.n - l.p
+invariant-loop-p l = (k : ℕ) → k < l.p → not (within (deck_of l.deck) k (opening_values (deck_of l.deck))) ≡ false

