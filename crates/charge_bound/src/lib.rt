@@ -91,7 +91,12 @@ fn largest(rules: &[u64], parts: &[u64], memo: &mut [u32], counts: Deck) -> u32
 
 // The bound on the charges of the carried rules. Mostly none is above it, and then the order of the places plays no role.
 // The memo is lent, and has then what was computed.
-pub fn first_above(rules: &[u64], parts: &[u64], memo: &mut [u32], counts: Deck) -> Result<u32, usize>
+pub fn first_above(
+    rules: &[u64],
+    parts: &[u64],
+    memo: &mut [u32],
+    counts: Deck,
+) -> Result<u32, usize>
     requires { Ready rules.now parts.now counts memo.old }
     ensures { (result ≡ bound_of (shape rules.now parts.now counts))
         × Memo (shape rules.now parts.now counts) memo.new }

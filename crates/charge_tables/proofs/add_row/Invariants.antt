@@ -1,5 +1,4 @@
 -- `charge_tables::add_row` meets its contract: the entries passed are added, the others as before. Assumes nothing.
-use Prim.Native.Nat.{◌-◌, ◌≤◌}
 use Rattle.charge_tables.proofs.Rows.{Adding}
 use Rattle.charge_tables.proofs.add_row.Given as goal
 

@@ -1,5 +1,4 @@
 -- The invariant of `charge_tables::put_row`: the entries passed are written, the others as before. Assumes nothing.
-use Prim.Native.Nat.{◌-◌, ◌≤◌}
 use Rattle.charge_tables.proofs.Rows.{Putting}
 use Rattle.charge_tables.proofs.put_row.Given as goal
 
