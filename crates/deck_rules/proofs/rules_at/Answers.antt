@@ -1,9 +1,8 @@
 -- `deck_rules::rules_at` meets its contract. The loop's invariant: i rules were read, and the front of the table is their rows.
 -- Assumes nothing.
-use mathlib.Core.Path.{◌≡◌, refl, ap}
+use mathlib.Core.Path.{◌≡◌, refl}
 use native.Mathlib.Omega.{arith}
 use native.Mathlib.Nat.{sub-zero}
-use lib.ListN.{length, length-take, length-drop}
 use Rattle.deck.specs.Marks.{marked_rule, rule_row}
 use Rattle.deck.proofs.Laws.Turns.{turns-none, repeats-next, repeats-fault, repeats-end, hands-on}
 use Rattle.deck.proofs.Laws.Rows.{filled_none, filled_next, filled-all}
@@ -17,12 +16,6 @@ returns-in_err-rule c =
     let a = c.args in
     hands-on _ _ _ _ _ c.from_residual.ensures.1
     (repeats-fault (marked_rule a.form a.own) _ _ a.s.now c.loop-i.next c.loop-i-test.true c.in_err-rule.ensures c.loop-i.invariant.1)
-
-pub write_row-requires : goal.write_row-requires
-unfolding rule_row
-write_row-requires c =
-    let size = ap length c.in_ok-rule.ensures.3 in
-    simp (length-take, length-drop) (omega (arith, size, c.requires.2))
 
 pub loop-i-preserved : goal.loop-i-preserved
 unfolding rule_row

