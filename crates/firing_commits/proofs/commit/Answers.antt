@@ -5,8 +5,6 @@ use mathlib.Core.Path.{refl, sym, ◌∙◌}
 use native.Mathlib.Omega.{arith}
 use lib.ListN.{length}
 use lib.Seq.{length-take-le}
-use borrow.Author.Rules.{rules}
-use borrow.Author.Tests.{not-true, not-false}
 use Rattle.firing_commits.specs.Laws.Looking.{few-fits, looks-inside}
 use Rattle.firing_commits.specs.Laws.Committing.{commit-looking, commit-long, commit-some, commit-inside}
 use Rattle.firing_commits.specs.Laws.Committing.{commit-left, commit-finishing, commit-done}
