@@ -82,9 +82,8 @@ pub fn assign_pairs(values: &mut [i32], part: usize, pairs: &[i32])
     requires { (length values.old ≡ 512) × (part < 16) × Assignable pairs.now }
     ensures { values.new ≡ assign part (pairs_of pairs.now) values.old }
 {
-    let n = pairs.len() / 2;
-    for i in 0..n {
-        let c = pairs[2 * i] as usize;
-        values[Deck::CHANNELS * part + c] = pairs[2 * i + 1];
+    for pair in pairs.chunks_exact(2) {
+        let c = pair[0] as usize;
+        values[Deck::CHANNELS * part + c] = pair[1];
     }
 }

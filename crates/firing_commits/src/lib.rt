@@ -89,18 +89,19 @@ pub fn commit(
         full: false,
     };
     if !passing_tests::within(rig.deck, rig.counts, rig.parts, values, part) {
-        let held = 2 * found.count;
-        firing_actions::assign_pairs(values, part, &back[..held]);
+        firing_actions::assign_pairs(values, part, &back[..2 * found.count]);
         return AfterCommit {
             queue: left,
             applied: false,
         };
     }
-    let channels = found.changed;
-    let change = Change { part, channels };
-    let after = firing_rules::react(rig, memo, index, pool, left, values, change);
+    let change = Change {
+        part,
+        channels: found.changed,
+    };
+    let queue = firing_rules::react(rig, memo, index, pool, left, values, change);
     AfterCommit {
-        queue: after,
+        queue,
         applied: true,
     }
 }

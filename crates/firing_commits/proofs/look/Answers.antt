@@ -91,7 +91,7 @@ changed_by-changed-requires c =
 
 pub assign_pairs-requires : goal.assign_pairs-requires
 assign_pairs-requires c = (
-  c.requires.1,
+  omega (arith, c.requires.1),
   low (goal.at.assign_pairs-requires c).After-number_at-part,
   rw (add-sub_cancel_left, add-sub_cancel_left) (held (goal.at.assign_pairs-requires c).After-number_at-count).0,
 )
