@@ -1,7 +1,7 @@
 // Input, commit and settle on memory that is lent: the tables that a call works on, the tests, and what is asked for.
 #![tactic(auto)]
 
-ghost use Rattle.std.specs.Prelude.{◌≡◌, length, replicate};
+ghost use Rattle.std.specs.Prelude.{◌≡◌, ◌≤◌, length, replicate};
 ghost use Rattle.calls.specs.Answers.{memory_at, reply_at};
 ghost use Rattle.calls.specs.Requests.{requested, outcome_to, reply_after};
 ghost use Rattle.calls_tests.specs.Tested.{Usable, TestsPassed};
@@ -70,7 +70,14 @@ fn call_on(
         parts: &parts,
     };
     let after = call_tested(
-        &rig, found.pending, memo, index, pool, values, request, pairs,
+        &rig,
+        found.pending,
+        memo,
+        index,
+        pool,
+        values,
+        request,
+        pairs,
     )?;
     *pending = after.pending;
     Ok(after.response)
@@ -89,7 +96,8 @@ fn call_indexed<const INDEX: usize>(
     rules: &mut [u64],
     memo: &mut [u32],
 ) -> Result<Response, Declined>
-    requires { Usable (length pool.old) (replicate INDEX 0) × ZeroRules deck.now rules.old × ZeroMemo deck.now memo.old }
+    requires { Usable (length pool.old) (replicate INDEX 0) × ZeroRules deck.now rules.old × ZeroMemo deck.now memo.old
+        × (INDEX ≤ 196610) }
     ensures { reply_at (outcome_to result) values.new pending.new pool.new
         ≡ requested deck.now (memory_at values.old pending.old pool.old) request
         pairs.now }
@@ -157,7 +165,7 @@ fn call_tabled<const RULES: usize, const MEMO: usize>(
     request: Request,
     pairs: &[i32],
 ) -> Result<Response, Declined>
-    requires { ZeroRules deck.now (replicate RULES 0) × ZeroMemo deck.now (replicate MEMO 0) }
+    requires { ZeroRules deck.now (replicate RULES 0) × ZeroMemo deck.now (replicate MEMO 0) × (RULES ≤ 512) × (MEMO ≤ 1024) }
     ensures { reply_at (outcome_to result) values.new pending.new pool.new
         ≡ requested deck.now (memory_at values.old pending.old pool.old) request
         pairs.now }
