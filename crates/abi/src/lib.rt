@@ -18,7 +18,8 @@ use pool::State;
 fn store(values: &mut [i32; Deck::VALUES], pending: &mut u32, state: State)
     ensures { (values.new ≡ state.values) × (pending.new ≡ state.pending) }
 {
-    *values = state.values;
+    let v = state.values;
+    *values = v;
     *pending = state.pending;
 }
 
