@@ -23,20 +23,14 @@ fn part_above(
     ensures { PartBound (shape rules.now parts.now counts) p result
         × Memo (shape rules.now parts.now counts) memo.new }
 {
-    let count = counts.rules;
-    let carried = parts[Deck::PART_ROW * p];
     let mut most = best;
-    let mut left = carried;
-    let mut r = lists::lowest(left);
-    while r < count {
+    for r in lists::members_below(parts[Deck::PART_ROW * p], counts.rules) {
         charge_tables::known_charges(rules, parts, memo, counts, r);
         let c = memo[Deck::PARTS * r + p] - 1;
         if c == charge_tables::CAP {
             return Err(Deck::RULES * p + r);
         }
         most = most.max(c);
-        left = lists::rest(left);
-        r = lists::lowest(left);
     }
     Ok(most)
 }
@@ -75,16 +69,11 @@ fn largest(rules: &[u64], parts: &[u64], memo: &mut [u32], counts: Deck) -> u32
     ensures { LargestOfRules (shape rules.now parts.now counts) counts.rules result
         × Memo (shape rules.now parts.now counts) memo.new }
 {
-    let count = counts.rules;
     let carried = graph::carried_by_some(parts, counts.parts);
     let mut most: u32 = 0;
-    let mut left = carried;
-    let mut r = lists::lowest(left);
-    while r < count {
+    for r in lists::members_below(carried, counts.rules) {
         charge_tables::known_charges(rules, parts, memo, counts, r);
         most = row_largest(parts, memo, counts.parts, r, most);
-        left = lists::rest(left);
-        r = lists::lowest(left);
     }
     most
 }

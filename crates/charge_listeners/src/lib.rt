@@ -22,12 +22,8 @@ fn note_rule(rules: &mut [u64], events: u64, r: usize)
     requires { (256 ≤ length rules.old) × (r < 64) }
     ensures { RuleNoted events r rules.old rules.new }
 {
-    let mut left = events;
-    let mut c = lists::lowest(left);
-    while c < Deck::CHANNELS {
+    for c in lists::members_below(events, Deck::CHANNELS) {
         rules[Deck::RULE_ROW * c + Deck::RULE_LISTENERS] |= 1 << r;
-        left = lists::rest(left);
-        c = lists::lowest(left);
     }
 }
 
@@ -40,13 +36,9 @@ pub fn note_listeners(rules: &mut [u64], parts: &[u64], count: usize, parts_coun
 {
     clear_listeners(rules);
     let carried = graph::carried_by_some(parts, parts_count);
-    let mut left = carried;
-    let mut r = lists::lowest(left);
-    while r < count {
+    for r in lists::members_below(carried, count) {
         let events = rules[Deck::RULE_ROW * r];
         note_rule(rules, events, r);
-        left = lists::rest(left);
-        r = lists::lowest(left);
     }
 }
 
@@ -56,12 +48,8 @@ pub fn listeners(rules: &[u64], mask: u64) -> u64
     ensures { ListenersAre rules.now mask result }
 {
     let mut set: u64 = 0;
-    let mut left = mask;
-    let mut c = lists::lowest(left);
-    while c < Deck::CHANNELS {
+    for c in lists::members_below(mask, Deck::CHANNELS) {
         set |= rules[Deck::RULE_ROW * c + Deck::RULE_LISTENERS];
-        left = lists::rest(left);
-        c = lists::lowest(left);
     }
     set
 }

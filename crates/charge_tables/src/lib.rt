@@ -65,13 +65,9 @@ fn update_charges(
         memo.old memo.new sums.new }
 {
     let set = charge_listeners::listeners(rules, mask);
-    let mut left = set;
-    let mut r = lists::lowest(left);
-    while r < count {
+    for r in lists::members_below(set, count) {
         rule_charges(rules, parts, memo, channels, count, parts_count, r);
         add_row(sums, parts, memo, parts_count, r);
-        left = lists::rest(left);
-        r = lists::lowest(left);
     }
 }
 
@@ -210,19 +206,14 @@ pub fn update_charge(
     requires { Ready rules.now parts.now counts memo.old × (p < counts.parts) }
     ensures { UpdateGives rules.now parts.now counts p mask memo.new result }
 {
-    let count = counts.rules;
     let set = charge_listeners::active(rules, parts, counts, p, mask);
     if set == 0 {
         return 1;
     }
     let mut total: u32 = 1;
-    let mut left = set;
-    let mut r = lists::lowest(left);
-    while r < count {
+    for r in lists::members_below(set, counts.rules) {
         known_charges(rules, parts, memo, counts, r);
         total = capped_sum(total, memo[Deck::PARTS * r + p] - 1);
-        left = lists::rest(left);
-        r = lists::lowest(left);
     }
     total
 }
