@@ -5,7 +5,7 @@ ghost use Rattle.std.specs.Prelude.{◌≡◌, ◌*◌, ◌<◌, ◌≤◌, leng
 ghost use Rattle.lists.specs.Bits.{bit};
 ghost use Rattle.charge.specs.Memo.{Noted, OthersKept, Cleared, RuleNoted, ListenersAre, AcyclicTables, ActiveIs};
 
-use deck::Deck;
+use deck::{Deck, Rig};
 
 // No rule listens to any channel: column 7 of the rules is for that.
 fn clear_listeners(rules: &mut [u64])
@@ -64,9 +64,9 @@ pub fn carries(parts: &[u64], p: usize, r: usize) -> bool
 }
 
 // The rules that are active at part p when the channels in the mask change, as a set.
-pub fn active(rules: &[u64], parts: &[u64], counts: Deck, p: usize, mask: u64) -> u64
-    requires { AcyclicTables rules.now parts.now counts × (p < counts.parts) }
-    ensures { ActiveIs rules.now parts.now counts.rules p mask result }
+pub fn active(rig: &Rig, p: usize, mask: u64) -> u64
+    requires { AcyclicTables rig.now.rules.now rig.now.parts.now rig.now.counts × (p < rig.now.counts.parts) }
+    ensures { ActiveIs rig.now.rules.now rig.now.parts.now rig.now.counts.rules p mask result }
 {
-    listeners(rules, mask) & parts[Deck::PART_ROW * p]
+    listeners(rig.rules, mask) & rig.parts[Deck::PART_ROW * p]
 }

@@ -8,5 +8,5 @@ use Rattle.charge_bound.proofs.largest.Given as goal
 
 abbrev pub invariant-loop-r : goal.invariant-loop-r
 invariant-loop-r l =
-    let d = shape l.rules l.parts l.counts in
-    Memo d l.memo × Going l.carried l.counts.rules (λ k. LargestOfRules d k l.most) l.r-iterator
+    let d = shape l.rig.rules.now l.rig.parts.now l.rig.counts in
+    Memo d l.memo × Going l.carried l.rig.counts.rules (λ k. LargestOfRules d k l.most) l.r-iterator

@@ -21,7 +21,7 @@ loop-r-init c =
       c.requires.0.memo,
       going-first t.few_rules c.into_iter-r-iterator.ensures.into_iter_gives e.from e.to
           (λ i b f w. passed-next t a.p c.requires.1 i b f w)
-          (subst (λ k. LargestBelow (shape a.rules.now a.parts.now a.counts) k a.best) first c.requires.2),
+          (subst (λ k. LargestBelow (shape a.rig.now.rules.now a.rig.now.parts.now a.rig.now.counts) k a.best) first c.requires.2),
     )
 
 pub known_charges-requires : goal.known_charges-requires
@@ -30,7 +30,7 @@ known_charges-requires c =
     let h = going-here i.1 c.in-Some.ensures.steps in (
       record { tables = c.requires.0.tables; memo = i.0 },
       h.below,
-      carried-by c.args.parts.now c.args.counts.parts _ c.args.p c.requires.1 h.member,
+      carried-by c.args.rig.now.parts.now c.args.rig.now.counts.parts _ c.args.p c.requires.1 h.member,
     )
 
 -- the entry that is read
@@ -66,7 +66,7 @@ loop-r-preserved c =
     let next : 64 * a.p + r + 1 ≡ 64 * a.p + (r + 1) = omega arith in (
       w.memo,
       going-on i.1 c.in-Some.ensures.steps (λ i b f w. passed-next t a.p c.requires.1 i b f w)
-          (subst (λ k. LargestBelow (shape a.rules.now a.parts.now a.counts) k c.max-most.result) next m),
+          (subst (λ k. LargestBelow (shape a.rig.now.rules.now a.rig.now.parts.now a.rig.now.counts) k c.max-most.result) next m),
     )
 
 pub returns : goal.returns

@@ -10,6 +10,6 @@ use Rattle.charge_bound.proofs.part_above.Given as goal
 
 abbrev pub invariant-loop-r : goal.invariant-loop-r
 invariant-loop-r l =
-    let d = shape l.rules l.parts l.counts in
+    let d = shape l.rig.rules.now l.rig.parts.now l.rig.counts in
     Memo d l.memo
-    × Going (get_or l.parts (4 * l.p) 0) l.counts.rules (λ k. LargestBelow d (64 * l.p + k) l.most) l.r-iterator
+    × Going (get_or l.rig.parts.now (4 * l.p) 0) l.rig.counts.rules (λ k. LargestBelow d (64 * l.p + k) l.most) l.r-iterator

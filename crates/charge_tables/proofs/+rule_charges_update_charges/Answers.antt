@@ -1,11 +1,9 @@
 -- `charge_tables::rule_charges` and `charge_tables::update_charges` meet their contracts. Assumes nothing.
 use Prim.Native.Nat.{ℕ, ◌+◌, ◌*◌, ◌<◌}
 use mathlib.Core.Path.{◌≡◌, refl, sym, ◌∙◌, subst}
-use mathlib.Core.List.{List}
 use native.Mathlib.Omega.{arith}
 use lib.ListN.{get_or}
 use Rattle.lists.specs.Laws.Iterating.{going-first, going-here, going-on, going-end}
-use Rattle.charge.specs.Memo.{counts_of}
 use Rattle.charge.proofs.Laws.Tables.{entry}
 use Rattle.charge_listeners.specs.Laws.Listening.{is-listener}
 use Rattle.charge_tables.specs.Laws.Entries.{row_room}
@@ -32,12 +30,8 @@ rule_charges-update_charges-requires t c =
     (lower f c.decreases, (c.requires.0, c.begin-first.ensures.some c.if-default-ne0.true))
 
 -- what is known where the arms of a test for an empty action meet
-abbrev Given : (rules parts : List ℕ) (channels count parts_count mask : ℕ) (m₀ m sums : List ℕ) → Type 0
-Given rules parts channels count parts_count mask m₀ m sums =
-    ActionGives rules parts (counts_of channels count parts_count) mask m₀ m sums
-
 first-given : (t : ℕ) (c : goal.rule_charges-After-second-1 t)
-    → Given c.args.rules.now c.args.parts.now c.args.channels c.args.count c.args.parts_count (get_or c.args.rules.now (8 * c.args.r + 1) 0)
+    → ActionGives c.args.rig.now.rules.now c.args.rig.now.parts.now c.args.rig.now.counts (get_or c.args.rig.now.rules.now (8 * c.args.r + 1) 0)
     c.args.memo.now c.if-default-ne0.memo c.if-default-ne0.first
 first-given t c =
     elim c.if-default-ne0.branch [
@@ -61,7 +55,7 @@ rule_charges-update_charges-requires-then-action-ne0 t c =
 
 -- the same of both rows
 first-given-2 : (t : ℕ) (c : goal.rule_charges-After-second-2-1 t)
-    → Given c.args.rules.now c.args.parts.now c.args.channels c.args.count c.args.parts_count (get_or c.args.rules.now (8 * c.args.r + 1) 0)
+    → ActionGives c.args.rig.now.rules.now c.args.rig.now.parts.now c.args.rig.now.counts (get_or c.args.rig.now.rules.now (8 * c.args.r + 1) 0)
     c.args.memo.now c.if-default-ne0.memo c.if-default-ne0.first
 first-given-2 t c =
     elim c.if-default-ne0.branch [
@@ -74,7 +68,7 @@ first-given-2 t c =
     ]
 
 second-given-2 : (t : ℕ) (c : goal.rule_charges-After-second-2-1 t)
-    → Given c.args.rules.now c.args.parts.now c.args.channels c.args.count c.args.parts_count (get_or c.args.rules.now (8 * c.args.r + 2) 0)
+    → ActionGives c.args.rig.now.rules.now c.args.rig.now.parts.now c.args.rig.now.counts (get_or c.args.rig.now.rules.now (8 * c.args.r + 2) 0)
     c.if-default-ne0.memo c.if-action-ne0.memo c.if-action-ne0.second
 second-given-2 t c =
     elim c.if-action-ne0.branch [
@@ -95,7 +89,7 @@ rule_charges-put_row-requires t c =
 
 -- the same of both rows
 first-given-3 : (t : ℕ) (c : goal.rule_charges-After-slice_known-3-1 t)
-    → Given c.args.rules.now c.args.parts.now c.args.channels c.args.count c.args.parts_count (get_or c.args.rules.now (8 * c.args.r + 1) 0)
+    → ActionGives c.args.rig.now.rules.now c.args.rig.now.parts.now c.args.rig.now.counts (get_or c.args.rig.now.rules.now (8 * c.args.r + 1) 0)
     c.args.memo.now c.if-default-ne0.memo c.if-default-ne0.first
 first-given-3 t c =
     elim c.if-default-ne0.branch [
@@ -108,7 +102,7 @@ first-given-3 t c =
     ]
 
 second-given-3 : (t : ℕ) (c : goal.rule_charges-After-slice_known-3-1 t)
-    → Given c.args.rules.now c.args.parts.now c.args.channels c.args.count c.args.parts_count (get_or c.args.rules.now (8 * c.args.r + 2) 0)
+    → ActionGives c.args.rig.now.rules.now c.args.rig.now.parts.now c.args.rig.now.counts (get_or c.args.rig.now.rules.now (8 * c.args.r + 2) 0)
     c.if-default-ne0.memo c.if-action-ne0.memo c.if-action-ne0.second
 second-given-3 t c =
     elim c.if-action-ne0.branch [

@@ -31,9 +31,9 @@ returns-then-set-eq0 c =
     let h = c.requires.0.tables in
     let set = c.active-set.ensures in
     let n = none_in c.if-set-eq0.true in
-    let f = heard (shape c.args.rules.now c.args.parts.now c.args.counts) c.args.p (bits_of 32 c.args.mask) in
-    let t : Through c.active-set.result c.args.counts.rules
-    (Summing (shape c.args.rules.now c.args.parts.now c.args.counts) 1 f c.args.memo.now 1) 64
+    let f = heard (shape c.args.rig.now.rules.now c.args.rig.now.parts.now c.args.rig.now.counts) c.args.p (bits_of 32 c.args.mask) in
+    let t : Through c.active-set.result c.args.rig.now.counts.rules
+    (Summing (shape c.args.rig.now.rules.now c.args.rig.now.parts.now c.args.rig.now.counts) 1 f c.args.memo.now 1) 64
     = through-next n (omega arith) h.few_rules
     (λ i a b e w. skip w (heard-no h i b c.args.mask c.args.p c.requires.1 (sym (set.each i b) ∙ e)))
     (none_yet (record { value = refl; memo = c.requires.0.memo })) in

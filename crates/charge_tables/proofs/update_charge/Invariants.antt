@@ -8,5 +8,5 @@ use Rattle.charge_tables.proofs.update_charge.Given as goal
 
 abbrev pub invariant-loop-r : goal.invariant-loop-r
 invariant-loop-r l =
-    let d = shape l.rules l.parts l.counts in
-    Going l.set l.counts.rules (Summing d 1 (heard d l.p (bits_of 32 l.mask)) l.memo l.total) l.r-iterator
+    let d = shape l.rig.rules.now l.rig.parts.now l.rig.counts in
+    Going l.set l.rig.counts.rules (Summing d 1 (heard d l.p (bits_of 32 l.mask)) l.memo l.total) l.r-iterator
