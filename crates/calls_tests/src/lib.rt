@@ -7,7 +7,7 @@ ghost use Rattle.calls_tests.specs.Tested.{Usable, TestsState, Tests};
 ghost use Rattle.charge.specs.Memo.{Ready};
 ghost use Rattle.passing.specs.Judged.{ZeroRules, ZeroMemo};
 
-use deck::{Deck, Form};
+use deck::{Deck, Form, Rig};
 use refusals::{Declined, Refusal};
 
 // The numbers of an index, a third of them for the buckets and two for each place: for pools of up to 64 places, of up to 256, of up to
@@ -55,31 +55,32 @@ pub struct TestsFound {
 
 // 9 and 10, for a deck that passes.
 fn test_state(
-    counts: Deck,
-    rules: &[u64],
-    parts: &[u64],
+    rig: &Rig,
     memo: &mut [u32],
     index: &mut [u16],
     pool: &[i32],
     values: &[i32],
     pending: u32,
 ) -> Result<TestsFound, Declined>
-    requires { Ready rules.now parts.now counts memo.old × (counts.channels ≤ 32)
+    requires { Ready rig.now.rules.now rig.now.parts.now rig.now.counts memo.old × (rig.now.counts.channels ≤ 32)
         × Usable (length pool.now) index.old }
-    ensures { TestsState counts rules.now parts.now memo.new index.new
+    ensures { TestsState rig.now.counts rig.now.rules.now rig.now.parts.now memo.new index.new
         pool.now values.now pending result }
 {
     if !pool::good_length(pool.len()) {
         return Err(Refusal::BadPool.unplaced());
     }
     let n = pending as usize;
-    match pool_states::good_state(rules, parts, memo, index, counts, values, n, pool) {
+    match pool_states::good_state(rig, memo, index, values, n, pool) {
         Some(charge) => {
             let pending = Pending {
                 count: pending,
                 charge,
             };
-            Ok(TestsFound { counts, pending })
+            Ok(TestsFound {
+                counts: rig.counts,
+                pending,
+            })
         }
         None => Err(Refusal::BadState.unplaced()),
     }
@@ -102,14 +103,11 @@ pub fn test_lent(
         pool.now values.now pending result }
 {
     let passing = passing_tests::judge(deck, rules, parts, memo, Form::New)?;
-    test_state(
-        passing.counts,
+    let rig = Rig {
+        deck,
+        counts: passing.counts,
         rules,
         parts,
-        memo,
-        index,
-        pool,
-        values,
-        pending,
-    )
+    };
+    test_state(&rig, memo, index, pool, values, pending)
 }

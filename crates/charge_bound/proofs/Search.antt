@@ -1,15 +1,15 @@
 -- The search over the places 64 p + r, lowest first: what is known of those that are passed. Assumes nothing.
-use Prim.Native.Nat.{ℕ, ◌+◌, ◌*◌, ◌≤◌, ◌<◌, min, max, zero-le}
-use mathlib.Core.Path.{◌≡◌, refl, sym, ap, ◌∙◌}
+use Prim.Native.Nat.{ℕ, ◌+◌, ◌*◌, ◌≤◌, ◌<◌, max, zero-le}
+use mathlib.Core.Path.{◌≡◌, refl, sym, ap, ap₂, ◌∙◌}
 use mathlib.Core.Logic.{⊎_elim}
-use mathlib.Core.Bool.{true}
+use mathlib.Core.Bool.{true, false}
 use Rattle.std.specs.Prelude.{Ok, Err}
 use mathlib.Core.List.{List, [], ◌∷◌}
 use native.Mathlib.Nat.{le_refl, eq-or-lt_of_le}
 use native.Mathlib.Decide.{dec_lt}
 use native.Mathlib.Omega.{arith}
 use lib.ListN.{get_or}
-use Rattle.lists.specs.Bits.{bit, NextIn}
+use Rattle.lists.specs.Bits.{bit}
 use Rattle.lists.specs.Laws.Booleans.{contradiction}
 use Rattle.deck.specs.Deck.{Deck, M, N, carries}
 use Rattle.deck.specs.Shape.{shape}
@@ -119,19 +119,20 @@ module _ {rules parts : List ℕ} {counts : Counted.Deck} (h : AcyclicTables rul
   )
 
   module _ (p : ℕ) (l : p < N') {best : ℕ} where
-    -- at part p, from rule k on, r is the next one that is carried, or there is none
-    pub passed-next : (k r : ℕ) → k ≤ M' → NextIn (get_or parts (4 * p) 0) k r → LargestBelow deck (64 * p + k) best
-        → LargestBelow deck (64 * p + min r M') best
-    passed-next k r m n w = passed-skip deck few_rules w (64 * p + min r M') between
+    -- part p does not carry rule r
+    pub passed-next : (r : ℕ) → r < M' → bit (get_or parts (4 * p) 0) r ≡ false → LargestBelow deck (64 * p + r) best
+        → LargestBelow deck (64 * p + (r + 1)) best
+    passed-next r m f w = passed-skip deck few_rules w (64 * p + (r + 1)) between
       where
-        between : (q s : ℕ) → Carried deck q s → 64 * p + k ≤ 64 * q + s → 64 * q + s < 64 * p + min r M' → ⊥
+        between : (q s : ℕ) → Carried deck q s → 64 * p + r ≤ 64 * q + s → 64 * q + s < 64 * p + (r + 1) → ⊥
         between q s c a b =
-            let same : q ≡ p = omega (arith, c.1, few_rules, h.few_rules) in
+            let part : q ≡ p = omega (arith, c.1, few_rules, h.few_rules) in
+            let rule : s ≡ r = omega (arith, c.1, few_rules, h.few_rules) in
             let t = sym (shape-carries rules parts R' M' N' q s (omega arith) (omega (arith, c.1, few_rules))) ∙ c.2 in
-            contradiction (ap (λ p. bit (get_or parts (4 * p) 0) s) (sym same) ∙ t) (n.passed s (omega arith) (omega arith))
+            contradiction (ap₂ (λ p s. bit (get_or parts (4 * p) 0) s) (sym part) (sym rule) ∙ t) f
 
     -- all rules of the part are passed
-    pub passed-part : (r : ℕ) → M' ≤ r → LargestBelow deck (64 * p + min r M') best → LargestBelow deck (64 * (p + 1)) best
-    passed-part r m w =
+    pub passed-part : LargestBelow deck (64 * p + M') best → LargestBelow deck (64 * (p + 1)) best
+    passed-part w =
         passed-skip deck few_rules w (64 * (p + 1))
         (λ q s c a b. omega (arith, c.1, few_rules, counted-M rules parts counts))

@@ -7,49 +7,36 @@ ghost use Rattle.deck.specs.Shape.{shape};
 ghost use Rattle.charge.specs.Memo.{Memo, Ready, RowKnown, RowLargest};
 ghost use Rattle.charge.specs.Answer.{bound_of, LargestBelow, PartBound, LargestOfRules};
 
-use deck::Deck;
+use deck::{Deck, Rig};
 
 // The search at one part, behind the largest charge so far: the largest now, or the place of the first above the bound.
-fn part_above(
-    rules: &[u64],
-    parts: &[u64],
-    memo: &mut [u32],
-    counts: Deck,
-    p: usize,
-    best: u32,
-) -> Result<u32, usize>
-    requires { Ready rules.now parts.now counts memo.old × (p < counts.parts)
-        × LargestBelow (shape rules.now parts.now counts) (64 * p) best }
-    ensures { PartBound (shape rules.now parts.now counts) p result
-        × Memo (shape rules.now parts.now counts) memo.new }
+fn part_above(rig: &Rig, memo: &mut [u32], p: usize, best: u32) -> Result<u32, usize>
+    requires { Ready rig.now.rules.now rig.now.parts.now rig.now.counts memo.old × (p < rig.now.counts.parts)
+        × LargestBelow (shape rig.now.rules.now rig.now.parts.now rig.now.counts) (64 * p) best }
+    ensures { PartBound (shape rig.now.rules.now rig.now.parts.now rig.now.counts) p result
+        × Memo (shape rig.now.rules.now rig.now.parts.now rig.now.counts) memo.new }
 {
-    let count = counts.rules;
-    let carried = parts[Deck::PART_ROW * p];
     let mut most = best;
-    let mut left = carried;
-    let mut r = lists::lowest(left);
-    while r < count {
-        charge_tables::known_charges(rules, parts, memo, counts, r);
+    for r in lists::members_below(rig.parts[Deck::PART_ROW * p], rig.counts.rules) {
+        charge_tables::known_charges(rig, memo, r);
         let c = memo[Deck::PARTS * r + p] - 1;
         if c == charge_tables::CAP {
             return Err(Deck::RULES * p + r);
         }
         most = most.max(c);
-        left = lists::rest(left);
-        r = lists::lowest(left);
     }
     Ok(most)
 }
 
 // The bound on the charges of the carried rules, lowest place first.
-fn search_above(rules: &[u64], parts: &[u64], memo: &mut [u32], counts: Deck) -> Result<u32, usize>
-    requires { Ready rules.now parts.now counts memo.old }
-    ensures { (result ≡ bound_of (shape rules.now parts.now counts))
-        × Memo (shape rules.now parts.now counts) memo.new }
+fn search_above(rig: &Rig, memo: &mut [u32]) -> Result<u32, usize>
+    requires { Ready rig.now.rules.now rig.now.parts.now rig.now.counts memo.old }
+    ensures { (result ≡ bound_of (shape rig.now.rules.now rig.now.parts.now rig.now.counts))
+        × Memo (shape rig.now.rules.now rig.now.parts.now rig.now.counts) memo.new }
 {
     let mut best: u32 = 0;
-    for p in 0..counts.parts {
-        best = part_above(rules, parts, memo, counts, p, best)?;
+    for p in 0..rig.counts.parts {
+        best = part_above(rig, memo, p, best)?;
     }
     Ok(best)
 }
@@ -70,40 +57,30 @@ fn row_largest(parts: &[u64], memo: &[u32], parts_count: usize, r: usize, best: 
 }
 
 // The largest charge of the carried rules, up to 65,536. The memo has then the charges of all of them.
-fn largest(rules: &[u64], parts: &[u64], memo: &mut [u32], counts: Deck) -> u32
-    requires { Ready rules.now parts.now counts memo.old }
-    ensures { LargestOfRules (shape rules.now parts.now counts) counts.rules result
-        × Memo (shape rules.now parts.now counts) memo.new }
+fn largest(rig: &Rig, memo: &mut [u32]) -> u32
+    requires { Ready rig.now.rules.now rig.now.parts.now rig.now.counts memo.old }
+    ensures { LargestOfRules (shape rig.now.rules.now rig.now.parts.now rig.now.counts) rig.now.counts.rules result
+        × Memo (shape rig.now.rules.now rig.now.parts.now rig.now.counts) memo.new }
 {
-    let count = counts.rules;
-    let carried = graph::carried_by_some(parts, counts.parts);
+    let carried = graph::carried_by_some(rig.parts, rig.counts.parts);
     let mut most: u32 = 0;
-    let mut left = carried;
-    let mut r = lists::lowest(left);
-    while r < count {
-        charge_tables::known_charges(rules, parts, memo, counts, r);
-        most = row_largest(parts, memo, counts.parts, r, most);
-        left = lists::rest(left);
-        r = lists::lowest(left);
+    for r in lists::members_below(carried, rig.counts.rules) {
+        charge_tables::known_charges(rig, memo, r);
+        most = row_largest(rig.parts, memo, rig.counts.parts, r, most);
     }
     most
 }
 
 // The bound on the charges of the carried rules. Mostly none is above it, and then the order of the places plays no role.
 // The memo is lent, and has then what was computed.
-pub fn first_above(
-    rules: &[u64],
-    parts: &[u64],
-    memo: &mut [u32],
-    counts: Deck,
-) -> Result<u32, usize>
-    requires { Ready rules.now parts.now counts memo.old }
-    ensures { (result ≡ bound_of (shape rules.now parts.now counts))
-        × Memo (shape rules.now parts.now counts) memo.new }
+pub fn first_above(rig: &Rig, memo: &mut [u32]) -> Result<u32, usize>
+    requires { Ready rig.now.rules.now rig.now.parts.now rig.now.counts memo.old }
+    ensures { (result ≡ bound_of (shape rig.now.rules.now rig.now.parts.now rig.now.counts))
+        × Memo (shape rig.now.rules.now rig.now.parts.now rig.now.counts) memo.new }
 {
-    let most = largest(rules, parts, memo, counts);
+    let most = largest(rig, memo);
     if most < charge_tables::CAP {
         return Ok(most);
     }
-    search_above(rules, parts, memo, counts)
+    search_above(rig, memo)
 }

@@ -5,7 +5,7 @@ ghost use Rattle.std.specs.Prelude.{◌≡◌, ◌*◌, ◌<◌, ◌≤◌, leng
 ghost use Rattle.lists.specs.Bits.{bit};
 ghost use Rattle.charge.specs.Memo.{Noted, OthersKept, Cleared, RuleNoted, ListenersAre, AcyclicTables, ActiveIs};
 
-use deck::Deck;
+use deck::{Deck, Rig};
 
 // No rule listens to any channel: column 7 of the rules is for that.
 fn clear_listeners(rules: &mut [u64])
@@ -22,12 +22,8 @@ fn note_rule(rules: &mut [u64], events: u64, r: usize)
     requires { (256 ≤ length rules.old) × (r < 64) }
     ensures { RuleNoted events r rules.old rules.new }
 {
-    let mut left = events;
-    let mut c = lists::lowest(left);
-    while c < Deck::CHANNELS {
+    for c in lists::members_below(events, Deck::CHANNELS) {
         rules[Deck::RULE_ROW * c + Deck::RULE_LISTENERS] |= 1 << r;
-        left = lists::rest(left);
-        c = lists::lowest(left);
     }
 }
 
@@ -40,13 +36,9 @@ pub fn note_listeners(rules: &mut [u64], parts: &[u64], count: usize, parts_coun
 {
     clear_listeners(rules);
     let carried = graph::carried_by_some(parts, parts_count);
-    let mut left = carried;
-    let mut r = lists::lowest(left);
-    while r < count {
+    for r in lists::members_below(carried, count) {
         let events = rules[Deck::RULE_ROW * r];
         note_rule(rules, events, r);
-        left = lists::rest(left);
-        r = lists::lowest(left);
     }
 }
 
@@ -56,12 +48,8 @@ pub fn listeners(rules: &[u64], mask: u64) -> u64
     ensures { ListenersAre rules.now mask result }
 {
     let mut set: u64 = 0;
-    let mut left = mask;
-    let mut c = lists::lowest(left);
-    while c < Deck::CHANNELS {
+    for c in lists::members_below(mask, Deck::CHANNELS) {
         set |= rules[Deck::RULE_ROW * c + Deck::RULE_LISTENERS];
-        left = lists::rest(left);
-        c = lists::lowest(left);
     }
     set
 }
@@ -76,9 +64,9 @@ pub fn carries(parts: &[u64], p: usize, r: usize) -> bool
 }
 
 // The rules that are active at part p when the channels in the mask change, as a set.
-pub fn active(rules: &[u64], parts: &[u64], counts: Deck, p: usize, mask: u64) -> u64
-    requires { AcyclicTables rules.now parts.now counts × (p < counts.parts) }
-    ensures { ActiveIs rules.now parts.now counts.rules p mask result }
+pub fn active(rig: &Rig, p: usize, mask: u64) -> u64
+    requires { AcyclicTables rig.now.rules.now rig.now.parts.now rig.now.counts × (p < rig.now.counts.parts) }
+    ensures { ActiveIs rig.now.rules.now rig.now.parts.now rig.now.counts.rules p mask result }
 {
-    listeners(rules, mask) & parts[Deck::PART_ROW * p]
+    listeners(rig.rules, mask) & rig.parts[Deck::PART_ROW * p]
 }

@@ -6,9 +6,8 @@ ghost use Rattle.std.specs.Prelude.{◌≡◌, true, cond, ◌+◌, ◌*◌, ◌
 ghost use Rattle.lists.specs.Lists.{sum_of, below};
 ghost use Rattle.graph.specs.Masks.{carried_at};
 ghost use Rattle.charge.specs.Memo.{Ready, UpdateGives, RulesGive, Begun, UpdatesGive, RowSmall, RowKnown, RowAdded, RowPut, capped};
-ghost use Rattle.charge.specs.Memo.{counts_of};
 
-use deck::Deck;
+use deck::{Deck, Rig};
 
 // Where a charge stops: above the largest that a deck may have.
 pub const CAP: u32 = Deck::CHARGE as u32 + 1;
@@ -47,31 +46,16 @@ fn begin(mask: u64) -> [u32; Deck::PARTS]
     [1u32; Deck::PARTS]
 }
 
-// The charges at all parts of an update of the channels in the mask, on a row that has 1 for each. The counts are three numbers
-// here and in `rule_charges`: a struct would go through memory in each call.
+// The charges at all parts of an update of the channels in the mask, on a row that has 1 for each.
 #[cycle(rule_charges_update_charges)]
-fn update_charges(
-    rules: &[u64],
-    parts: &[u64],
-    memo: &mut [u32],
-    channels: usize,
-    count: usize,
-    parts_count: usize,
-    mask: u64,
-    sums: &mut [u32],
-)
-    requires { Ready rules.now parts.now (counts_of channels count parts_count) memo.old × (sums.old ≡ replicate 16 1) }
-    ensures { UpdatesGive rules.now parts.now (counts_of channels count parts_count) mask
-        memo.old memo.new sums.new }
+fn update_charges(rig: &Rig, memo: &mut [u32], mask: u64, sums: &mut [u32])
+    requires { Ready rig.now.rules.now rig.now.parts.now rig.now.counts memo.old × (sums.old ≡ replicate 16 1) }
+    ensures { UpdatesGive rig.now.rules.now rig.now.parts.now rig.now.counts mask memo.old memo.new sums.new }
 {
-    let set = charge_listeners::listeners(rules, mask);
-    let mut left = set;
-    let mut r = lists::lowest(left);
-    while r < count {
-        rule_charges(rules, parts, memo, channels, count, parts_count, r);
-        add_row(sums, parts, memo, parts_count, r);
-        left = lists::rest(left);
-        r = lists::lowest(left);
+    let set = charge_listeners::listeners(rig.rules, mask);
+    for r in lists::members_below(set, rig.counts.rules) {
+        rule_charges(rig, memo, r);
+        add_row(sums, rig.parts, memo, rig.counts.parts, r);
     }
 }
 
@@ -123,54 +107,28 @@ fn put_row(memo: &mut [u32], parts_count: usize, r: usize, kind: u64, first: &[u
 
 // The charges of rule r at all parts. The memo has them where they were computed before.
 #[cycle(rule_charges_update_charges)]
-fn rule_charges(
-    rules: &[u64],
-    parts: &[u64],
-    memo: &mut [u32],
-    channels: usize,
-    count: usize,
-    parts_count: usize,
-    r: usize,
-)
-    requires { Ready rules.now parts.now (counts_of channels count parts_count) memo.old × (r < count)
-        × (carried_at parts.now parts_count r ≡ true) }
-    ensures { RulesGive rules.now parts.now (counts_of channels count parts_count) r memo.old
-        memo.new }
+fn rule_charges(rig: &Rig, memo: &mut [u32], r: usize)
+    requires { Ready rig.now.rules.now rig.now.parts.now rig.now.counts memo.old × (r < rig.now.counts.rules)
+        × (carried_at rig.now.parts.now rig.now.counts.parts r ≡ true) }
+    ensures { RulesGive rig.now.rules.now rig.now.parts.now rig.now.counts r memo.old memo.new }
 {
     if memo[Deck::PARTS * r] != 0 {
         return;
     }
+    let rules = rig.rules;
     let default = rules[Deck::RULE_ROW * r + Deck::RULE_DEFAULT_TARGETS];
     let action = rules[Deck::RULE_ROW * r + Deck::RULE_TARGETS];
     let mut first = begin(default);
     let mut second = begin(action);
     if default & ALL_CHANNELS != 0 {
-        update_charges(
-            rules,
-            parts,
-            memo,
-            channels,
-            count,
-            parts_count,
-            default,
-            &mut first,
-        );
+        update_charges(rig, memo, default, &mut first);
     }
     if action & ALL_CHANNELS != 0 {
-        update_charges(
-            rules,
-            parts,
-            memo,
-            channels,
-            count,
-            parts_count,
-            action,
-            &mut second,
-        );
+        update_charges(rig, memo, action, &mut second);
     }
     put_row(
         memo,
-        parts_count,
+        rig.counts.parts,
         r,
         rules[Deck::RULE_ROW * r + Deck::RULE_KIND],
         &first,
@@ -179,50 +137,30 @@ fn rule_charges(
 }
 
 // The charges of rule r at all parts, if they are not in the memo yet. Mostly they are, and this test costs no call.
-pub fn known_charges(rules: &[u64], parts: &[u64], memo: &mut [u32], counts: Deck, r: usize)
-    requires { Ready rules.now parts.now counts memo.old × (r < counts.rules)
-        × (carried_at parts.now counts.parts r ≡ true) }
-    ensures { RulesGive rules.now parts.now counts r memo.old memo.new }
+pub fn known_charges(rig: &Rig, memo: &mut [u32], r: usize)
+    requires { Ready rig.now.rules.now rig.now.parts.now rig.now.counts memo.old × (r < rig.now.counts.rules)
+        × (carried_at rig.now.parts.now rig.now.counts.parts r ≡ true) }
+    ensures { RulesGive rig.now.rules.now rig.now.parts.now rig.now.counts r memo.old memo.new }
 {
     if memo[Deck::PARTS * r] != 0 {
         return;
     }
-    rule_charges(
-        rules,
-        parts,
-        memo,
-        counts.channels,
-        counts.rules,
-        counts.parts,
-        r,
-    );
+    rule_charges(rig, memo, r);
 }
 
 // The charge at part p of an update of the channels in the mask, up to 65,536. Often no rule listens to it.
-pub fn update_charge(
-    rules: &[u64],
-    parts: &[u64],
-    memo: &mut [u32],
-    counts: Deck,
-    p: usize,
-    mask: u64,
-) -> u32
-    requires { Ready rules.now parts.now counts memo.old × (p < counts.parts) }
-    ensures { UpdateGives rules.now parts.now counts p mask memo.new result }
+pub fn update_charge(rig: &Rig, memo: &mut [u32], p: usize, mask: u64) -> u32
+    requires { Ready rig.now.rules.now rig.now.parts.now rig.now.counts memo.old × (p < rig.now.counts.parts) }
+    ensures { UpdateGives rig.now.rules.now rig.now.parts.now rig.now.counts p mask memo.new result }
 {
-    let count = counts.rules;
-    let set = charge_listeners::active(rules, parts, counts, p, mask);
+    let set = charge_listeners::active(rig, p, mask);
     if set == 0 {
         return 1;
     }
     let mut total: u32 = 1;
-    let mut left = set;
-    let mut r = lists::lowest(left);
-    while r < count {
-        known_charges(rules, parts, memo, counts, r);
+    for r in lists::members_below(set, rig.counts.rules) {
+        known_charges(rig, memo, r);
         total = capped_sum(total, memo[Deck::PARTS * r + p] - 1);
-        left = lists::rest(left);
-        r = lists::lowest(left);
     }
     total
 }

@@ -62,9 +62,9 @@ abbrev pub of_truth : Option Bool → ℕ → Read Bool
 of_truth (Some b) n = got b n
 of_truth None n = nothing
 
-abbrev pub of_end : Option ℕ → Read (Unit {0})
-of_end (Some n) = got tt n
-of_end None = nothing
+abbrev pub of_end : Option (Unit {0}) → ℕ → Read (Unit {0})
+of_end (Some u) n = got tt n
+of_end None n = nothing
 
 -- ---- whole expressions
 

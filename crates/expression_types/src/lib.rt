@@ -1,6 +1,6 @@
 // The type check: whether bytes are an expression. It goes over the bytes as they stand: it reads an operator and calls itself for
-// each operand, and fewer bytes are unread then. Slices are handed on by a reference, since a call would copy them. The definitions
-// are in `expression`. Numbers and truths have functions of their own, as they have operators of their own.
+// each operand, and fewer bytes are unread then. The definitions are in `expression`. Numbers and truths have functions of their own,
+// as they have operators of their own.
 #![tactic(auto)]
 
 ghost use Rattle.std.specs.Prelude.{◌≡◌, ◌<◌, ◌≤◌, length, get_or};
@@ -9,97 +9,114 @@ ghost use Rattle.expression.specs.Answers.{Answers, scope, num_end, truth_end, o
 
 use expression::TruthOp;
 
-// The end of a literal's four bytes.
-fn literal_end(s: &[u8], at: usize) -> Option<usize>
-    requires { at ≤ length s.now }
-    ensures { of_end result ≡ end_of (literal_at s.now at) }
-{
-    if s.len() - at < 4 { None } else { Some(at + 4) }
+// What is lent to check an expression: its bytes, and how many own and far channels are known. It is handed on by a reference, and so
+// is the place in the bytes: compiled code answers an Option of nothing in a register, but not one of a place.
+#[derive(Clone, Copy)]
+struct Lent<'a> {
+    bytes: &'a [u8],
+    own: usize,
+    far: usize,
 }
 
-// The end of a channel's number, of n that are known.
-fn channel_end(s: &[u8], at: usize, n: usize) -> Option<usize>
-    ensures { of_end result ≡ end_of (channel_at n s.now at) }
+// A literal's four bytes.
+fn literal_end(s: &[u8], at: &mut usize) -> Option<()>
+    requires { at.old ≤ length s.now }
+    ensures { of_end result at.new ≡ end_of (literal_at s.now at.old) }
 {
-    let c = usize::from(*s.get(at)?);
-    if c < n { Some(at + 1) } else { None }
+    if s.len() - *at < 4 {
+        return None;
+    }
+    *at += 4;
+    Some(())
 }
 
-// The end of a literal or of a channel, which have no operands.
-fn leaf_end(s: &[u8], at: usize, own: usize, far: usize) -> Option<usize>
-    requires { (at < length s.now) × (get_or s.now at 0 < 3) }
-    ensures { Answers (num_end (scope own far)) s.now at (of_end result) }
+// A channel's number, of n that are known.
+fn channel_end(s: &[u8], at: &mut usize, n: usize) -> Option<()>
+    ensures { of_end result at.new ≡ end_of (channel_at n s.now at.old) }
 {
-    let next = at + 1;
-    match s[at] {
-        0 => literal_end(s, next),
-        1 => channel_end(s, next, own),
-        _ => channel_end(s, next, far),
+    let c = usize::from(*s.get(*at)?);
+    *at += 1;
+    if c < n { Some(()) } else { None }
+}
+
+// A literal or a channel, which have no operands, by its first byte b.
+fn leaf_end(lent: &Lent, at: &mut usize, b: u8) -> Option<()>
+    requires { (at.old < length lent.now.bytes.now) × (b ≡ get_or lent.now.bytes.now at.old 0) × (b < 3) }
+    ensures { Answers (num_end (scope lent.now.own lent.now.far)) lent.now.bytes.now at.old (of_end result at.new) }
+{
+    *at += 1;
+    match b {
+        0 => literal_end(lent.bytes, at),
+        1 => channel_end(lent.bytes, at, lent.own),
+        _ => channel_end(lent.bytes, at, lent.far),
     }
 }
 
-// The end of the number at a place of s, with `own` own and `far` far channels known. Bytes below 3 are literals and channels; 6 is the
-// negation, which has one operand.
-fn num_end(s: &&[u8], at: usize, own: usize, far: usize) -> Option<usize>
-    requires { length s.now.now < 18446744073709551616 }
-    ensures { Answers (num_end (scope own far)) s.now.now at (of_end result) }
+// The number at a place, which moves on to its end. Bytes below 3 are literals and channels; 6 is the negation, which has one operand.
+fn num_end(lent: &Lent, at: &mut usize) -> Option<()>
+    requires { length lent.now.bytes.now < 18446744073709551616 }
+    ensures { Answers (num_end (scope lent.now.own lent.now.far)) lent.now.bytes.now at.old (of_end result at.new) }
 {
-    let bytes = *s;
-    let b = *bytes.get(at)?;
+    let b = *lent.bytes.get(*at)?;
     if b < 3 {
-        return leaf_end(bytes, at, own, far);
+        return leaf_end(lent, at, b);
     }
+    *at += 1;
     if b > 6 {
         return None;
     }
-    let next = at + 1;
     if b == 6 {
-        return num_end(s, next, own, far);
+        return num_end(lent, at);
     }
-    let n = num_end(s, next, own, far)?;
-    num_end(s, n, own, far)
+    num_end(lent, at)?;
+    num_end(lent, at)
 }
 
-// The end of the truth at a place of s, with `own` own and `far` far channels known.
-fn truth_end(s: &&[u8], at: usize, own: usize, far: usize) -> Option<usize>
-    requires { length s.now.now < 18446744073709551616 }
-    ensures { Answers (truth_end (scope own far)) s.now.now at (of_end result) }
+// The truth at a place, which moves on to its end.
+fn truth_end(lent: &Lent, at: &mut usize) -> Option<()>
+    requires { length lent.now.bytes.now < 18446744073709551616 }
+    ensures { Answers (truth_end (scope lent.now.own lent.now.far)) lent.now.bytes.now at.old (of_end result at.new) }
 {
-    let bytes = *s;
-    let op = expression::truth_op(*bytes.get(at)?);
-    let next = at + 1;
+    let op = expression::truth_op(*lent.bytes.get(*at)?);
+    *at += 1;
     match op {
-        TruthOp::Constant(_) => Some(next),
-        TruthOp::Not => truth_end(s, next, own, far),
+        TruthOp::Constant(_) => Some(()),
+        TruthOp::Not => truth_end(lent, at),
         TruthOp::Both(_) => {
-            let n = truth_end(s, next, own, far)?;
-            truth_end(s, n, own, far)
+            truth_end(lent, at)?;
+            truth_end(lent, at)
         }
         TruthOp::Two(_) => {
-            let n = num_end(s, next, own, far)?;
-            num_end(s, n, own, far)
+            num_end(lent, at)?;
+            num_end(lent, at)
         }
         TruthOp::Unknown => None,
     }
 }
 
+// ---- whole expressions
+
 // Whether an expression that ends there ends with the bytes, so that nothing stands after it.
-fn ends(s: &[u8], end: Option<usize>) -> bool
-    ensures { result ≡ ends_at (length s.now) (of_end end) }
+fn ends(s: &[u8], end: Option<()>, at: usize) -> bool
+    ensures { result ≡ ends_at (length s.now) (of_end end at) }
 {
-    matches!(end, Some(n) if n == s.len())
+    end.is_some() && at == s.len()
 }
 
 // Whether the bytes are a number.
 pub fn is_num(s: &[u8], own: usize, far: usize) -> bool
     ensures { result ≡ is_got (whole_num (scope own far) s.now) }
 {
-    ends(s, num_end(&s, 0, own, far))
+    let mut at = 0;
+    let end = num_end(&Lent { bytes: s, own, far }, &mut at);
+    ends(s, end, at)
 }
 
 // Whether the bytes are a truth.
 pub fn is_truth(s: &[u8], own: usize, far: usize) -> bool
     ensures { result ≡ is_got (whole_truth (scope own far) s.now) }
 {
-    ends(s, truth_end(&s, 0, own, far))
+    let mut at = 0;
+    let end = truth_end(&Lent { bytes: s, own, far }, &mut at);
+    ends(s, end, at)
 }

@@ -40,7 +40,7 @@ fn look(
     let part = pool_states::number_at(place, 0);
     let count = pool_states::number_at(place, 1);
     let mask = pool_states::channels_of(place);
-    let charge = charge_tables::update_charge(rig.rules, rig.parts, memo, rig.counts, part, mask);
+    let charge = charge_tables::update_charge(rig, memo, part, mask);
     let to = 2 + 2 * count;
     let pairs = &place[2..to];
     let changed = firing_actions::changed_by(values, part, pairs, back);
@@ -88,7 +88,7 @@ pub fn commit(
         capacity: queue.capacity - 1,
         full: false,
     };
-    if !passing_tests::within(rig.deck, rig.counts, rig.parts, values, part) {
+    if !passing_tests::within(rig, values, part) {
         firing_actions::assign_pairs(values, part, &back[..2 * found.count]);
         return AfterCommit {
             queue: left,

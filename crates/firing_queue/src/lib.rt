@@ -49,7 +49,7 @@ pub fn add(
     let Some(slot) = pool_index::find(index, pool, queue.used, row) else {
         return queue;
     };
-    let c = pool_states::place_charge(rig.rules, rig.parts, memo, rig.counts, row);
+    let c = pool_states::place_charge(rig, memo, row);
     let total = queue.charge + c;
     if total > queue.capacity {
         return over_capacity(queue);

@@ -286,7 +286,7 @@ pub fn react(
         (held_of index.new pool.new) result }
 {
     let part = change.part;
-    let set = charge_listeners::active(rig.rules, rig.parts, rig.counts, part, change.channels);
+    let set = charge_listeners::active(rig, part, change.channels);
     if set == 0 {
         return queue;
     }

@@ -18,12 +18,8 @@ fn add_edges(edges: &mut [u64], events: u64, targets: u64)
     requires { length edges.old ≡ 32 }
     ensures { Added events targets edges.old edges.new }
 {
-    let mut left = events;
-    let mut c = lists::lowest(left);
-    while c < Deck::CHANNELS {
+    for c in lists::members_below(events, Deck::CHANNELS) {
         edges[c] |= targets;
-        left = lists::rest(left);
-        c = lists::lowest(left);
     }
 }
 
@@ -45,14 +41,10 @@ fn draw(rules: &[u64], parts: &[u64], count: usize, parts_count: usize, edges: &
     ensures { Drawn rules.now parts.now parts_count count edges.new }
 {
     let carried = carried_by_some(parts, parts_count);
-    let mut left = carried;
-    let mut r = lists::lowest(left);
-    while r < count {
+    for r in lists::members_below(carried, count) {
         let targets = rules[Deck::RULE_ROW * r + Deck::RULE_DEFAULT_TARGETS]
             | rules[Deck::RULE_ROW * r + Deck::RULE_TARGETS];
         add_edges(edges, rules[Deck::RULE_ROW * r], targets);
-        left = lists::rest(left);
-        r = lists::lowest(left);
     }
 }
 
@@ -62,12 +54,8 @@ fn spread(edges: &[u64], channels: usize, fresh: u64, seen: u64) -> u64
     ensures { Spread channels (edge_at edges.now) fresh seen result }
 {
     let mut set = seen;
-    let mut left = fresh;
-    let mut b = lists::lowest(left);
-    while b < channels {
+    for b in lists::members_below(fresh, channels) {
         set |= edges[b];
-        left = lists::rest(left);
-        b = lists::lowest(left);
     }
     set
 }

@@ -13,7 +13,7 @@ ghost use Rattle.passing.specs.Stands.{HasTruth, TruthIs, stretch, values_from};
 ghost use Rattle.passing.specs.Tabled.{deck_of, PartsKnown};
 ghost use Rattle.passing.specs.Judged.{RulesKnown, JudgesRules, ZeroRules, ZeroMemo, WholeKnown, Judges, JudgesRead};
 
-use deck::{Deck, Form};
+use deck::{Deck, Form, Rig};
 use passing::Passing;
 use refusals::{Declined, Refusal};
 
@@ -53,52 +53,52 @@ fn open_part(stretch: &mut [i32], deck: &[u8], at: usize, count: usize)
 {
     for c in 0..count {
         let o = at + 4 * c;
-        let word = expression::word_of(deck[o], deck[o + 1], deck[o + 2], deck[o + 3]);
-        stretch[c] = expression::signed_of(word);
+        stretch[c] = expression::value_of([deck[o], deck[o + 1], deck[o + 2], deck[o + 3]]);
     }
 }
 
 // Whether part p is within its limit.
-pub fn within(deck: &[u8], counts: Deck, parts: &[u64], values: &[i32], p: usize) -> bool
-    requires { PartsKnown deck.now counts parts.now × (length values.now ≡ 512) × (p < counts.parts) }
-    ensures { result ≡ Check.within (deck_of deck.now) p values.now }
+pub fn within(rig: &Rig, values: &[i32], p: usize) -> bool
+    requires { PartsKnown rig.now.deck.now rig.now.counts rig.now.parts.now × (length values.now ≡ 512)
+        × (p < rig.now.counts.parts) }
+    ensures { result ≡ Check.within (deck_of rig.now.deck.now) p values.now }
 {
-    let at = parts[Deck::PART_ROW * p + Deck::PART_LIMIT_AT] as usize;
-    truth_from(deck, at, values, Deck::CHANNELS * p, counts.channels, 0, 0)
+    let at = rig.parts[Deck::PART_ROW * p + Deck::PART_LIMIT_AT] as usize;
+    truth_from(rig.deck, at, values, Deck::CHANNELS * p, rig.counts.channels, 0, 0)
 }
 
 // The opening values of all parts, written into a table of zeros.
-pub fn open_parts(values: &mut [i32], deck: &[u8], counts: Deck, parts: &[u64])
-    requires { PartsKnown deck.now counts parts.now × (values.old ≡ zeros 512) }
-    ensures { values.new ≡ opening_values (deck_of deck.now) }
+pub fn open_parts(rig: &Rig, values: &mut [i32])
+    requires { PartsKnown rig.now.deck.now rig.now.counts rig.now.parts.now × (values.old ≡ zeros 512) }
+    ensures { values.new ≡ opening_values (deck_of rig.now.deck.now) }
 {
-    for p in 0..counts.parts {
-        let at = parts[Deck::PART_ROW * p + Deck::PART_OPENING_AT] as usize;
+    for p in 0..rig.counts.parts {
+        let at = rig.parts[Deck::PART_ROW * p + Deck::PART_OPENING_AT] as usize;
         let from = Deck::CHANNELS * p;
-        open_part(&mut values[from..], deck, at, counts.channels);
+        open_part(&mut values[from..], rig.deck, at, rig.counts.channels);
     }
 }
 
 // Whether part p opens within its limit: its opening values in a row of their own.
-fn opens_within(deck: &[u8], counts: Deck, parts: &[u64], p: usize) -> bool
-    requires { PartsKnown deck.now counts parts.now × (p < counts.parts) }
-    ensures { result ≡ Check.within (deck_of deck.now) p (opening_values (deck_of deck.now)) }
+fn opens_within(rig: &Rig, p: usize) -> bool
+    requires { PartsKnown rig.now.deck.now rig.now.counts rig.now.parts.now × (p < rig.now.counts.parts) }
+    ensures { result ≡ Check.within (deck_of rig.now.deck.now) p (opening_values (deck_of rig.now.deck.now)) }
 {
     let mut row = [0i32; Deck::CHANNELS];
-    let at = parts[Deck::PART_ROW * p + Deck::PART_OPENING_AT] as usize;
-    open_part(&mut row, deck, at, counts.channels);
-    let limit = parts[Deck::PART_ROW * p + Deck::PART_LIMIT_AT] as usize;
-    truth_from(deck, limit, &row, 0, counts.channels, 0, 0)
+    let at = rig.parts[Deck::PART_ROW * p + Deck::PART_OPENING_AT] as usize;
+    open_part(&mut row, rig.deck, at, rig.counts.channels);
+    let limit = rig.parts[Deck::PART_ROW * p + Deck::PART_LIMIT_AT] as usize;
+    truth_from(rig.deck, limit, &row, 0, rig.counts.channels, 0, 0)
 }
 
 // The lowest part that opens outside its limit, if one does.
-fn first_outside(deck: &[u8], counts: Deck, parts: &[u64]) -> Option<usize>
-    requires { PartsKnown deck.now counts parts.now }
-    ensures { FoundBelow counts.parts (first_or (N (deck_of deck.now)) (outside (deck_of deck.now)))
-        result }
+fn first_outside(rig: &Rig) -> Option<usize>
+    requires { PartsKnown rig.now.deck.now rig.now.counts rig.now.parts.now }
+    ensures { FoundBelow rig.now.counts.parts
+        (first_or (N (deck_of rig.now.deck.now)) (outside (deck_of rig.now.deck.now))) result }
 {
-    for p in 0..counts.parts {
-        if !opens_within(deck, counts, parts, p) {
+    for p in 0..rig.counts.parts {
+        if !opens_within(rig, p) {
             return Some(p);
         }
     }
@@ -116,19 +116,16 @@ fn declined(refusal: Refusal, place: usize) -> Declined
 }
 
 // 7 and 8, for a deck whose parts open within their limits.
-fn judge_rules(
-    rules: &[u64],
-    parts: &[u64],
-    memo: &mut [u32],
-    counts: Deck,
-) -> Result<Passing, Declined>
-    requires { RulesKnown rules.now parts.now counts × (memo.old ≡ replicate (memo_size counts.rules) 0) }
-    ensures { JudgesRules rules.now parts.now memo.new counts result }
+fn judge_rules(rig: &Rig, memo: &mut [u32]) -> Result<Passing, Declined>
+    requires { RulesKnown rig.now.rules.now rig.now.parts.now rig.now.counts
+        × (memo.old ≡ replicate (memo_size rig.now.counts.rules) 0) }
+    ensures { JudgesRules rig.now.rules.now rig.now.parts.now memo.new rig.now.counts result }
 {
-    if let Some(c) = graph::first_cycle(rules, parts, counts) {
+    let counts = rig.counts;
+    if let Some(c) = graph::first_cycle(rig.rules, rig.parts, counts) {
         return Err(declined(Refusal::CyclicGraph, c));
     }
-    match charge_bound::first_above(rules, parts, memo, counts) {
+    match charge_bound::first_above(rig, memo) {
         Ok(charge) => Ok(Passing { counts, charge }),
         Err(place) => Err(declined(Refusal::Overcharged, place)),
     }
@@ -145,11 +142,23 @@ fn judge_whole(
     requires { WholeKnown deck.now counts rules.old parts.now × (memo.old ≡ replicate (memo_size counts.rules) 0) }
     ensures { JudgesRead deck.now rules.new parts.now memo.new result }
 {
-    if let Some(p) = first_outside(deck, counts, parts) {
+    let read = Rig {
+        deck,
+        counts,
+        rules,
+        parts,
+    };
+    if let Some(p) = first_outside(&read) {
         return Err(declined(Refusal::OpensOutside, p));
     }
     charge_listeners::note_listeners(rules, parts, counts.rules, counts.parts);
-    judge_rules(rules, parts, memo, counts)
+    let rig = Rig {
+        deck,
+        counts,
+        rules,
+        parts,
+    };
+    judge_rules(&rig, memo)
 }
 
 // 1 to 8 and 18 to 20: the deck's tables are filled, and the tests follow in their order. The memo keeps the charges of a deck that

@@ -14,7 +14,7 @@ ghost use Rattle.pool_states.specs.Answer.{FitsChannels, FitsPairs, FitsPlace, F
 ghost use Rattle.pool_states.specs.Answer.{memory_of, Fresh, TestsGood};
 ghost use Rattle.pool_states.specs.Fits.{Bounded, IsNatural};
 
-use deck::Deck;
+use deck::{Deck, Rig};
 
 // The number at an index, if it is from 0 to below the bound.
 pub fn bounded_at(place: &[i32], i: usize, bound: usize) -> Option<usize>
@@ -153,37 +153,24 @@ pub fn channels_of(place: &[i32]) -> u64
 }
 
 // The charge of the update that a place holds, up to 65,536.
-pub fn place_charge(
-    rules: &[u64],
-    parts: &[u64],
-    memo: &mut [u32],
-    counts: Deck,
-    place: &[i32],
-) -> u32
-    requires { Ready rules.now parts.now counts memo.old × (counts.channels ≤ 32)
-        × HoldsKnown (shape rules.now parts.now counts) place.now }
-    ensures { PlaceGives (shape rules.now parts.now counts) place.now memo.new result }
+pub fn place_charge(rig: &Rig, memo: &mut [u32], place: &[i32]) -> u32
+    requires { Ready rig.now.rules.now rig.now.parts.now rig.now.counts memo.old × (rig.now.counts.channels ≤ 32)
+        × HoldsKnown (shape rig.now.rules.now rig.now.parts.now rig.now.counts) place.now }
+    ensures { PlaceGives (shape rig.now.rules.now rig.now.parts.now rig.now.counts) place.now memo.new result }
 {
     let p = number_at(place, 0);
     let mask = channels_of(place);
-    charge_tables::update_charge(rules, parts, memo, counts, p, mask)
+    charge_tables::update_charge(rig, memo, p, mask)
 }
 
 // The charge of the pending updates, up to 65,536, and the index of them, if each place is well written and holds a known
 // update and no two are equal. A place is looked for where it and all before it are well written: equal numbers mean equal
 // updates only there.
-fn weigh(
-    rules: &[u64],
-    parts: &[u64],
-    memo: &mut [u32],
-    counts: Deck,
-    pool: &[i32],
-    pending: usize,
-    index: &mut [u16],
-) -> Option<u32>
-    requires { Ready rules.now parts.now counts memo.old × (counts.channels ≤ 32) × (10 * pending ≤ length pool.now)
-        × (pending ≤ 65535) × Roomy pending index.old × (index.old ≡ replicate (length index.old) 0) }
-    ensures { Weighs (shape rules.now parts.now counts) pending pool.now memo.new
+fn weigh(rig: &Rig, memo: &mut [u32], pool: &[i32], pending: usize, index: &mut [u16]) -> Option<u32>
+    requires { Ready rig.now.rules.now rig.now.parts.now rig.now.counts memo.old × (rig.now.counts.channels ≤ 32)
+        × (10 * pending ≤ length pool.now) × (pending ≤ 65535) × Roomy pending index.old
+        × (index.old ≡ replicate (length index.old) 0) }
+    ensures { Weighs (shape rig.now.rules.now rig.now.parts.now rig.now.counts) pending pool.now memo.new
         index.old index.new result }
 {
     let mut total: u32 = 0;
@@ -191,9 +178,9 @@ fn weigh(
         let at = Deck::PLACE * k;
         let next = at + Deck::PLACE;
         let place = &pool[at..next];
-        let mask = place_fits(place, counts.channels, counts.parts)?;
+        let mask = place_fits(place, rig.counts.channels, rig.counts.parts)?;
         let p = number_at(place, 0);
-        let c = charge_tables::update_charge(rules, parts, memo, counts, p, mask);
+        let c = charge_tables::update_charge(rig, memo, p, mask);
         total = charge_tables::capped_sum(total, c);
         let slot = pool_index::find(index, pool, k, place)?;
         pool_index::note(index, k, slot);
@@ -221,24 +208,22 @@ fn state_fits(values: &[i32], pending: usize, pool: &[i32], channels: usize, par
 
 // 10: the charge of the pending updates, if the state is a good one; the index is then that of these updates.
 pub fn good_state(
-    rules: &[u64],
-    parts: &[u64],
+    rig: &Rig,
     memo: &mut [u32],
     index: &mut [u16],
-    counts: Deck,
     values: &[i32],
     pending: usize,
     pool: &[i32],
 ) -> Option<u32>
-    requires { Ready rules.now parts.now counts memo.old × (counts.channels ≤ 32) × (good_length (length pool.now) ≡ true)
-        × Fresh (length pool.now) index.old }
-    ensures { TestsGood (shape rules.now parts.now counts) values.now pending pool.now
+    requires { Ready rig.now.rules.now rig.now.parts.now rig.now.counts memo.old × (rig.now.counts.channels ≤ 32)
+        × (good_length (length pool.now) ≡ true) × Fresh (length pool.now) index.old }
+    ensures { TestsGood (shape rig.now.rules.now rig.now.parts.now rig.now.counts) values.now pending pool.now
         memo.new index.old index.new result }
 {
-    if !state_fits(values, pending, pool, counts.channels, counts.parts) {
+    if !state_fits(values, pending, pool, rig.counts.channels, rig.counts.parts) {
         return None;
     }
-    let total = weigh(rules, parts, memo, counts, pool, pending, index)?;
+    let total = weigh(rig, memo, pool, pending, index)?;
     let places = pool.len() / Deck::PLACE;
     if places < total as usize {
         return None;

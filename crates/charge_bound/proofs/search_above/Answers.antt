@@ -8,8 +8,8 @@ use Rattle.charge_bound.proofs.search_above.Goals as goal
 pub returns : goal.returns
 returns c =
     let i = c.loop-p.invariant in (
-      passed-all _ (few_rules c.requires.tables) i.1 c.args.counts.parts
-          (counted-N c.args.rules.now c.args.parts.now c.args.counts)
+      passed-all _ (few_rules c.requires.tables) i.1 c.args.rig.now.counts.parts
+          (counted-N c.args.rig.now.rules.now c.args.rig.now.parts.now c.args.rig.now.counts)
           (omega (arith, c.loop-p.auto.p-end, c.loop-p-test.false)),
       i.0,
     )

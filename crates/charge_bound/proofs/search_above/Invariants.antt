@@ -8,5 +8,5 @@ use Rattle.charge_bound.proofs.search_above.Given as goal
 
 abbrev pub invariant-loop-p : goal.invariant-loop-p
 invariant-loop-p l =
-    let d = shape l.rules l.parts l.counts in
+    let d = shape l.rig.rules.now l.rig.parts.now l.rig.counts in
     Memo d l.memo × LargestBelow d (64 * l.p) l.best

@@ -1,14 +1,9 @@
 -- `charge_tables::rule_charges` and `charge_tables::update_charges` meet their contracts. Assumes nothing.
-use Prim.Native.Nat.{ℕ, ◌+◌, ◌*◌, ◌≤◌, ◌<◌, ◌-◌}
+use Prim.Native.Nat.{ℕ, ◌+◌, ◌*◌, ◌<◌}
 use mathlib.Core.Path.{◌≡◌, refl, sym, ◌∙◌, subst}
-use mathlib.Core.List.{List}
 use native.Mathlib.Omega.{arith}
-use native.Mathlib.Nat.{lt_of_lt_of_le}
-use native.Mathlib.Numerals.{add-one-le}
 use lib.ListN.{get_or}
-use Rattle.lists.specs.Laws.Through.{through-next, through_here, through-all}
-use Rattle.lists.specs.Laws.Walks.{walk_first, walk-on, walk-next}
-use Rattle.charge.specs.Memo.{counts_of}
+use Rattle.lists.specs.Laws.Iterating.{going-first, going-here, going-on, going-end}
 use Rattle.charge.proofs.Laws.Tables.{entry}
 use Rattle.charge_listeners.specs.Laws.Listening.{is-listener}
 use Rattle.charge_tables.specs.Laws.Entries.{row_room}
@@ -23,9 +18,6 @@ use Rattle.charge_tables.proofs.+rule_charges_update_charges.Goals.{rule_charges
 lower : {a b t : ℕ} → a < b → b ≡ t → a < t
 lower {a} f e = subst (λ n. a < n) e f
 
-nearer : {r r' : ℕ} → r < 64 → r + 1 ≤ r' → 64 - r' < 64 - r
-nearer l n = omega arith
-
 pub rule_charges-bounds-memo-r : goal.rule_charges-bounds-memo-r
 rule_charges-bounds-memo-r t c = (entry c.requires.0.tables c.requires.0.memo c.args.r c.requires.1).inside
 
@@ -38,12 +30,8 @@ rule_charges-update_charges-requires t c =
     (lower f c.decreases, (c.requires.0, c.begin-first.ensures.some c.if-default-ne0.true))
 
 -- what is known where the arms of a test for an empty action meet
-abbrev Given : (rules parts : List ℕ) (channels count parts_count mask : ℕ) (m₀ m sums : List ℕ) → Type 0
-Given rules parts channels count parts_count mask m₀ m sums =
-    ActionGives rules parts (counts_of channels count parts_count) mask m₀ m sums
-
 first-given : (t : ℕ) (c : goal.rule_charges-After-second-1 t)
-    → Given c.args.rules.now c.args.parts.now c.args.channels c.args.count c.args.parts_count (get_or c.args.rules.now (8 * c.args.r + 1) 0)
+    → ActionGives c.args.rig.now.rules.now c.args.rig.now.parts.now c.args.rig.now.counts (get_or c.args.rig.now.rules.now (8 * c.args.r + 1) 0)
     c.args.memo.now c.if-default-ne0.memo c.if-default-ne0.first
 first-given t c =
     elim c.if-default-ne0.branch [
@@ -67,7 +55,7 @@ rule_charges-update_charges-requires-then-action-ne0 t c =
 
 -- the same of both rows
 first-given-2 : (t : ℕ) (c : goal.rule_charges-After-second-2-1 t)
-    → Given c.args.rules.now c.args.parts.now c.args.channels c.args.count c.args.parts_count (get_or c.args.rules.now (8 * c.args.r + 1) 0)
+    → ActionGives c.args.rig.now.rules.now c.args.rig.now.parts.now c.args.rig.now.counts (get_or c.args.rig.now.rules.now (8 * c.args.r + 1) 0)
     c.args.memo.now c.if-default-ne0.memo c.if-default-ne0.first
 first-given-2 t c =
     elim c.if-default-ne0.branch [
@@ -80,7 +68,7 @@ first-given-2 t c =
     ]
 
 second-given-2 : (t : ℕ) (c : goal.rule_charges-After-second-2-1 t)
-    → Given c.args.rules.now c.args.parts.now c.args.channels c.args.count c.args.parts_count (get_or c.args.rules.now (8 * c.args.r + 2) 0)
+    → ActionGives c.args.rig.now.rules.now c.args.rig.now.parts.now c.args.rig.now.counts (get_or c.args.rig.now.rules.now (8 * c.args.r + 2) 0)
     c.if-default-ne0.memo c.if-action-ne0.memo c.if-action-ne0.second
 second-given-2 t c =
     elim c.if-action-ne0.branch [
@@ -101,7 +89,7 @@ rule_charges-put_row-requires t c =
 
 -- the same of both rows
 first-given-3 : (t : ℕ) (c : goal.rule_charges-After-slice_known-3-1 t)
-    → Given c.args.rules.now c.args.parts.now c.args.channels c.args.count c.args.parts_count (get_or c.args.rules.now (8 * c.args.r + 1) 0)
+    → ActionGives c.args.rig.now.rules.now c.args.rig.now.parts.now c.args.rig.now.counts (get_or c.args.rig.now.rules.now (8 * c.args.r + 1) 0)
     c.args.memo.now c.if-default-ne0.memo c.if-default-ne0.first
 first-given-3 t c =
     elim c.if-default-ne0.branch [
@@ -114,7 +102,7 @@ first-given-3 t c =
     ]
 
 second-given-3 : (t : ℕ) (c : goal.rule_charges-After-slice_known-3-1 t)
-    → Given c.args.rules.now c.args.parts.now c.args.channels c.args.count c.args.parts_count (get_or c.args.rules.now (8 * c.args.r + 2) 0)
+    → ActionGives c.args.rig.now.rules.now c.args.rig.now.parts.now c.args.rig.now.counts (get_or c.args.rig.now.rules.now (8 * c.args.r + 2) 0)
     c.if-default-ne0.memo c.if-action-ne0.memo c.if-action-ne0.second
 second-given-3 t c =
     elim c.if-action-ne0.branch [
@@ -141,62 +129,48 @@ pub update_charges-loop-r-init : goal.update_charges-loop-r-init
 update_charges-loop-r-init t c =
     let h = c.requires.0.tables in
     let set = c.listeners-set.ensures in
-    let n = c.lowest-r.ensures in (
-      walk_first n,
+    let e = c.members_below-r-items.ensures in (
       c.requires.0.memo,
       keeps_same,
-      through-next n (omega arith) h.few_rules
-          (λ i a b f w. hearing-skip h w b (sym (is-listener h i b c.args.mask set) ∙ f))
+      going-first h.few_rules c.into_iter-r-iterator.ensures.into_iter_gives e.from e.to
+          (λ i b f w. hearing-skip h w b (sym (is-listener h i b c.args.mask set) ∙ f))
           (hearing-none h c.args.mask c.requires.1),
     )
 
 pub update_charges-rule_charges-requires : goal.update_charges-rule_charges-requires
 update_charges-rule_charges-requires t c =
     let h = c.requires.0.tables in
-    let i = c.loop-r in
-    let k = c.loop-r-test.true in
-    let y = sym (is-listener h i.r k c.args.mask c.listeners-set.ensures) ∙ i.invariant.3.found (lt_of_lt_of_le k h.few_rules) in (
-      lower (listening-falls h i.r k c.args.mask y) c.decreases,
-      (record { tables = h; memo = i.invariant.1 }, k, listening-carried h i.r k c.args.mask y),
+    let i = c.loop-r.invariant in
+    let r = c.in-Some.r in
+    let n = going-here i.2 c.in-Some.ensures.steps in
+    let y = sym (is-listener h r n.below c.args.mask c.listeners-set.ensures) ∙ n.member in (
+      lower (listening-falls h r n.below c.args.mask y) c.decreases,
+      (record { tables = h; memo = i.0 }, n.below, listening-carried h r n.below c.args.mask y),
     )
 
 pub update_charges-add_row-requires : goal.update_charges-add_row-requires
 update_charges-add_row-requires t c =
     let h = c.requires.0.tables in
     let g = c.rule_charges.ensures in
-    let k = c.loop-r-test.true in (
-      h.parts_long,
-      row_room h g.memo _ k,
-      h.few_parts,
-      omega arith,
-      (through_here c.loop-r.invariant.3 k).row.small,
-      g.known,
-    )
-
-pub update_charges-loop-r-smaller : goal.update_charges-loop-r-smaller
-update_charges-loop-r-smaller t c =
-    let l = lt_of_lt_of_le c.loop-r-test.true c.requires.0.tables.few_rules in
-    nearer l ((walk-on c.loop-r.invariant.0 c.rest-left.ensures c.lowest-r-in-loop-r.ensures).on (add-one-le l))
+    let n = going-here c.loop-r.invariant.2 c.in-Some.ensures.steps in
+    (h.parts_long, row_room h g.memo _ n.below, h.few_parts, n.small, n.done.row.small, g.known)
 
 pub update_charges-loop-r-preserved : goal.update_charges-loop-r-preserved
 update_charges-loop-r-preserved t c =
     let h = c.requires.0.tables in
-    let i = c.loop-r in
-    let k = c.loop-r-test.true in
+    let i = c.loop-r.invariant in
+    let r = c.in-Some.r in
+    let n = going-here i.2 c.in-Some.ensures.steps in
     let set = c.listeners-set.ensures in
-    let y = sym (is-listener h i.r k c.args.mask set) ∙ i.invariant.3.found (lt_of_lt_of_le k h.few_rules) in
-    let g = c.rule_charges.ensures in
-    let left = c.rest-left.ensures in
-    let low = c.lowest-r-in-loop-r.ensures in (
-      walk-next i.invariant.0 left low,
+    let y = sym (is-listener h r n.below c.args.mask set) ∙ n.member in
+    let g = c.rule_charges.ensures in (
       g.memo,
-      keeps-trans i.invariant.2 g.keeps,
-      through-next (walk-on i.invariant.0 left low) (add-one-le k) h.few_rules
-          (λ i a b f w. hearing-skip h w b (sym (is-listener h i b c.args.mask set) ∙ f))
-          (hearing-more h (through_here i.invariant.3 k) k y g.memo g.known c.add_row.ensures),
+      keeps-trans i.1 g.keeps,
+      going-on i.2 c.in-Some.ensures.steps (λ i b f w. hearing-skip h w b (sym (is-listener h i b c.args.mask set) ∙ f))
+          (hearing-more h n.done n.below y g.memo g.known c.add_row.ensures),
     )
 
 pub update_charges-returns : goal.update_charges-returns
 update_charges-returns t c =
     let i = c.loop-r.invariant in
-    gives-heard c.requires.0.tables i.1 i.2 (through-all i.3 c.loop-r-test.false) refl
+    gives-heard c.requires.0.tables i.0 i.1 (going-end i.2 c.in-None.ensures.steps.0.0) refl

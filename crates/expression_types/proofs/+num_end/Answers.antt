@@ -21,14 +21,14 @@ returns-then-b-eq6 t c =
     let b = c.in_ok-b.ensures.lookup.3 in
     as-negation (byte-here b) (ap num_op c.if-b-eq6.true) c.num_end.ensures
 
-pub returns-in_err-n : goal.returns-in_err-n
-returns-in_err-n t c =
+pub returns-in_err-num_end : goal.returns-in_err-num_end
+returns-in_err-num_end t c =
     let b = c.in_ok-b.ensures.lookup.3 in
     let two = operation _ c.if-b-lt3.false (omega (arith, c.if-b-gt6.false, c.if-b-eq6.false)) in
-    rw c.from_residual-in_err-n.ensures (as-two-nothing (byte-here b) two.1 (rw c.in_err-n.was at c.num_end-2.ensures))
+    rw c.from_residual-in_err-num_end.ensures (as-two-nothing (byte-here b) two.1 (rw c.in_err-num_end.was at c.num_end-2.ensures))
 
 pub returns : goal.returns
 returns t c =
     let b = c.in_ok-b.ensures.lookup.3 in
     let two = operation _ c.if-b-lt3.false (omega (arith, c.if-b-gt6.false, c.if-b-eq6.false)) in
-    as-two (byte-here b) two.1 (rw c.in_ok-n.was at c.num_end-2.ensures) c.num_end-3.ensures
+    as-two (byte-here b) two.1 (rw c.in_ok-num_end.was at c.num_end-2.ensures) c.num_end-3.ensures

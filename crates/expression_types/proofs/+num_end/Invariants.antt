@@ -3,4 +3,4 @@ use Rattle.std.proofs.Common.{◌-◌, length}
 use Rattle.expression_types.proofs.+num_end.Given as goal
 
 abbrev pub decreases-num_end : goal.decreases-num_end
-decreases-num_end l = length l.s.now.now - l.at
+decreases-num_end l = length l.lent.now.bytes.now - l.at.now

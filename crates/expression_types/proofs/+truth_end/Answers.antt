@@ -15,26 +15,26 @@ returns-in-Constant t c = as-constant (op-here c.in_ok-get.ensures.lookup.3 c.tr
 pub returns-in-Not : goal.returns-in-Not
 returns-in-Not t c = as-not (op-here c.in_ok-get.ensures.lookup.3 c.truth_op-op.ensures) c.in-Not.is c.truth_end.ensures
 
-pub returns-in_err-n-in-Both : goal.returns-in_err-n-in-Both
-returns-in_err-n-in-Both t c =
-    rw c.from_residual-in_err-n-in-Both.ensures (as-both-nothing (op-here c.in_ok-get.ensures.lookup.3 c.truth_op-op.ensures) c.in-Both.is
-    (rw c.in_err-n-in-Both.was at c.truth_end-in-Both.ensures))
+pub returns-in_err-truth_end-in-Both : goal.returns-in_err-truth_end-in-Both
+returns-in_err-truth_end-in-Both t c =
+    rw c.from_residual-in_err-truth_end-in-Both.ensures (as-both-nothing (op-here c.in_ok-get.ensures.lookup.3 c.truth_op-op.ensures) c.in-Both.is
+    (rw c.in_err-truth_end-in-Both.was at c.truth_end-in-Both.ensures))
 
-pub returns-in_ok-n-in-Both : goal.returns-in_ok-n-in-Both
-returns-in_ok-n-in-Both t c =
+pub returns-in_ok-truth_end-in-Both : goal.returns-in_ok-truth_end-in-Both
+returns-in_ok-truth_end-in-Both t c =
     as-both (op-here c.in_ok-get.ensures.lookup.3 c.truth_op-op.ensures) c.in-Both.is
-    (rw c.in_ok-n-in-Both.was at c.truth_end-in-Both.ensures)
+    (rw c.in_ok-truth_end-in-Both.was at c.truth_end-in-Both.ensures)
     c.truth_end-in-Both-2.ensures
 
-pub returns-in_err-n-in-Two : goal.returns-in_err-n-in-Two
-returns-in_err-n-in-Two t c =
-    rw c.from_residual-in_err-n-in-Two.ensures (as-compared-nothing (op-here c.in_ok-get.ensures.lookup.3 c.truth_op-op.ensures) c.in-Two.is
-    (rw c.in_err-n-in-Two.was at c.num_end.ensures))
+pub returns-in_err-num_end-in-Two : goal.returns-in_err-num_end-in-Two
+returns-in_err-num_end-in-Two t c =
+    rw c.from_residual-in_err-num_end-in-Two.ensures (as-compared-nothing (op-here c.in_ok-get.ensures.lookup.3 c.truth_op-op.ensures) c.in-Two.is
+    (rw c.in_err-num_end-in-Two.was at c.num_end.ensures))
 
-pub returns-in_ok-n-in-Two : goal.returns-in_ok-n-in-Two
-returns-in_ok-n-in-Two t c =
+pub returns-in_ok-num_end-in-Two : goal.returns-in_ok-num_end-in-Two
+returns-in_ok-num_end-in-Two t c =
     as-compared (op-here c.in_ok-get.ensures.lookup.3 c.truth_op-op.ensures) c.in-Two.is
-    (rw c.in_ok-n-in-Two.was at c.num_end.ensures)
+    (rw c.in_ok-num_end-in-Two.was at c.num_end.ensures)
     c.num_end-in-Two.ensures
 
 pub returns-in-Unknown : goal.returns-in-Unknown

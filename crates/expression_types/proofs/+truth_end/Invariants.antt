@@ -3,4 +3,4 @@ use Rattle.std.proofs.Common.{◌-◌, length}
 use Rattle.expression_types.proofs.+truth_end.Given as goal
 
 abbrev pub decreases-truth_end : goal.decreases-truth_end
-decreases-truth_end l = length l.s.now.now - l.at
+decreases-truth_end l = length l.lent.now.bytes.now - l.at.now

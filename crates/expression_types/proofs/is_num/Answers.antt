@@ -5,4 +5,4 @@ use Rattle.expression.proofs.Laws.WholeAnswers.{ends-num}
 use Rattle.expression_types.proofs.is_num.Goals as goal
 
 pub returns : goal.returns
-returns c = let a = c.args in c.ends.ensures ∙ ends-num (scope a.own a.far) a.s.now c.num_end.ensures
+returns c = let a = c.args in c.ends.ensures ∙ ends-num (scope a.own a.far) a.s.now c.num_end-end.ensures

@@ -5,4 +5,4 @@ use Rattle.expression.proofs.Laws.WholeAnswers.{ends-truth}
 use Rattle.expression_types.proofs.is_truth.Goals as goal
 
 pub returns : goal.returns
-returns c = let a = c.args in c.ends.ensures ∙ ends-truth (scope a.own a.far) a.s.now c.truth_end.ensures
+returns c = let a = c.args in c.ends.ensures ∙ ends-truth (scope a.own a.far) a.s.now c.truth_end-end.ensures

@@ -15,7 +15,7 @@ opens d p = within d p (opening_values d)
 pub returns-then-not-opens_within : goal.returns-then-not-opens_within
 unfolding outside
 returns-then-not-opens_within c =
-    let d = deck_of c.args.deck.now in
+    let d = deck_of c.args.rig.now.deck.now in
     let first = first-is (λ p. not (opens d p)) (N d) c.loop-p.p (omega (arith, c.requires.counts.parts))
     (λ _. ap not (sym c.opens_within.ensures ∙ c.if-not-opens_within.true))
     c.loop-p.invariant in
@@ -24,8 +24,8 @@ returns-then-not-opens_within c =
 pub returns : goal.returns
 unfolding outside
 returns c =
-    let d = deck_of c.args.deck.now in
+    let d = deck_of c.args.rig.now.deck.now in
     let n = c.requires.counts.parts in
     sym
-    (first-is (λ p. not (opens d p)) (N d) c.args.counts.parts (omega (arith, n)) (λ h. absurd (omega (arith, n)))
+    (first-is (λ p. not (opens d p)) (N d) c.args.rig.now.counts.parts (omega (arith, n)) (λ h. absurd (omega (arith, n)))
     (λ k h. c.loop-p.invariant k (omega (arith, c.loop-p-test.false))))

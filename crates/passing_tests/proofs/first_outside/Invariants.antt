@@ -7,4 +7,4 @@ use Rattle.passing.specs.Tabled.{deck_of}
 use Rattle.passing_tests.proofs.first_outside.Given as goal
 
 abbrev pub invariant-loop-p : goal.invariant-loop-p
-invariant-loop-p l = (k : ℕ) → k < l.p → not (within (deck_of l.deck) k (opening_values (deck_of l.deck))) ≡ false
+invariant-loop-p l = (k : ℕ) → k < l.p → not (within (deck_of l.rig.deck.now) k (opening_values (deck_of l.rig.deck.now))) ≡ false

@@ -11,7 +11,6 @@ use lib.ListN.{length, take, drop, get_or}
 use lib.Seq.{take-length, paste-suc}
 use mir.Syntax.{w32}
 use mir.ValLaws.{to_z-of_z}
-use Rattle.expression.specs.Reading.{signed}
 use Rattle.passing.specs.Stands.{values_from}
 use Rattle.passing.proofs.Laws.Stands.{values_length, values-at, value-is}
 use Rattle.passing_tests.proofs.open_part.Goals as goal
@@ -25,12 +24,11 @@ loop-c-preserved c =
     let lv : length vs ≡ a.count = values_length a.deck.now a.at a.count in
     let hd : 0 + j < length a.stretch.now = omega arith in
     let hs : j < length vs = omega arith in
-    let v : c.signed_of.result ≡ get_or vs j (pos 0) =
-    c.signed_of.ensures
-    ∙ ap signed c.word_of-word.ensures
+    let v : c.value_of.result ≡ get_or vs j (pos 0) =
+    c.value_of.ensures
     ∙ value-is a.deck.now (a.at + 4 * j)
     ∙ sym (values-at a.deck.now a.at a.count j lt) in
-    rw (to_z-of_z w32 _ (record { sfits = c.signed_of.type_inv }), c.loop-c.invariant, v, add-one)
+    rw (to_z-of_z w32 _ (record { sfits = c.value_of.type_inv }), c.loop-c.invariant, v, add-one)
     (simp zero-add at (paste-suc a.stretch.now 0 vs j (pos 0) hd hs))
 
 pub returns : goal.returns

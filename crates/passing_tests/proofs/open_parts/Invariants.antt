@@ -6,4 +6,4 @@ use Rattle.deck.specs.Facts.{Formed}
 use Rattle.passing_tests.proofs.open_parts.Given as goal
 
 abbrev pub invariant-loop-p : goal.invariant-loop-p
-invariant-loop-p l = (f : Formed (deck_of l.deck)) → l.values ≡ open_to (deck_of l.deck) f l.p
+invariant-loop-p l = (f : Formed (deck_of l.rig.deck.now)) → l.values ≡ open_to (deck_of l.rig.deck.now) f l.p

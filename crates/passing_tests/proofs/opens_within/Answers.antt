@@ -18,56 +18,56 @@ open_part-requires c =
     let a = c.args in
     let k = c.requires.0.counts in (
       omega (arith, k.channels, k.formed.channels),
-      (opening-stands a.deck.now a.counts a.parts.now c.requires.0 a.p c.requires.1).1,
+      (opening-stands a.rig.now.deck.now a.rig.now.counts a.rig.now.parts.now c.requires.0 a.p c.requires.1).1,
     )
 
 -- the row that is lent to the evaluator
 row-long : (c : goal.After-row-3-1) → length c.open_part.new.stretch ≡ 32
 row-long c =
     let a = c.args in
-    alone-length a.deck.now a.counts a.parts.now c.requires.0 a.p c.requires.1 _ c.open_part.new.stretch refl
+    alone-length a.rig.now.deck.now a.rig.now.counts a.rig.now.parts.now c.requires.0 a.p c.requires.1 _ c.open_part.new.stretch refl
     c.open_part.ensures
 
 row-opening : (c : goal.After-row-3-1)
     → let a = c.args in
-    stretch c.open_part.new.stretch 0 a.counts.channels ≡ (part_at (deck_of a.deck.now) a.p).opening
+    stretch c.open_part.new.stretch 0 a.rig.now.counts.channels ≡ (part_at (deck_of a.rig.now.deck.now) a.p).opening
 row-opening c =
     let a = c.args in
-    alone-opening a.deck.now a.counts a.parts.now c.requires.0 a.p c.requires.1 _ c.open_part.new.stretch refl
+    alone-opening a.rig.now.deck.now a.rig.now.counts a.rig.now.parts.now c.requires.0 a.p c.requires.1 _ c.open_part.new.stretch refl
     c.open_part.ensures
 
 row-opening-2 : (c : goal.After-truth_from)
     → let a = c.args in
-    stretch c.open_part.new.stretch 0 a.counts.channels ≡ (part_at (deck_of a.deck.now) a.p).opening
+    stretch c.open_part.new.stretch 0 a.rig.now.counts.channels ≡ (part_at (deck_of a.rig.now.deck.now) a.p).opening
 row-opening-2 c =
     let a = c.args in
-    alone-opening a.deck.now a.counts a.parts.now c.requires.0 a.p c.requires.1 _ c.open_part.new.stretch refl
+    alone-opening a.rig.now.deck.now a.rig.now.counts a.rig.now.parts.now c.requires.0 a.p c.requires.1 _ c.open_part.new.stretch refl
     c.open_part.ensures
 
 -- its limit stands there, for as many channels
 limit-there : (c : goal.After-row-3-1)
     → let a = c.args in
-    Stands (whole_truth (scope (length (stretch c.open_part.new.stretch 0 a.counts.channels)) 0)) a.deck.now
-    (get_or a.parts.now (4 * a.p + 2) 0)
-    (part_at (deck_of a.deck.now) a.p).limit
+    Stands (whole_truth (scope (length (stretch c.open_part.new.stretch 0 a.rig.now.counts.channels)) 0)) a.rig.now.deck.now
+    (get_or a.rig.now.parts.now (4 * a.p + 2) 0)
+    (part_at (deck_of a.rig.now.deck.now) a.p).limit
 limit-there c =
     let a = c.args in
-    let d = deck_of a.deck.now in
-    let lp = known-part a.deck.now a.counts a.parts.now c.requires.0 a.p c.requires.1 in
-    limit-stands a.deck.now a.parts.now d a.p c.requires.0.table lp (stretch c.open_part.new.stretch 0 a.counts.channels)
+    let d = deck_of a.rig.now.deck.now in
+    let lp = known-part a.rig.now.deck.now a.rig.now.counts a.rig.now.parts.now c.requires.0 a.p c.requires.1 in
+    limit-stands a.rig.now.deck.now a.rig.now.parts.now d a.p c.requires.0.table lp (stretch c.open_part.new.stretch 0 a.rig.now.counts.channels)
     (ap length (row-opening c) ∙ opening-length d c.requires.0.counts.formed a.p lp)
 
 -- its limit stands there, for as many channels
 limit-there-2 : (c : goal.After-truth_from)
     → let a = c.args in
-    Stands (whole_truth (scope (length (stretch c.open_part.new.stretch 0 a.counts.channels)) 0)) a.deck.now
-    (get_or a.parts.now (4 * a.p + 2) 0)
-    (part_at (deck_of a.deck.now) a.p).limit
+    Stands (whole_truth (scope (length (stretch c.open_part.new.stretch 0 a.rig.now.counts.channels)) 0)) a.rig.now.deck.now
+    (get_or a.rig.now.parts.now (4 * a.p + 2) 0)
+    (part_at (deck_of a.rig.now.deck.now) a.p).limit
 limit-there-2 c =
     let a = c.args in
-    let d = deck_of a.deck.now in
-    let lp = known-part a.deck.now a.counts a.parts.now c.requires.0 a.p c.requires.1 in
-    limit-stands a.deck.now a.parts.now d a.p c.requires.0.table lp (stretch c.open_part.new.stretch 0 a.counts.channels)
+    let d = deck_of a.rig.now.deck.now in
+    let lp = known-part a.rig.now.deck.now a.rig.now.counts a.rig.now.parts.now c.requires.0 a.p c.requires.1 in
+    limit-stands a.rig.now.deck.now a.rig.now.parts.now d a.p c.requires.0.table lp (stretch c.open_part.new.stretch 0 a.rig.now.counts.channels)
     (ap length (row-opening-2 c) ∙ opening-length d c.requires.0.counts.formed a.p lp)
 
 pub truth_from-requires : goal.truth_from-requires
@@ -75,14 +75,14 @@ truth_from-requires c =
     let k = c.requires.0.counts in (
       omega (arith, row-long c, k.channels, k.formed.channels),
       omega arith,
-      ((part_at (deck_of c.args.deck.now) c.args.p).limit, limit-there c),
+      ((part_at (deck_of c.args.rig.now.deck.now) c.args.p).limit, limit-there c),
     )
 
 pub returns : goal.returns
 returns c =
     let a = c.args in
-    let d = deck_of a.deck.now in
+    let d = deck_of a.rig.now.deck.now in
     let k = c.requires.0.counts in
     c.truth_from.ensures (part_at d a.p).limit (limit-there-2 c)
     ∙ ap (λ l. truth_in l [] (part_at d a.p).limit) (row-opening-2 c)
-    ∙ opens-value d a.p k.scoped k.formed (known-part a.deck.now a.counts a.parts.now c.requires.0 a.p c.requires.1)
+    ∙ opens-value d a.p k.scoped k.formed (known-part a.rig.now.deck.now a.rig.now.counts a.rig.now.parts.now c.requires.0 a.p c.requires.1)

@@ -13,7 +13,7 @@ pub truth_from-requires : goal.truth_from-requires
 truth_from-requires c =
     let a = c.args in
     let k = c.requires.0.counts in
-    let d = deck_of a.deck.now in
+    let d = deck_of a.rig.now.deck.now in
     let fits : 32 * a.p + R d ≤ length a.values.now =
     omega (arith, k.channels, k.parts, k.formed.channels, k.formed.parts, c.requires.2, c.requires.1) in
     let lp : a.p < N d = omega (arith, k.parts, c.requires.2) in (
@@ -25,7 +25,7 @@ truth_from-requires c =
           add-sub_cancel_left,
           k.channels,
         )
-            (limit-stands a.deck.now a.parts.now d a.p c.requires.0.table lp (stretch_of (R d) a.p a.values.now)
+            (limit-stands a.rig.now.deck.now a.rig.now.parts.now d a.p c.requires.0.table lp (stretch_of (R d) a.p a.values.now)
             (stretch-length (R d) a.p a.values.now fits)),
       ),
     )
@@ -34,12 +34,12 @@ pub returns : goal.returns
 returns c =
     let a = c.args in
     let k = c.requires.0.counts in
-    let d = deck_of a.deck.now in
+    let d = deck_of a.rig.now.deck.now in
     let fits : 32 * a.p + R d ≤ length a.values.now =
     omega (arith, k.channels, k.parts, k.formed.channels, k.formed.parts, c.requires.2, c.requires.1) in
     let lp : a.p < N d = omega (arith, k.parts, c.requires.2) in
     let value = rw (add-sub_cancel_left, k.channels) at c.truth_from.ensures in
     value (part_at d a.p).limit
-    (limit-stands a.deck.now a.parts.now d a.p c.requires.0.table lp (stretch_of (R d) a.p a.values.now)
+    (limit-stands a.rig.now.deck.now a.rig.now.parts.now d a.p c.requires.0.table lp (stretch_of (R d) a.p a.values.now)
     (stretch-length (R d) a.p a.values.now fits))
     ∙ limit-value d a.p a.values.now k.scoped fits

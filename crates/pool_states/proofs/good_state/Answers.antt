@@ -22,17 +22,17 @@ learnt rules parts k m f e = sym (f (shape rules parts k) (counted-R rules parts
 pub returns-then-not-state_fits : goal.returns-then-not-state_fits
 returns-then-not-state_fits c =
     let a = c.args in
-    let d = shape a.rules.now a.parts.now a.counts in
+    let d = shape a.rig.now.rules.now a.rig.now.parts.now a.rig.now.counts in
     let m = memory_of a.values.now a.pending a.pool.now in
-    let out = learnt a.rules.now a.parts.now a.counts m c.state_fits.ensures c.if-not-state_fits.true in
+    let out = learnt a.rig.now.rules.now a.rig.now.parts.now a.rig.now.counts m c.state_fits.ensures c.if-not-state_fits.true in
     record { answer = judged-bad d m (no-frame d m out); memo = c.requires.0.memo; indexes = index-none refl }
 
 pub weigh-requires : goal.weigh-requires
 weigh-requires c =
     let a = c.args in
-    let d = shape a.rules.now a.parts.now a.counts in
+    let d = shape a.rig.now.rules.now a.rig.now.parts.now a.rig.now.counts in
     let m = memory_of a.values.now a.pending a.pool.now in
-    let few = (framed-tests d m (learnt a.rules.now a.parts.now a.counts m c.state_fits.ensures c.if-not-state_fits.false)).few in (
+    let few = (framed-tests d m (learnt a.rig.now.rules.now a.rig.now.parts.now a.rig.now.counts m c.state_fits.ensures c.if-not-state_fits.false)).few in (
       c.requires.0,
       c.requires.1,
       omega (arith, few),
@@ -44,7 +44,7 @@ weigh-requires c =
 pub returns-in_err-total : goal.returns-in_err-total
 returns-in_err-total c =
     let a = c.args in
-    let d = shape a.rules.now a.parts.now a.counts in
+    let d = shape a.rig.now.rules.now a.rig.now.parts.now a.rig.now.counts in
     let m = memory_of a.values.now a.pending a.pool.now in
     let w = c.in_err-total.ensures in
     rw c.from_residual.ensures
@@ -53,11 +53,11 @@ returns-in_err-total c =
 pub returns-then-places-total : goal.returns-then-places-total
 returns-then-places-total c =
     let a = c.args in
-    let d = shape a.rules.now a.parts.now a.counts in
+    let d = shape a.rig.now.rules.now a.rig.now.parts.now a.rig.now.counts in
     let m = memory_of a.values.now a.pending a.pool.now in
     let w = c.in_ok-total.ensures in
     let sound = weight-good d m refl w.answer in
-    let frame = learnt a.rules.now a.parts.now a.counts m c.state_fits.ensures c.if-not-state_fits.false in
+    let frame = learnt a.rig.now.rules.now a.rig.now.parts.now a.rig.now.counts m c.state_fits.ensures c.if-not-state_fits.false in
     record {
       answer = judged-above d m (all-but-charge d m frame sound.0) sound.1 c.if-places-total.true;
       memo = w.memo;
@@ -67,11 +67,11 @@ returns-then-places-total c =
 pub returns : goal.returns
 returns c =
     let a = c.args in
-    let d = shape a.rules.now a.parts.now a.counts in
+    let d = shape a.rig.now.rules.now a.rig.now.parts.now a.rig.now.counts in
     let m = memory_of a.values.now a.pending a.pool.now in
     let w = c.in_ok-total.ensures in
     let sound = weight-good d m refl w.answer in
-    let frame = learnt a.rules.now a.parts.now a.counts m c.state_fits.ensures c.if-not-state_fits.false in
+    let frame = learnt a.rig.now.rules.now a.rig.now.parts.now a.rig.now.counts m c.state_fits.ensures c.if-not-state_fits.false in
     record {
       answer = judged-good d m (all-but-charge d m frame sound.0) sound.1 c.requires.2 c.if-places-total.false;
       memo = w.memo;

@@ -5,4 +5,4 @@ use Rattle.pool_states.proofs.Adding.{Adding}
 use Rattle.pool_states.proofs.weigh.Given as goal
 
 abbrev pub invariant-loop-k : goal.invariant-loop-k
-invariant-loop-k l = Adding (shape l.rules l.parts l.counts) l.pending l.pool l.initial.index l.memo l.index l.total l.k
+invariant-loop-k l = Adding (shape l.rig.rules.now l.rig.parts.now l.rig.counts) l.pending l.pool l.initial.index l.memo l.index l.total l.k
