@@ -19,25 +19,15 @@ pub struct Unreadable;
 // What a line asks for.
 #[derive(Drop)]
 pub enum Command {
-    Start {
-        length: u32,
-    },
+    Start(u32),
     Input {
         part: u32,
         numbers: ArrayVec<i32, KEPT>,
     },
-    Commit {
-        place: u32,
-    },
-    Settle {
-        budget: u32,
-    },
-    Section {
-        number: u32,
-    },
-    Convert {
-        length: u32,
-    },
+    Commit(u32),
+    Settle(u32),
+    Section(u32),
+    Convert(u32),
     Value {
         index: u32,
         value: i32,
@@ -46,9 +36,7 @@ pub enum Command {
         index: u32,
         value: i32,
     },
-    Pending {
-        pending: u32,
-    },
+    Pending(u32),
 }
 
 // The fields of a line as far as they are read.
@@ -112,12 +100,12 @@ impl Fields {
 // A line with one field.
 fn one_field(word: Word, n: u32) -> Result<Command, Unreadable> {
     match word {
-        Word::Start => Ok(Command::Start { length: n }),
-        Word::Commit => Ok(Command::Commit { place: n }),
-        Word::Settle => Ok(Command::Settle { budget: n }),
-        Word::Section => Ok(Command::Section { number: n }),
-        Word::Convert => Ok(Command::Convert { length: n }),
-        Word::Pending => Ok(Command::Pending { pending: n }),
+        Word::Start => Ok(Command::Start(n)),
+        Word::Commit => Ok(Command::Commit(n)),
+        Word::Settle => Ok(Command::Settle(n)),
+        Word::Section => Ok(Command::Section(n)),
+        Word::Convert => Ok(Command::Convert(n)),
+        Word::Pending => Ok(Command::Pending(n)),
         _ => Err(Unreadable),
     }
 }
