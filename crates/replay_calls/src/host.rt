@@ -11,14 +11,19 @@ use std::alloc::{AllocError, Global};
 use std::io;
 use std::io::Write;
 
-// The longest pool that a line may lend, and what each of its numbers is before a start.
+// The longest pool that a line may lend.
 const LONGEST_POOL: u32 = 700_000;
+
+// What every number of a pool is before a start.
 const LENT: i32 = 7;
 
-// The longest buffer that a line may lend, and what each of its bytes is before a conversion.
+// The longest buffer that a line may lend.
 const LONGEST_BUFFER: u32 = 50_000;
+
+// What every byte of a buffer is before a conversion.
 const LENT_BYTE: u8 = 7;
 
+// What a host holds and lends.
 #[derive(Drop)]
 pub struct Host {
     alloc: Global,
@@ -34,6 +39,22 @@ fn set(numbers: &mut [i32], index: u32, value: i32) -> Option<Answer> {
     };
     *number = value;
     None
+}
+
+// Prints each number that is not 0.
+fn print_numbers<F: Fn(u32, i32) -> Answer, W: Write + Drop, E: Write + Drop>(
+    numbers: &[i32],
+    entry: &F,
+    out: &mut Output<W, E>,
+) -> io::Result<()>
+    requires { F.IsAlwaysCallable entry.now }
+{
+    for (index, value) in (0u32..).zip(numbers) {
+        if *value != 0 {
+            out.print(entry(index, *value))?;
+        }
+    }
+    Ok(())
 }
 
 impl Host {
@@ -122,24 +143,13 @@ impl Host {
         None
     }
 
-    // Does what a line asks for that leaves the deck as it is, and answers what the line prints.
-    pub fn perform(&mut self, command: Command) -> Result<Option<Answer>, AllocError> {
-        Ok(match command {
-            Command::Start(length) => Some(self.start(length)?),
-            Command::Input { part, numbers } => Some(self.input(part, numbers.as_slice()).unwrap_or_else(Answer::from)),
-            Command::Commit(place) => Some(self.commit(place).unwrap_or_else(Answer::from)),
-            Command::Settle(budget) => Some(self.settle(budget).unwrap_or_else(Answer::from)),
-            Command::Section(number) => Some(self.section(number).unwrap_or_else(|answer| answer)),
-            Command::Value { index, value } => set(&mut self.state.values, index, value),
-            Command::Pool { index, value } => set(&mut self.pool, index, value),
-            Command::Pending(pending) => self.set_pending(pending),
-            Command::Convert(_) => None,
-        })
-    }
-
     // Lends the deck and a new buffer; what the converter makes is the deck from then on. Behind the answer comes each byte that
     // should be as it was lent and is not.
-    pub fn convert<W: Write + Drop, E: Write + Drop>(&mut self, length: u32, out: &mut Output<W, E>) -> io::Result<()> {
+    fn convert<W: Write + Drop, E: Write + Drop>(
+        &mut self,
+        length: u32,
+        out: &mut Output<W, E>,
+    ) -> io::Result<()> {
         if length > LONGEST_BUFFER {
             return out.print(Answer::Unreadable);
         }
@@ -159,19 +169,49 @@ impl Host {
         Ok(())
     }
 
+    // Does what a line asks for, and prints what it answers.
+    pub fn perform<W: Write + Drop, E: Write + Drop>(
+        &mut self,
+        command: Command,
+        out: &mut Output<W, E>,
+    ) -> io::Result<()> {
+        let answer = match command {
+            Command::Start(length) => Some(self.start(length)?),
+            Command::Input { part, numbers } => Some(
+                self.input(part, numbers.as_slice())
+                    .unwrap_or_else(Answer::from),
+            ),
+            Command::Commit(place) => Some(self.commit(place).unwrap_or_else(Answer::from)),
+            Command::Settle(budget) => Some(self.settle(budget).unwrap_or_else(Answer::from)),
+            Command::Section(number) => Some(
+                self.section(number).unwrap_or_else(|refused| refused),
+            ),
+            Command::Convert(length) => return self.convert(length, out),
+            Command::Value { index, value } => set(&mut self.state.values, index, value),
+            Command::Pool { index, value } => set(&mut self.pool, index, value),
+            Command::Pending(pending) => self.set_pending(pending),
+        };
+        match answer {
+            Some(answer) => out.print(answer),
+            None => Ok(()),
+        }
+    }
+
     // Prints what is left in memory: what is pending, and each number that is not 0.
-    pub fn print<W: Write + Drop, E: Write + Drop>(&self, out: &mut Output<W, E>) -> io::Result<()> {
+    pub fn print<W: Write + Drop, E: Write + Drop>(
+        &self,
+        out: &mut Output<W, E>,
+    ) -> io::Result<()> {
         out.print(Answer::Pending(self.state.pending))?;
-        for (index, value) in (0u32..).zip(&self.state.values) {
-            if *value != 0 {
-                out.print(Answer::Value { index, value: *value })?;
-            }
-        }
-        for (index, value) in (0u32..).zip(&self.pool) {
-            if *value != 0 {
-                out.print(Answer::Pool { index, value: *value })?;
-            }
-        }
-        Ok(())
+        print_numbers(
+            &self.state.values,
+            &|index, value| Answer::Value { index, value },
+            out,
+        )?;
+        print_numbers(
+            &self.pool,
+            &|index, value| Answer::Pool { index, value },
+            out,
+        )
     }
 }

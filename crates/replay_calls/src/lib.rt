@@ -8,7 +8,7 @@ mod output;
 use host::Host;
 use output::Output;
 use replay_text::answers::Answer;
-use replay_text::lines::{Command, Line, Unreadable};
+use replay_text::lines::{Line, Unreadable};
 use std::alloc::Global;
 use std::io::{BufReader, Read, Write};
 use std::{io, mem};
@@ -32,12 +32,8 @@ impl<W: Write + Drop, E: Write + Drop> Player<W, E> {
     fn end_line(&mut self) -> io::Result<()> {
         let line = mem::replace(&mut self.line, Line::new());
         match line.command() {
+            Ok(Some(command)) => self.host.perform(command, &mut self.out),
             Ok(None) => Ok(()),
-            Ok(Some(Command::Convert(length))) => self.host.convert(length, &mut self.out),
-            Ok(Some(command)) => match self.host.perform(command)? {
-                None => Ok(()),
-                Some(answer) => self.out.print(answer),
-            },
             Err(Unreadable) => self.out.print(Answer::Unreadable),
         }
     }
@@ -65,8 +61,8 @@ impl<W: Write + Drop, E: Write + Drop> Player<W, E> {
     }
 }
 
-// The same where `err` is kept, to be told that there is no memory.
-fn replay_to<D: Read, C: Read, W: Write + Drop, E: Write + Drop>(
+// Goes through the calls on the deck. It fails only where there is no memory.
+fn play<D: Read, C: Read, W: Write + Drop, E: Write + Drop>(
     alloc: Global,
     deck: &mut D,
     calls: &mut C,
@@ -97,7 +93,7 @@ pub fn replay<D: Read, C: Read, W: Write + Drop, E: Write + Drop>(
     to: W,
     mut err: E,
 ) {
-    if let Err(why) = replay_to(alloc, deck, calls, to, &mut err) {
+    if let Err(why) = play(alloc, deck, calls, to, &mut err) {
         let _ = descriptors::fail(&mut err, b"cannot go on", &why);
     }
 }
