@@ -12,8 +12,8 @@ ghost use Rattle.calls_tests.specs.Tested.{TestsPassed};
 ghost use Rattle.calls_input.specs.Entered.{GoodInput};
 
 use calls::{AfterCall, Response};
-use calls_tests::TestsFound;
-use deck::Deck;
+use calls_tests::Pending;
+use deck::{Deck, Rig};
 use firing_queue::Queue;
 use firing_rules::Change;
 use refusals::{Declined, Refusal};
@@ -24,28 +24,18 @@ fn good_input(pairs: &[i32], channels: usize) -> bool
     ensures { GoodInput channels pairs.now result }
 {
     let n = pairs.len();
-    if n < 2 {
+    if n < 2 || n > 2 * Deck::CHANNELS || n % 2 != 0 {
         return false;
     }
-    if n > 2 * Deck::CHANNELS {
-        return false;
-    }
-    if n % 2 != 0 {
-        return false;
-    }
-    let count = n / 2;
     let mut seen: u64 = 0;
-    let mut i: usize = 0;
-    while i < count {
-        let c = pool_states::bounded_at(pairs, 2 * i, channels);
-        if c == channels {
+    for i in 0..n / 2 {
+        let Some(c) = pool_states::bounded_at(pairs, 2 * i, channels) else {
             return false;
-        }
+        };
         if (seen >> c) % 2 == 1 {
             return false;
         }
-        seen = seen | (1u64 << c);
-        i += 1;
+        seen |= 1 << c;
     }
     true
 }
@@ -62,10 +52,8 @@ fn take_back(pool: &mut [i32], pending: usize)
 // A good input to a known part. The values of its channels are set on a copy, the limit is tested there and the firing follows, and
 // they are stored unless that is too much (17, 13).
 fn enter(
-    deck: &[u8],
-    found: TestsFound,
-    rules: &[u64],
-    parts: &[u64],
+    rig: &Rig,
+    pending: Pending,
     memo: &mut [u32],
     index: &mut [u16],
     pool: &mut [i32],
@@ -73,49 +61,44 @@ fn enter(
     part: usize,
     pairs: &[i32],
 ) -> Result<AfterCall, Declined>
-    requires { TestsPassed deck.now rules.now parts.now memo.old index.old
-        (memory_at values.old found.pending pool.old) found.counts found.charge
-        × (part < found.counts.parts) × (good_input (deck_of deck.now) pairs.now ≡ true) }
-    ensures { reply_after result values.new found.pending pool.new
-        ≡ Calls.input deck.now (memory_at values.old found.pending pool.old) part
+    requires { TestsPassed rig.now.deck.now rig.now.rules.now rig.now.parts.now memo.old index.old
+        (memory_at values.old pending.count pool.old) rig.now.counts pending.charge
+        × (part < rig.now.counts.parts) × (good_input (deck_of rig.now.deck.now) pairs.now ≡ true) }
+    ensures { reply_after result values.new pending.count pool.new
+        ≡ Calls.input rig.now.deck.now (memory_at values.old pending.count pool.old) part
         pairs.now }
 {
-    let counts = found.counts;
     let mut after = *values;
     firing_actions::assign_pairs(&mut after, part, pairs);
-    if !passing_tests::within(deck, counts, parts, &after, part) {
+    if !passing_tests::within(rig.deck, rig.counts, rig.parts, &after, part) {
         return Err(Refusal::InputOutside.unplaced());
     }
     let mut back = [0i32; 2 * Deck::CHANNELS];
     let channels = firing_actions::changed_by(values, part, pairs, &mut back);
     let change = Change { part, channels };
-    let n = found.pending as usize;
+    let n = pending.count as usize;
     let queue = Queue {
         used: n,
-        charge: found.charge,
+        charge: pending.charge,
         capacity: (pool.len() / Deck::PLACE) as u32,
         full: false,
     };
-    let grown = firing_rules::react(
-        deck, counts, rules, parts, memo, index, pool, queue, &after, change,
-    );
+    let grown = firing_rules::react(rig, memo, index, pool, queue, &after, change);
     if grown.full {
         take_back(pool, n);
         return Err(Refusal::OverCapacity.unplaced());
     }
     firing_actions::assign_pairs(values, part, pairs);
     Ok(AfterCall {
-        response: Response::Added(grown.charge - found.charge),
+        response: Response::Added(grown.charge - pending.charge),
         pending: grown.used as u32,
     })
 }
 
 // The input to a part, if the part is known and the input list is good (11, 12).
 pub fn input_tested(
-    deck: &[u8],
-    found: TestsFound,
-    rules: &[u64],
-    parts: &[u64],
+    rig: &Rig,
+    pending: Pending,
     memo: &mut [u32],
     index: &mut [u16],
     pool: &mut [i32],
@@ -123,21 +106,18 @@ pub fn input_tested(
     part: u32,
     pairs: &[i32],
 ) -> Result<AfterCall, Declined>
-    requires { TestsPassed deck.now rules.now parts.now memo.old index.old
-        (memory_at values.old found.pending pool.old) found.counts found.charge }
-    ensures { reply_after result values.new found.pending pool.new
-        ≡ Calls.input deck.now (memory_at values.old found.pending pool.old) part
+    requires { TestsPassed rig.now.deck.now rig.now.rules.now rig.now.parts.now memo.old index.old
+        (memory_at values.old pending.count pool.old) rig.now.counts pending.charge }
+    ensures { reply_after result values.new pending.count pool.new
+        ≡ Calls.input rig.now.deck.now (memory_at values.old pending.count pool.old) part
         pairs.now }
 {
-    let counts = found.counts;
     let p = part as usize;
-    if p >= counts.parts {
+    if p >= rig.counts.parts {
         return Err(Refusal::UnknownPart.unplaced());
     }
-    if !good_input(pairs, counts.channels) {
+    if !good_input(pairs, rig.counts.channels) {
         return Err(Refusal::BadInput.unplaced());
     }
-    enter(
-        deck, found, rules, parts, memo, index, pool, values, p, pairs,
-    )
+    enter(rig, pending, memo, index, pool, values, p, pairs)
 }

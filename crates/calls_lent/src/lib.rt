@@ -1,23 +1,21 @@
 // Input, commit and settle on memory that is lent: the tables that a call works on, the tests, and what is asked for.
 #![tactic(auto)]
 
-ghost use Rattle.std.specs.Prelude.{◌≡◌, length, replicate};
+ghost use Rattle.std.specs.Prelude.{◌≡◌, ◌≤◌, length, replicate};
 ghost use Rattle.calls.specs.Answers.{memory_at, reply_at};
 ghost use Rattle.calls.specs.Requests.{requested, outcome_to, reply_after};
 ghost use Rattle.calls_tests.specs.Tested.{Usable, TestsPassed};
 ghost use Rattle.passing.specs.Judged.{ZeroRules, ZeroMemo};
 
 use calls::{AfterCall, Request, Response};
-use calls_tests::TestsFound;
-use deck::Deck;
+use calls_tests::Pending;
+use deck::{Deck, Rig};
 use refusals::Declined;
 
 // What is asked for, on what was tested.
 fn call_tested(
-    deck: &[u8],
-    found: TestsFound,
-    rules: &[u64],
-    parts: &[u64],
+    rig: &Rig,
+    pending: Pending,
     memo: &mut [u32],
     index: &mut [u16],
     pool: &mut [i32],
@@ -25,22 +23,22 @@ fn call_tested(
     request: Request,
     pairs: &[i32],
 ) -> Result<AfterCall, Declined>
-    requires { TestsPassed deck.now rules.now parts.now memo.old index.old
-        (memory_at values.old found.pending pool.old) found.counts found.charge }
-    ensures { reply_after result values.new found.pending pool.new
-        ≡ requested deck.now (memory_at values.old found.pending pool.old) request
+    requires { TestsPassed rig.now.deck.now rig.now.rules.now rig.now.parts.now memo.old index.old
+        (memory_at values.old pending.count pool.old) rig.now.counts pending.charge }
+    ensures { reply_after result values.new pending.count pool.new
+        ≡ requested rig.now.deck.now (memory_at values.old pending.count pool.old) request
         pairs.now }
 {
     match request {
-        Request::Input(part) => calls_input::input_tested(
-            deck, found, rules, parts, memo, index, pool, values, part, pairs,
-        ),
-        Request::Commit(place) => calls_commit::commit_tested(
-            deck, found, rules, parts, memo, index, pool, values, place,
-        ),
-        Request::Settle(budget) => calls_settle::settle_tested(
-            deck, found, rules, parts, memo, index, pool, values, budget,
-        ),
+        Request::Input(part) => {
+            calls_input::input_tested(rig, pending, memo, index, pool, values, part, pairs)
+        }
+        Request::Commit(place) => {
+            calls_commit::commit_tested(rig, pending, memo, index, pool, values, place)
+        }
+        Request::Settle(budget) => {
+            calls_settle::settle_tested(rig, pending, memo, index, pool, values, budget)
+        }
     }
 }
 
@@ -65,8 +63,21 @@ fn call_on(
     let found = calls_tests::test_lent(
         deck, rules, &mut parts, memo, index, pool, values, *pending,
     )?;
+    let rig = Rig {
+        deck,
+        counts: found.counts,
+        rules,
+        parts: &parts,
+    };
     let after = call_tested(
-        deck, found, rules, &parts, memo, index, pool, values, request, pairs,
+        &rig,
+        found.pending,
+        memo,
+        index,
+        pool,
+        values,
+        request,
+        pairs,
     )?;
     *pending = after.pending;
     Ok(after.response)
@@ -85,7 +96,8 @@ fn call_indexed<const INDEX: usize>(
     rules: &mut [u64],
     memo: &mut [u32],
 ) -> Result<Response, Declined>
-    requires { Usable (length pool.old) (replicate INDEX 0) × ZeroRules deck.now rules.old × ZeroMemo deck.now memo.old }
+    requires { Usable (length pool.old) (replicate INDEX 0) × ZeroRules deck.now rules.old × ZeroMemo deck.now memo.old
+        × (INDEX ≤ 196610) }
     ensures { reply_at (outcome_to result) values.new pending.new pool.new
         ≡ requested deck.now (memory_at values.old pending.old pool.old) request
         pairs.now }
@@ -153,7 +165,7 @@ fn call_tabled<const RULES: usize, const MEMO: usize>(
     request: Request,
     pairs: &[i32],
 ) -> Result<Response, Declined>
-    requires { ZeroRules deck.now (replicate RULES 0) × ZeroMemo deck.now (replicate MEMO 0) }
+    requires { ZeroRules deck.now (replicate RULES 0) × ZeroMemo deck.now (replicate MEMO 0) × (RULES ≤ 512) × (MEMO ≤ 1024) }
     ensures { reply_at (outcome_to result) values.new pending.new pool.new
         ≡ requested deck.now (memory_at values.old pending.old pool.old) request
         pairs.now }

@@ -1,5 +1,5 @@
 -- What input, commit and settle take and leave, once deck, pool and state are tested. Assumes nothing.
-use Rattle.std.specs.Prelude.{ℕ, ◌≡◌, ◌⊎◌, true, false, List, length, ℤ, Option, Some, None, Result, Ok, Err}
+use Rattle.std.specs.Prelude.{ℕ, ◌≡◌, ◌⊎◌, true, false, List, length, ℤ, Some, None, Result, Ok, Err}
 use Rattle.refusals.specs.Outcome.{accepted}
 use Rattle.refusals.specs.Numbers.{bad_pool, bad_state}
 use Rattle.refusals.specs.Declined.{number_of, decline_outcome}
@@ -35,11 +35,11 @@ abbrev pub TestsState : Counted.Deck → List ℕ → List ℕ → List ℕ → 
 TestsState k rules parts memo index pool vs pending (Ok x) =
     (x.counts ≡ k)
     × (good_length (length pool) ≡ true)
-    × (Some x.charge ≡ goodness_of (shape rules parts k) (memory_at vs pending pool))
+    × (Some x.pending.charge ≡ goodness_of (shape rules parts k) (memory_at vs pending pool))
     × Memo (shape rules parts k) memo
     × Indexed (places pending pool) index
     × Roomy (capacity (length pool)) index
-    × (x.pending ≡ pending)
+    × (x.pending.count ≡ pending)
 TestsState k rules parts memo index pool vs pending (Err x) =
     (x.place ≡ 0)
     × (((number_of x.refusal ≡ bad_pool) × (good_length (length pool) ≡ false))
@@ -58,7 +58,7 @@ pub record TestsPassed (s rules parts memo index : List ℕ) (m : Memory) (k : C
 
 abbrev pub Tests : List ℕ → List ℕ → List ℕ → List ℕ → List ℕ → List ℤ → List ℤ → ℕ → Result TestsFound Declined → Type 0
 Tests s rules parts memo index pool vs pending (Ok x) =
-    (x.pending ≡ pending) × TestsPassed s rules parts memo index (memory_at vs pending pool) x.counts x.charge
+    (x.pending.count ≡ pending) × TestsPassed s rules parts memo index (memory_at vs pending pool) x.counts x.pending.charge
 Tests s rules parts memo index pool vs pending (Err x) =
     tested s (memory_at vs pending pool) ≡ decline_outcome x
 

@@ -39,12 +39,18 @@ pub const LONGER_INDEX: usize = 36868;
 
 pub const INDEX: usize = 196610;
 
-// What the tests of deck, pool and state find: the counts of the deck, the updates pending and their charge.
-#[derive(Clone, Copy)]
+// The updates pending: how many they are, and their charge.
+#[derive(Clone, Copy, Debug, PartialEq, Eq)]
+pub struct Pending {
+    pub count: u32,
+    pub charge: u32,
+}
+
+// What the tests of deck, pool and state find.
+#[derive(Clone, Copy, Debug, PartialEq, Eq)]
 pub struct TestsFound {
     pub counts: Deck,
-    pub pending: u32,
-    pub charge: u32,
+    pub pending: Pending,
 }
 
 // 9 and 10, for a deck that passes.
@@ -68,11 +74,13 @@ fn test_state(
     }
     let n = pending as usize;
     match pool_states::good_state(rules, parts, memo, index, counts, values, n, pool) {
-        Some(charge) => Ok(TestsFound {
-            counts,
-            pending,
-            charge,
-        }),
+        Some(charge) => {
+            let pending = Pending {
+                count: pending,
+                charge,
+            };
+            Ok(TestsFound { counts, pending })
+        }
         None => Err(Refusal::BadState.unplaced()),
     }
 }
@@ -94,5 +102,14 @@ pub fn test_lent(
         pool.now values.now pending result }
 {
     let passing = passing_tests::judge(deck, rules, parts, memo, Form::New)?;
-    test_state(passing.counts, rules, parts, memo, index, pool, values, pending)
+    test_state(
+        passing.counts,
+        rules,
+        parts,
+        memo,
+        index,
+        pool,
+        values,
+        pending,
+    )
 }

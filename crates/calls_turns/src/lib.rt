@@ -6,8 +6,8 @@ ghost use Rattle.std.specs.Prelude.{length};
 ghost use Rattle.pool.specs.Places.{capacity};
 ghost use Rattle.calls_turns.specs.Turns.{Beginning, Turned};
 
-use calls_tests::TestsFound;
-use deck::Deck;
+use calls_tests::Pending;
+use deck::{Deck, Rig};
 use firing_queue::Queue;
 
 // The commits made, the updates pending and their charge, and whether the last commit was applied.
@@ -22,10 +22,8 @@ pub struct Turns {
 // The update that is pending at place `first` is committed until none is or the budget is used. What was tested once is not tested
 // again. The places that were taken out follow one another from `first` on.
 pub fn take_turns(
-    deck: &[u8],
-    found: TestsFound,
-    rules: &[u64],
-    parts: &[u64],
+    rig: &Rig,
+    pending: Pending,
     memo: &mut [u32],
     index: &mut [u16],
     pool: &mut [i32],
@@ -33,16 +31,15 @@ pub fn take_turns(
     first: usize,
     budget: u32,
 ) -> Turns
-    requires { Beginning deck.now found.counts rules.now parts.now memo.old index.old pool.old
-        (capacity (length pool.old)) values.old found.pending found.charge first }
-    ensures { Turned deck.now (capacity (length pool.old)) values.old found.pending
-        found.charge index.old pool.old first budget result.made result.pending result.charge result.applied
+    requires { Beginning rig.now.deck.now rig.now.counts rig.now.rules.now rig.now.parts.now memo.old index.old pool.old
+        (capacity (length pool.old)) values.old pending.count pending.charge first }
+    ensures { Turned rig.now.deck.now (capacity (length pool.old)) values.old pending.count
+        pending.charge index.old pool.old first budget result.made result.pending result.charge result.applied
         values.new pool.new }
 {
-    let counts = found.counts;
     let mut queue = Queue {
-        used: found.pending as usize,
-        charge: found.charge,
+        used: pending.count as usize,
+        charge: pending.charge,
         capacity: (pool.len() / Deck::PLACE) as u32,
         full: false,
     };
@@ -54,9 +51,7 @@ pub fn take_turns(
         if ahead == 0 {
             break;
         }
-        let step = firing_commits::commit(
-            deck, counts, rules, parts, memo, index, pool, queue, values, next,
-        );
+        let step = firing_commits::commit(rig, memo, index, pool, queue, values, next);
         queue = step.queue;
         applied = step.applied;
         made += 1;

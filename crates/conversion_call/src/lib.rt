@@ -16,12 +16,7 @@ use refusals::{Declined, Refusal};
 
 // Writes the conversion of a deck from which at most 64 rules result. It is made beside the buffer, which stays as it is where the
 // bytes do not fit.
-fn write(
-    deck: &[u8],
-    counts: Deck,
-    numbers: &[u8],
-    buffer: &mut [u8],
-) -> Result<u32, Declined>
+fn write(deck: &[u8], counts: Deck, numbers: &[u8], buffer: &mut [u8]) -> Result<u32, Declined>
     requires { OldDeck deck.now counts × Numbered (deck_of deck.now) numbers.now
         × (M (converted (deck_of deck.now)) ≤ limits.rules) }
     ensures { reply_of (convert_outcome result) buffer.new ≡ convert deck.now buffer.old }

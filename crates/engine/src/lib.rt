@@ -85,13 +85,7 @@ fn settle_answer(told: Result<Response, Declined>) -> Result<SettleAnswer, Decli
 }
 
 // The values of channels of a part are set, unless that would leave the part outside its limit. The answer is the charge added.
-pub fn input(
-    deck: &[u8],
-    pool: &mut [i32],
-    state: State,
-    part: u32,
-    pairs: &[i32],
-) -> Answered<u32>
+pub fn input(deck: &[u8], pool: &mut [i32], state: State, part: u32, pairs: &[i32]) -> Answered<u32>
     ensures { reply_of (input_outcome result.answer) result.state pool.new
         ≡ Calls.input deck.now (memory_of state pool.old) part pairs.now }
 {

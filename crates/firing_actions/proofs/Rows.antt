@@ -21,18 +21,22 @@ use Rattle.firing.proofs.Laws.Written.{Writing, Turn, writing-none, writing-next
 use Rattle.firing_actions.proofs.Naturals.{cast-small}
 
 -- the target and the value of a turn
-pub row-turned : (own far : List ℤ) (q : ℕ) (s : List ℕ) (a : Action) (row : List ℤ) (next i : ℕ) (v : ℤ)
-    → Turn own far q s a row next i → get_or s next 0 < 256 → mag v < 2 ^ 31 → NumberIs s (next + 1) own far v
-    → Writing own far q s a (set (set row (2 + 2 * i) (to_z w32 (get_or s next 0))) (3 + 2 * i) (to_z w32 (of_z w32 v)))
-    (next + 2 + get_or s (next + 1) 0) (i + 1)
-row-turned own far q s a row next i v t byte fits is =
+pub row-turned : (own far : List ℤ) (q : ℕ) (s : List ℕ) (a : Action) (row : List ℤ) (next i : ℕ) (t v : ℤ) (n : ℕ)
+    → Turn own far q s a row next i → t ≡ pos (get_or s next 0) → get_or s next 0 < 256 → mag v < 2 ^ 31
+    → NumberIs s (next + 1) own far v → n ≡ get_or s (next + 1) 0
+    → Writing own far q s a (set (set row (2 + 2 * i) (to_z w32 (of_z w32 t))) (3 + 2 * i) (to_z w32 (of_z w32 v))) (next + (2 + n)) (i + 1)
+row-turned own far q s a row next i t v n turn target byte fits is size =
+    let there : next + (2 + get_or s (next + 1) 0) ≡ next + 2 + get_or s (next + 1) 0 = omega arith in
     rw (
-      cast-small (get_or s next 0) (omega arith),
+      target,
+      to_z-of_z w32 (pos (get_or s next 0)) (record { sfits = omega (arith, byte) }),
       to_z-of_z w32 v (record { sfits = fits }),
-      t.target,
-      is t.one.value t.value,
+      turn.target,
+      is turn.one.value turn.value,
+      size,
+      there,
     )
-    t.next
+    turn.next
 
 -- the readings of an action that the contracts speak of
 abbrev pub Reading : List ℤ → List ℤ → List ℕ → ℕ → Action → Type 0

@@ -28,7 +28,7 @@ fn evaluate_one(deck: &[u8], at: usize, part: usize, own: &[i32], far: &[i32]) -
     let value = number_from(deck, at + 2, own, far);
     row[0] = part as i32;
     row[1] = 1;
-    row[2] = deck[at + 1] as i32;
+    row[2] = i32::from(deck[at + 1]);
     row[3] = value;
     row
 }
@@ -38,7 +38,7 @@ pub fn evaluate(deck: &[u8], at: usize, part: usize, own: &[i32], far: &[i32]) -
     requires { HasAction deck.now at (length own.now) (length far.now) × (part < 16) }
     ensures { ActionIs deck.now at part own.now far.now result }
 {
-    let count = deck[at] as usize;
+    let count = usize::from(deck[at]);
     if count == 1 {
         return evaluate_one(deck, at, part, own, far);
     }
@@ -46,14 +46,12 @@ pub fn evaluate(deck: &[u8], at: usize, part: usize, own: &[i32], far: &[i32]) -
     row[0] = part as i32;
     row[1] = count as i32;
     let mut place = at + 1;
-    let mut i: usize = 0;
-    while i < count {
-        let target = deck[place] as i32;
+    for i in 0..count {
+        let target = i32::from(deck[place]);
         let value = number_from(deck, place + 1, own, far);
         row[2 + 2 * i] = target;
         row[3 + 2 * i] = value;
-        place = place + 2 + (deck[place + 1] as usize);
-        i += 1;
+        place += 2 + usize::from(deck[place + 1]);
     }
     row
 }
@@ -66,17 +64,15 @@ pub fn changed_by(values: &[i32], part: usize, pairs: &[i32], back: &mut [i32]) 
 {
     let n = pairs.len() / 2;
     let mut mask: u64 = 0;
-    let mut i: usize = 0;
-    while i < n {
+    for i in 0..n {
         let c = pairs[2 * i] as usize;
         let new = pairs[2 * i + 1];
         let old = values[Deck::CHANNELS * part + c];
         back[2 * i] = pairs[2 * i];
         back[2 * i + 1] = old;
         if old != new {
-            mask = mask | (1u64 << c);
+            mask |= 1u64 << c;
         }
-        i += 1;
     }
     mask
 }
@@ -86,12 +82,8 @@ pub fn assign_pairs(values: &mut [i32], part: usize, pairs: &[i32])
     requires { (length values.old ≡ 512) × (part < 16) × Assignable pairs.now }
     ensures { values.new ≡ assign part (pairs_of pairs.now) values.old }
 {
-    let n = pairs.len() / 2;
-    let mut i: usize = 0;
-    while i < n {
-        let c = pairs[2 * i] as usize;
-        let v = pairs[2 * i + 1];
-        values[Deck::CHANNELS * part + c] = v;
-        i += 1;
+    for pair in pairs.chunks_exact(2) {
+        let c = pair[0] as usize;
+        values[Deck::CHANNELS * part + c] = pair[1];
     }
 }

@@ -1,13 +1,13 @@
 -- What the functions that change a state take and leave: the numbers of a host's state and pool, and the values and pending
 -- updates that they stand for. Assumes nothing.
-use Rattle.std.specs.Prelude.{ℕ, ◌+◌, ◌-◌, ◌*◌, ◌≤◌, ◌<◌, ◌≡◌, Bool, true, List, ◌++◌, length, get_or, take, set, ℤ}
+use Rattle.std.specs.Prelude.{ℕ, ◌-◌, ◌*◌, ◌≤◌, ◌<◌, ◌≡◌, Bool, true, List, ◌++◌, length, get_or, take, set, ℤ}
 use Rattle.deck.specs.Deck.{Deck}
 use Rattle.deck.specs.declared.Deck as Counted
 use Rattle.charge.specs.Charge.{update_charge}
 use Rattle.charge.specs.Memo.{Memo, Ready, capped}
 use Rattle.lists.specs.Lists.{all_of}
 use Rattle.lists.specs.Bits.{mask_of}
-use Rattle.pool.specs.Updates.{Update, channels, assign, charge}
+use Rattle.pool.specs.Updates.{Update, channels, assign}
 use Rattle.pool.specs.Places.{pairs_of}
 use Rattle.pool.specs.States.{Machine, known}
 use Rattle.deck.specs.Shape.{shape}

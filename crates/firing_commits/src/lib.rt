@@ -7,12 +7,9 @@ ghost use Rattle.deck.specs.Shape.{shape};
 ghost use Rattle.firing_queue.specs.Queue.{held_of};
 ghost use Rattle.firing_commits.specs.Commits.{Looking, Looks, CommittingAt, Commits, MayTake, NextPlace};
 
-use deck::Deck;
+use deck::{Deck, Rig};
 use firing_queue::Queue;
 use firing_rules::Change;
-
-// The number of an update's pairs is below this.
-const COUNTS: usize = Deck::ASSIGNMENTS + 1;
 
 // The part of an update and the number of its pairs, its charge, up to 65,536, and the channels that it changes, as a set.
 #[derive(Clone, Copy)]
@@ -25,35 +22,34 @@ pub struct Looked {
 
 // The update at place k, applied. `back` begins then with the pairs that set its channels back.
 fn look(
-    counts: Deck,
-    rules: &[u64],
-    parts: &[u64],
+    rig: &Rig,
     memo: &mut [u32],
     pool: &[i32],
     values: &mut [i32],
     back: &mut [i32],
     k: usize,
 ) -> Looked
-    requires { Looking counts rules.now parts.now memo.old pool.now k × (length values.old ≡ 512) × (length back.old ≡ 8) }
-    ensures { Looks (shape rules.now parts.now counts) k values.old pool.now
+    requires { Looking rig.now.counts rig.now.rules.now rig.now.parts.now memo.old pool.now k × (length values.old ≡ 512)
+        × (length back.old ≡ 8) }
+    ensures { Looks (shape rig.now.rules.now rig.now.parts.now rig.now.counts) k values.old pool.now
         memo.new values.new back.new result.part result.count result.charge result.changed }
 {
     let at = Deck::PLACE * k;
     let end = at + Deck::PLACE;
     let place = &pool[at..end];
-    let part = pool_states::bounded_at(place, 0, counts.parts);
-    let count = pool_states::bounded_at(place, 1, COUNTS);
+    let part = pool_states::number_at(place, 0);
+    let count = pool_states::number_at(place, 1);
     let mask = pool_states::channels_of(place);
-    let c = charge_tables::update_charge(rules, parts, memo, counts, part, mask);
+    let charge = charge_tables::update_charge(rig.rules, rig.parts, memo, rig.counts, part, mask);
     let to = 2 + 2 * count;
     let pairs = &place[2..to];
     let changed = firing_actions::changed_by(values, part, pairs, back);
     firing_actions::assign_pairs(values, part, pairs);
     Looked {
-        part: part,
-        count: count,
-        charge: c,
-        changed: changed,
+        part,
+        count,
+        charge,
+        changed,
     }
 }
 
@@ -67,10 +63,7 @@ pub struct AfterCommit {
 // The commit of the update at place k, which becomes a hole: it is applied, and set back where the limit of its part would fail. There
 // is room for a charge of the queue's capacity beside the holes, and for one less afterwards.
 pub fn commit(
-    deck: &[u8],
-    counts: Deck,
-    rules: &[u64],
-    parts: &[u64],
+    rig: &Rig,
     memo: &mut [u32],
     index: &mut [u16],
     pool: &mut [i32],
@@ -78,15 +71,15 @@ pub fn commit(
     values: &mut [i32],
     k: usize,
 ) -> AfterCommit
-    requires { CommittingAt deck.now counts rules.now parts.now memo.old (held_of index.old pool.old) queue.capacity
-        values.old queue.used queue.charge k }
-    ensures { Commits (deck_of deck.now) (shape rules.now parts.now counts) queue.capacity k
-        (held_of index.old pool.old) values.old queue.used queue.charge memo.new
+    requires { CommittingAt rig.now.deck.now rig.now.counts rig.now.rules.now rig.now.parts.now memo.old
+        (held_of index.old pool.old) queue.capacity values.old queue.used queue.charge k }
+    ensures { Commits (deck_of rig.now.deck.now) (shape rig.now.rules.now rig.now.parts.now rig.now.counts)
+        queue.capacity k (held_of index.old pool.old) values.old queue.used queue.charge memo.new
         (held_of index.new pool.new) values.new result.queue.used result.queue.charge result.applied
         × (result.queue.capacity ≡ queue.capacity - 1) }
 {
     let mut back = [0i32; 2 * Deck::ASSIGNMENTS];
-    let found = look(counts, rules, parts, memo, pool, values, &mut back, k);
+    let found = look(rig, memo, pool, values, &mut back, k);
     pool_holes::empty(pool, k);
     let part = found.part;
     let left = Queue {
@@ -95,21 +88,20 @@ pub fn commit(
         capacity: queue.capacity - 1,
         full: false,
     };
-    if !passing_tests::within(deck, counts, parts, values, part) {
-        let held = 2 * found.count;
-        firing_actions::assign_pairs(values, part, &back[..held]);
+    if !passing_tests::within(rig.deck, rig.counts, rig.parts, values, part) {
+        firing_actions::assign_pairs(values, part, &back[..2 * found.count]);
         return AfterCommit {
             queue: left,
             applied: false,
         };
     }
-    let channels = found.changed;
-    let change = Change { part, channels };
-    let after = firing_rules::react(
-        deck, counts, rules, parts, memo, index, pool, left, values, change,
-    );
+    let change = Change {
+        part,
+        channels: found.changed,
+    };
+    let queue = firing_rules::react(rig, memo, index, pool, left, values, change);
     AfterCommit {
-        queue: after,
+        queue,
         applied: true,
     }
 }

@@ -7,7 +7,7 @@ ghost use Rattle.pool_states.specs.Answer.{HoldsKnown};
 ghost use Rattle.deck.specs.Shape.{shape};
 ghost use Rattle.firing_queue.specs.Queue.{held_of, Offering, Offered};
 
-use deck::Deck;
+use deck::Rig;
 
 // The places used, those from which an update was taken out among them, the charge of the pending updates, and the capacity that it
 // keeps within; full where a new one would have passed it.
@@ -24,37 +24,32 @@ fn over_capacity(queue: Queue) -> Queue
     ensures { (result.used ≡ queue.used) × (result.charge ≡ queue.charge) × (result.capacity ≡ queue.capacity) × (result.full ≡ true) }
 {
     Queue {
-        used: queue.used,
-        charge: queue.charge,
-        capacity: queue.capacity,
         full: true,
+        ..queue
     }
 }
 
 // A new update behind the last place used, unless it is equal to one then pending or its charge passes the capacity.
 pub fn add(
-    counts: Deck,
-    rules: &[u64],
-    parts: &[u64],
+    rig: &Rig,
     memo: &mut [u32],
     index: &mut [u16],
     pool: &mut [i32],
     queue: Queue,
     row: &[i32],
 ) -> Queue
-    requires { Offering rules.now parts.now counts memo.old (held_of index.old pool.old) queue
-        × HoldsKnown (shape rules.now parts.now counts) row.now }
-    ensures { Offered (shape rules.now parts.now counts) (update_of row.now ∷ [])
+    requires { Offering rig.now.rules.now rig.now.parts.now rig.now.counts memo.old (held_of index.old pool.old) queue
+        × HoldsKnown (shape rig.now.rules.now rig.now.parts.now rig.now.counts) row.now }
+    ensures { Offered (shape rig.now.rules.now rig.now.parts.now rig.now.counts) (update_of row.now ∷ [])
         (held_of index.old pool.old) queue memo.new (held_of index.new pool.new) result }
 {
     if queue.full {
         return queue;
     }
-    let slot = pool_index::find(index, pool, queue.used, row);
-    if slot == index.len() {
+    let Some(slot) = pool_index::find(index, pool, queue.used, row) else {
         return queue;
-    }
-    let c = pool_states::place_charge(rules, parts, memo, counts, row);
+    };
+    let c = pool_states::place_charge(rig.rules, rig.parts, memo, rig.counts, row);
     let total = queue.charge + c;
     if total > queue.capacity {
         return over_capacity(queue);
@@ -64,7 +59,6 @@ pub fn add(
     Queue {
         used: queue.used + 1,
         charge: total,
-        capacity: queue.capacity,
-        full: false,
+        ..queue
     }
 }

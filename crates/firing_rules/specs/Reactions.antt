@@ -17,15 +17,17 @@ use Rattle.firing.specs.Firing.{holds, sent, fired_here, fired_there, fired}
 use Rattle.pool_holes.specs.Slots.{Slot, standing, holes}
 use Rattle.firing_queue.specs.Queue.{Held, Kept, Room, SameSize, Grown, Offered}
 use Rattle.firing_queue.specs.declared.Queue.{Queue}
+use Rattle.firing_rules.specs.declared.Half.{Half}
+use Rattle.firing_rules.specs.declared.Half.TheVariants.{Here, Others}
 
 -- what a rule at part p adds at part q: its action, if its condition is true there
 unfoldable pub adds : List ℤ → ℕ → ℕ → Rule → List Update
 adds values p q r = cond (holds values p q r) (sent values p q r.action) []
 
 -- what a rule at part p adds in one half of the firing: in the first to p itself, in the second to the other parts
-abbrev pub fired_in : Deck → List ℤ → ℕ → Bool → Rule → List Update
-fired_in d values p false r = fired_here values p r
-fired_in d values p true r = flat_map (fired_there values p r) (others d p)
+abbrev pub fired_in : Deck → List ℤ → ℕ → Half → Rule → List Update
+fired_in d values p Here r = fired_here values p r
+fired_in d values p Others r = flat_map (fired_there values p r) (others d p)
 
 -- the tables of a deck, a table of values, a known rule, and two known parts
 pub record Tasked (s : List ℕ) (k : Counted.Deck) (rules : List ℕ) (values : List ℤ) (p q r : ℕ) : Type 0 where

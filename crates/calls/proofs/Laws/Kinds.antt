@@ -37,18 +37,18 @@ settle-kind true n = tt
 settle-kind false n = tt
 
 module _ (bytes : List ℕ) (m : Memory) where
-  pub input-answers : (p : ℕ) (l : List ℤ) → Accepts IsOfInput (input bytes m p l).answer
+  pub input-suits : (p : ℕ) (l : List ℤ) → Accepts IsOfInput (input bytes m p l).answer
   unfolding input_as
-  input-answers p l =
+  input-suits p l =
       reply-accepts IsOfInput m _ (then-accepts _ (tested bytes m) _ (λ d.
       after-accepts _ _ _ (after-accepts _ _ _ (after-accepts _ _ _ (after-accepts _ _ _ tt)))))
 
-  pub commit-answers : (k : ℕ) → Accepts IsOfCommit (commit bytes m k).answer
+  pub commit-suits : (k : ℕ) → Accepts IsOfCommit (commit bytes m k).answer
   unfolding commit_as
-  commit-answers k =
+  commit-suits k =
       reply-accepts IsOfCommit m _ (then-accepts _ (tested bytes m) _ (λ d. after-accepts _ _ _ (commit-kind _ _)))
 
-  pub settle-answers : (b : ℕ) → Accepts IsOfSettle (settle bytes m b).answer
+  pub settle-suits : (b : ℕ) → Accepts IsOfSettle (settle bytes m b).answer
   unfolding settle_as
-  settle-answers b =
+  settle-suits b =
       reply-accepts IsOfSettle m _ (then-accepts _ (tested bytes m) _ (λ d. after-accepts _ _ _ (settle-kind _ _)))

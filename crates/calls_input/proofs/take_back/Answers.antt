@@ -1,6 +1,5 @@
 -- `calls_input::take_back` meets its contract: the tail is lent to be cleared. Assumes nothing.
 use Prim.Native.Nat.{◌*◌}
-use borrow.Author.Rules.{rules}
 use Rattle.calls_input.specs.Laws.Entering.{emptied}
 use Rattle.calls_input.proofs.take_back.Goals as goal
 

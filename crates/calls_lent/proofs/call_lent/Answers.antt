@@ -1,17 +1,14 @@
 -- `calls_lent::call_lent` meets its contract: what is looked up of the deck decides on the tables. Assumes nothing.
-use mathlib.Core.Path.{subst}
-use borrow.Author.Rules.{rules}
-use Rattle.deck.specs.Marks.{FewRules}
+use native.Mathlib.Omega.{arith}
+use Rattle.passing.proofs.Laws.Tables.{zero-rules, zero-memo}
 use Rattle.calls_lent.proofs.call_lent.Goals as goal
 
-pub call_few-requires : goal.call_few-requires
-call_few-requires c = subst (FewRules _) c.if-few_rules.true c.few_rules.ensures
+pub call_tabled-requires : goal.call_tabled-requires
+call_tabled-requires c =
+    let few = c.few_rules.ensures in
+    (zero-rules _ few c.if-few_rules.true, zero-memo _ few c.if-few_rules.true, omega arith, omega arith)
 
-pub returns-then-few_rules : goal.returns-then-few_rules
-returns-then-few_rules c = c.call_few.ensures
-
-pub call_many-requires : goal.call_many-requires
-call_many-requires c = subst (FewRules _) c.if-few_rules.false c.few_rules.ensures
-
-pub returns : goal.returns
-returns c = c.call_many.ensures
+pub call_tabled-requires-else-few_rules : goal.call_tabled-requires-else-few_rules
+call_tabled-requires-else-few_rules c =
+    let few = c.few_rules.ensures in
+    (zero-rules _ few c.if-few_rules.false, zero-memo _ few c.if-few_rules.false, omega arith, omega arith)

@@ -154,9 +154,9 @@ module _ (s rules parts charges : List ℕ) (k : Counted.Deck) (n : ℕ) (w : Ju
     m = memory_at vs pending pool
 
     state-passed : (x : TestsFound) → TestsState k rules parts memo index pool vs pending (Ok x)
-        → TestsPassed s rules parts memo index m x.counts x.charge
+        → TestsPassed s rules parts memo index m x.counts x.pending.charge
     state-passed x t =
-        subst (λ c. TestsPassed s rules parts memo index m c x.charge) (sym t.0)
+        subst (λ c. TestsPassed s rules parts memo index m c x.pending.charge) (sym t.0)
         (record {
           accepted = tested-good s m w.passes t.1 a.0;
           entering = record {
@@ -178,7 +178,7 @@ module _ (s rules parts charges : List ℕ) (k : Counted.Deck) (n : ℕ) (w : Ju
           whole_slots = refl;
         })
       where
-        a : (good (deck_of s) m ≡ true) × (x.charge ≡ charge (deck_of s) (updates_of pending pool))
+        a : (good (deck_of s) m ≡ true) × (x.pending.charge ≡ charge (deck_of s) (updates_of pending pool))
         a = good-answer (deck_of s) m (t.2 ∙ goodness-same m)
 
         slots : List Slot
@@ -187,8 +187,8 @@ module _ (s rules parts charges : List ℕ) (k : Counted.Deck) (n : ℕ) (w : Ju
         none : holes slots ≡ 0
         none = whole-holes (load m).pending
 
-        held : Stored (deck_of s) (capacity (length pool)) slots (load m) vs pending x.charge (held_of index pool)
-        held = held-loaded (deck_of s) m index x.charge a.0 a.1 t.4
+        held : Stored (deck_of s) (capacity (length pool)) slots (load m) vs pending x.pending.charge (held_of index pool)
+        held = held-loaded (deck_of s) m index x.pending.charge a.0 a.1 t.4
 
     state-declined : (d : Declined) → TestsState k rules parts memo index pool vs pending (Err d) → tested s m ≡ decline_outcome d
     state-declined d (z, inl x) = tested-pool s m w.passes x.1 ∙ ap₂ refused (sym x.0) (sym z)

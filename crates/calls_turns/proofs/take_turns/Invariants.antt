@@ -16,7 +16,7 @@ use Rattle.calls_turns.proofs.take_turns.Given as goal
 -- with each turn there is room for one less
 abbrev pub invariant-loop-made : goal.invariant-loop-made
 invariant-loop-made l =
-    Turning l.deck l.counts l.rules l.parts l.initial.queue.capacity l.first l.budget
+    Turning l.rig.deck.now l.rig.counts l.rig.rules.now l.rig.parts.now l.initial.queue.capacity l.first l.budget
     l.initial.values l.initial.queue.used l.initial.queue.charge l.initial.index l.initial.pool
     l.memo l.index l.pool l.values l.queue.used l.queue.charge l.applied l.made l.next
     × (l.queue.capacity ≡ l.initial.queue.capacity - l.made)

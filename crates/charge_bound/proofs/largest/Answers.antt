@@ -2,7 +2,7 @@
 -- to the cap, and the memo is right. Assumes nothing.
 use mathlib.Core.Path.{sym, ◌∙◌}
 use native.Mathlib.Omega.{arith}
-use Rattle.lists.specs.Laws.Through.{through-next, through_here, through-all}
+use Rattle.lists.specs.Laws.Through.{through-next, through_here}
 use Rattle.lists.specs.Laws.Walks.{walk_first, walk-on, walk-next}
 use Rattle.charge_tables.specs.Laws.Entries.{row_room}
 use Rattle.charge_bound.proofs.ByRules.{rules-none, rules-skip, rules-more}
@@ -16,15 +16,6 @@ loop-r-init c =
       c.requires.memo,
       through-next n (omega arith) c.requires.tables.few_rules
           (λ i a b f w. rules-skip c.requires.tables w (sym (all.each i) ∙ f)) rules-none,
-    )
-
-pub known_charges-requires : goal.known_charges-requires
-known_charges-requires c =
-    let i = c.loop-r in
-    let k = c.loop-r-test.true in (
-      record { tables = c.requires.tables; memo = i.invariant.1 },
-      k,
-      sym (c.carried_by_some-carried.ensures.each i.r) ∙ i.invariant.2.found (omega arith),
     )
 
 pub row_largest-most-requires : goal.row_largest-most-requires
@@ -54,9 +45,3 @@ loop-r-preserved c =
           (λ i a b f w. rules-skip h w (sym (all.each i) ∙ f))
           (rules-more h (through_here i.invariant.2 k) k g.memo g.known c.row_largest-most.ensures),
     )
-
-pub shape_of-memo : goal.shape_of-memo
-shape_of-memo c = c.loop-r.invariant.1.long ∙ sym c.requires.memo.long
-
-pub returns : goal.returns
-returns c = (through-all c.loop-r.invariant.2 c.loop-r-test.false, c.loop-r.invariant.1)

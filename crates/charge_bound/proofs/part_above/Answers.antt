@@ -1,7 +1,7 @@
 -- `charge_bound::part_above` meets its contract. The loop's invariant: most is the largest charge at the places passed, and the
 -- memo is right. Assumes nothing.
 use Prim.Native.Nat.{◌+◌, ◌*◌, min}
-use mathlib.Core.Path.{◌≡◌, sym, ◌∙◌, subst}
+use mathlib.Core.Path.{◌≡◌, subst}
 use mathlib.Core.Bool.{true}
 use native.Mathlib.Nat.{lt_of_lt_of_le}
 use native.Mathlib.Omega.{arith}
@@ -85,14 +85,6 @@ known_charges-requires c = (
 )
 
 -- the entry that is read
-column : (k : goal.After-slice_known-in-loop-r-1)
-    → Column k.known_charges.new.memo k.loop-r.r k.args.p
-column k =
-    let h = k.requires.0.tables in
-    let l = k.loop-r-test.true in
-    column-of _ _ _ _ k.requires.1 h.few_parts (lt_of_lt_of_le l h.few_rules) (row_room h k.known_charges.ensures.memo _ l)
-
--- the entry that is read
 column-2 : (k : goal.After-slice_known-in-loop-r-2-1-unread)
     → Column k.known_charges.new.memo k.loop-r.r k.args.p
 column-2 k =
@@ -105,21 +97,6 @@ tables : (c : goal.After-known_charges-arg-1)
     → let a = c.args in
     AcyclicTables a.rules.now a.parts.now a.counts
 tables c = c.requires.0.tables
-
--- what the tables hold, seen from where the entry was read
-tables-2 : (c : goal.Then-c-eq-CAP)
-    → let a = c.args in
-    AcyclicTables a.rules.now a.parts.now a.counts
-tables-2 c = c.requires.0.tables
-
-pub overflow_sub-c : goal.overflow_sub-c
-overflow_sub-c c =
-    let w = c.known_charges.ensures.known.known c.args.p c.requires.1 in
-    omega arith
-
-pub shape_of-memo-then-c-eq-CAP : goal.shape_of-memo-then-c-eq-CAP
-shape_of-memo-then-c-eq-CAP c =
-    c.known_charges.ensures.memo.long ∙ sym c.requires.0.memo.long
 
 pub returns-then-c-eq-CAP : goal.returns-then-c-eq-CAP
 returns-then-c-eq-CAP c =
@@ -155,36 +132,5 @@ returns c =
     let i = c.loop-r.invariant in
     (passed-part c.requires.0.tables c.args.p c.requires.1 _ c.loop-r-test.false i.2, i.1)
 
-pub overflow_mul-carried : goal.overflow_mul-carried
-overflow_mul-carried c = omega (arith, c.requires.0.tables.few_parts)
-
-pub offset_bounds-parts-p : goal.offset_bounds-parts-p
-offset_bounds-parts-p c = omega (arith, c.requires.0.tables.few_parts)
-
-pub bounds-parts-p : goal.bounds-parts-p
-bounds-parts-p c = omega (
-  arith,
-  c.requires.0.tables.few_parts,
-  c.requires.0.tables.parts_long,
-)
-
-pub overflow_mul-c : goal.overflow_mul-c
-overflow_mul-c c = (column c).start
-
-pub overflow_add-c : goal.overflow_add-c
-overflow_add-c c = (column c).place
-
-pub offset_bounds-memo-r : goal.offset_bounds-memo-r
-offset_bounds-memo-r c = (column c).bytes
-
 pub bounds-memo-r : goal.bounds-memo-r
 bounds-memo-r c = (column-2 c).inside
-
-pub overflow_mul-result : goal.overflow_mul-result
-overflow_mul-result c = omega (arith, (tables-2 c).few_parts)
-
-pub overflow_add-result : goal.overflow_add-result
-overflow_add-result c = omega (arith, (tables-2 c).few_parts, c.loop-r-test.true, (tables-2 c).few_rules)
-
-pub shape_of-memo : goal.shape_of-memo
-shape_of-memo c = c.loop-r.invariant.1.long ∙ sym c.requires.0.memo.long

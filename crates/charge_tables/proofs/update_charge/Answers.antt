@@ -10,7 +10,7 @@ use Rattle.lists.specs.Laws.Through.{Through, through-next, through_here, throug
 use Rattle.lists.specs.Laws.Walks.{walk_first, walk-on, walk-next}
 use Rattle.deck.specs.Shape.{bits_of, shape}
 use Rattle.charge_tables.proofs.Terms.{heard}
-use Rattle.charge_tables.proofs.Sums.{Summing, same, small, none_yet, skip, more}
+use Rattle.charge_tables.proofs.Sums.{Summing, same, none_yet, skip, more}
 use Rattle.charge_tables.proofs.Tabled.{update_all, heard-yes, heard-no, hears-carried}
 use Rattle.charge_tables.specs.Laws.Entries.{Column, column-of, row_room, gives-charge}
 use Rattle.charge_tables.proofs.update_charge.Goals as goal
@@ -60,30 +60,12 @@ known_charges-requires c =
     )
 
 -- the entry that is read
-column : (k : goal.After-slice_known-in-loop-r-1)
-    → Column k.known_charges.new.memo k.loop-r.r k.args.p
-column k =
-    let h = k.requires.0.tables in
-    let l = k.loop-r-test.true in
-    column-of _ _ _ _ k.requires.1 h.few_parts (lt_of_lt_of_le l h.few_rules) (row_room h k.known_charges.ensures.memo _ l)
-
--- the entry that is read
 column-2 : (k : goal.After-slice_known-in-loop-r-2-1-unread)
     → Column k.known_charges.new.memo k.loop-r.r k.args.p
 column-2 k =
     let h = k.requires.0.tables in
     let l = k.loop-r-test.true in
     column-of _ _ _ _ k.requires.1 h.few_parts (lt_of_lt_of_le l h.few_rules) (row_room h k.known_charges.ensures.memo _ l)
-
-pub overflow_sub-memo : goal.overflow_sub-memo
-overflow_sub-memo c =
-    let w = c.known_charges.ensures.known.known c.args.p c.requires.1 in
-    omega arith
-
-pub capped_sum-total-requires : goal.capped_sum-total-requires
-capped_sum-total-requires c =
-    let g = gives-charge c.requires.0.tables c.known_charges.ensures c.args.p c.requires.1 in
-    omega (arith, small c.loop-r.invariant.1.done.so_far, small g)
 
 pub loop-r-smaller : goal.loop-r-smaller
 loop-r-smaller c =
@@ -109,25 +91,10 @@ loop-r-preserved c =
           c.capped_sum-total.ensures),
     )
 
-pub shape_of-memo : goal.shape_of-memo
-shape_of-memo c = c.loop-r.invariant.1.done.so_far.memo.long ∙ sym c.requires.0.memo.long
-
 pub returns : goal.returns
 returns c =
     same (through-all c.loop-r.invariant.1 c.loop-r-test.false).so_far
     (update_all c.requires.0.tables c.args.p c.requires.1 (bits_of 32 c.args.mask))
-
-pub active-set-requires : goal.active-set-requires
-active-set-requires c = (c.requires.0.tables, c.requires.1)
-
-pub overflow_mul-r : goal.overflow_mul-r
-overflow_mul-r c = (column c).start
-
-pub overflow_add-r : goal.overflow_add-r
-overflow_add-r c = (column c).place
-
-pub offset_bounds-memo-r : goal.offset_bounds-memo-r
-offset_bounds-memo-r c = (column c).bytes
 
 pub bounds-memo-r : goal.bounds-memo-r
 bounds-memo-r c = (column-2 c).inside

@@ -1,13 +1,9 @@
--- `conversion_bytes::put_carried` meets its contract. The loop's invariant: the new numbers of i rules are written. Assumes nothing.
+-- `conversion_bytes::put_carried` meets its contract. The loop's invariant: the new numbers of so many rules are written. Assumes nothing.
+use Rattle.std.proofs.Common.{take}
 use mathlib.Core.List.{flat_map}
-use Prim.Native.Nat.{◌-◌, ◌≤◌}
-use lib.ListN.{length, take}
 use Rattle.conversion_bytes.specs.Written.{Written}
 use Rattle.conversion_bytes.specs.Pieces.{renewed}
 use Rattle.conversion_bytes.proofs.put_carried.Given as goal
 
-abbrev pub invariant-loop-i : goal.invariant-loop-i
-invariant-loop-i l = (l.i ≤ length l.carried) × Written l.initial.out l.at (flat_map (renewed l.numbers) (take l.i l.carried)) l.out l.to
-
-abbrev pub decreases-loop-i : goal.decreases-loop-i
-decreases-loop-i l = length l.carried - l.i
+abbrev pub invariant-loop-rule : goal.invariant-loop-rule
+invariant-loop-rule l = Written l.initial.out l.at (flat_map (renewed l.numbers) (take l.rule-index l.carried)) l.out l.to

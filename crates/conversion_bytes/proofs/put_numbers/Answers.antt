@@ -4,8 +4,8 @@ use mathlib.Core.Path.{◌≡◌, sym, ap}
 use native.Mathlib.Omega.{arith}
 use lib.ListN.{length}
 use Rattle.lists.specs.Lists.{from}
-use Rattle.conversion_bytes.specs.Laws.Written.{written-length, written_is, written-more, written_none, written-set}
 use Rattle.lists.specs.Laws.Below.{from-length}
+use Rattle.conversion_bytes.specs.Laws.Written.{written-length, written_is, written-more, written_none, written-set}
 use Rattle.conversion_bytes.specs.Laws.Parts.{from-none, from_next}
 use Rattle.conversion_bytes.proofs.put_numbers.Goals as goal
 
@@ -14,8 +14,7 @@ loop-n-init c =
     let a = c.args in (
       omega arith,
       omega arith,
-      written_is (sym (from-none a.first))
-          (written_none a.out.now a.at (omega (arith, c.requires))),
+      written_is (sym (from-none a.first)) (written_none a.out.now a.at (omega (arith, c.requires))),
     )
 
 -- there is room for the next number
@@ -33,14 +32,19 @@ room c =
       from-length a.first (a.end - a.first),
     )
 
+pub bounds-out-to : goal.bounds-out-to
+bounds-out-to c = room c
+
+pub overflow_add-to : goal.overflow_add-to
+overflow_add-to c = omega (arith, room c)
+
 pub loop-n-preserved : goal.loop-n-preserved
 loop-n-preserved c =
     let a = c.args in
     let l = c.loop-n in (
       omega arith,
       omega (arith, c.loop-n-test.true),
-      written_is (sym (from_next a.first l.n l.invariant.0))
-          (written-more l.invariant.2 (written-set l.out l.to l.n (room c))),
+      written_is (sym (from_next a.first l.n l.invariant.0)) (written-more l.invariant.2 (written-set l.out l.to l.n (room c))),
     )
 
 pub returns : goal.returns
@@ -49,12 +53,3 @@ returns c =
     let l = c.loop-n in
     let e : l.n - a.first ≡ a.end - a.first = omega (arith, c.loop-n-test.false) in
     written_is (ap (from a.first) e) l.invariant.2
-
-pub bounds-out-to : goal.bounds-out-to
-bounds-out-to c = room c
-
-pub overflow_add-to : goal.overflow_add-to
-overflow_add-to c = omega (arith, room c)
-
-pub shape_of-out : goal.shape_of-out
-shape_of-out c = written-length c.loop-n.invariant.2

@@ -1,18 +1,13 @@
 -- `conversion_call::convert_with` meets its contract: the old check, and then the conversion. Assumes nothing.
-use mathlib.Core.Path.{refl}
-use borrow.Author.Rules.{rules}
+use mathlib.Core.Path.{ap}
+use Rattle.conversion.specs.Conversion.{convert_outcome}
+use Rattle.refusals.specs.Laws.HandedOn.{handed_on}
 use Rattle.conversion_call.specs.Laws.Answers.{passed-old, convert-declined}
 use Rattle.conversion_call.proofs.convert_with.Goals as goal
 
-pub judge-judged-requires : goal.judge-judged-requires
-judge-judged-requires c = (c.requires.0, refl, c.requires.1)
-
 pub convert_passed-requires : goal.convert_passed-requires
-convert_passed-requires c =
-    let w = rw c.in-Passing.is at c.judge-judged.ensures in
-    passed-old _ _ _ _ _ _ w
+convert_passed-requires g c = passed-old _ _ _ _ _ _ c.in_ok-passing.ensures
 
-pub returns-in-Refused : goal.returns-in-Refused
-returns-in-Refused c =
-    let w = rw c.in-Refused.is at c.judge-judged.ensures in
-    convert-declined _ _ refl w
+pub returns-in_err-passing : goal.returns-in_err-passing
+returns-in_err-passing g c =
+    convert-declined _ _ (ap convert_outcome (handed_on c.from_residual.ensures.1)) c.in_err-passing.ensures

@@ -1,31 +1,14 @@
--- `engine::check` meets its contract: the tables are as long as the deck needs them, and the rest is the same. Assumes nothing.
-use mathlib.Core.Path.{refl}
-use borrow.Author.Rules.{rules}
+-- `engine::check` meets its contract: the tables are as long as the deck needs them. Assumes nothing.
+use native.Mathlib.Omega.{arith}
 use Rattle.passing.proofs.Laws.Tables.{zero-rules, zero-memo}
 use Rattle.engine.proofs.check.Goals as goal
 
-pub slice_bounds-check_with-end : goal.slice_bounds-check_with-end
-slice_bounds-check_with-end c = refl
-
-pub slice_bounds-check_with-end-then-few_rules : goal.slice_bounds-check_with-end-then-few_rules
-slice_bounds-check_with-end-then-few_rules c = refl
-
 pub check_with-requires : goal.check_with-requires
-check_with-requires c = let few = c.few_rules.ensures in
-    (zero-rules _ few c.if-few_rules.true, zero-memo _ few c.if-few_rules.true)
+check_with-requires c =
+    let few = c.few_rules.ensures in
+    (zero-rules _ few c.if-few_rules.true, zero-memo _ few c.if-few_rules.true, omega arith, omega arith)
 
-pub returns-then-few_rules : goal.returns-then-few_rules
-returns-then-few_rules c = c.check_with.ensures
-
-pub slice_bounds-check_with-end-2 : goal.slice_bounds-check_with-end-2
-slice_bounds-check_with-end-2 c = refl
-
-pub slice_bounds-check_with-end-3 : goal.slice_bounds-check_with-end-3
-slice_bounds-check_with-end-3 c = refl
-
-pub check_with-requires-2 : goal.check_with-requires-2
-check_with-requires-2 c = let few = c.few_rules.ensures in
-    (zero-rules _ few c.if-few_rules.false, zero-memo _ few c.if-few_rules.false)
-
-pub returns : goal.returns
-returns c = c.check_with-2.ensures
+pub check_with-requires-else-few_rules : goal.check_with-requires-else-few_rules
+check_with-requires-else-few_rules c =
+    let few = c.few_rules.ensures in
+    (zero-rules _ few c.if-few_rules.false, zero-memo _ few c.if-few_rules.false, omega arith, omega arith)

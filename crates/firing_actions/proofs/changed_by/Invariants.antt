@@ -1,12 +1,6 @@
 -- `firing_actions::changed_by` meets its contract. The loop's invariant: the pairs before i are compared. Assumes nothing.
-use Prim.Native.Nat.{◌-◌, ◌≤◌}
-use mathlib.Core.Path.{◌≡◌}
-use lib.ListN.{length}
 use Rattle.firing.proofs.Laws.Pairs.{Comparing}
 use Rattle.firing_actions.proofs.changed_by.Given as goal
 
 abbrev pub invariant-loop-i : goal.invariant-loop-i
-invariant-loop-i l = (l.i ≤ l.n) × (length l.back ≡ length l.initial.back) × Comparing l.part l.pairs l.values l.back l.mask l.i
-
-abbrev pub decreases-loop-i : goal.decreases-loop-i
-decreases-loop-i l = l.n - l.i
+invariant-loop-i l = Comparing l.part l.pairs l.values l.back l.mask l.i

@@ -5,22 +5,17 @@ use mathlib.Core.Path.{refl, sym, ◌∙◌}
 use native.Mathlib.Omega.{arith}
 use lib.ListN.{length}
 use lib.Seq.{length-take-le}
-use borrow.Author.Rules.{rules}
-use borrow.Author.Tests.{not-true, not-false}
 use Rattle.firing_commits.specs.Laws.Looking.{few-fits, looks-inside}
 use Rattle.firing_commits.specs.Laws.Committing.{commit-looking, commit-long, commit-some, commit-inside}
 use Rattle.firing_commits.specs.Laws.Committing.{commit-left, commit-finishing, commit-done}
 use Rattle.firing_commits.specs.Laws.Committing.{part_known, part_low, after-long, finish-reacting, finish-discarded, finish-applied}
 use Rattle.firing_commits.specs.Laws.Committing.{finish-capacity}
 use Rattle.firing_commits.proofs.commit.Goals as goal
+use Rattle.firing_commits.proofs.commit.Goals.{After-look-found}
 
 -- the pairs that set the channels back
-pairs-inside : (l : goal.After-assign_pairs-arg-1) → let r = l.look-found in 2 * r.result.count ≤ length r.new.back
+pairs-inside : (l : After-look-found) → let r = l.look-found in 2 * r.result.count ≤ length r.new.back
 pairs-inside l = looks-inside l.look-found.ensures l.look-found.auto.back
-
--- the pairs that set the channels back
-pairs-inside-2 : (l : goal.After-back-then-not-within-1) → let r = l.look-found in 2 * r.result.count ≤ length r.new.back
-pairs-inside-2 l = looks-inside l.look-found.ensures l.look-found.auto.back
 
 pub look-found-requires : goal.look-found-requires
 look-found-requires c =
@@ -36,7 +31,7 @@ within-requires c =
 
 pub slice_bounds-assign_pairs-end : goal.slice_bounds-assign_pairs-end
 slice_bounds-assign_pairs-end c =
-    sym (length-take-le (2 * c.look-found.result.count) _ (pairs-inside-2 c))
+    sym (length-take-le (2 * c.look-found.result.count) _ (pairs-inside (goal.at.slice_bounds-assign_pairs-end c).After-look-found))
 
 pub assign_pairs-requires : goal.assign_pairs-requires
 assign_pairs-requires c =
@@ -52,8 +47,8 @@ returns-then-not-within c =
       refl,
     )
 
-pub react-after-requires : goal.react-after-requires
-react-after-requires c =
+pub react-queue-requires : goal.react-queue-requires
+react-queue-requires c =
     let w = commit-finishing c.requires c.look-found.ensures in
     rw c.empty.ensures (finish-reacting w, after-long w, part_known w)
 
@@ -61,8 +56,8 @@ pub returns : goal.returns
 returns c =
     let w = commit-finishing c.requires c.look-found.ensures in
     let yes = sym c.within.ensures ∙ c.if-not-within.false in (
-      commit-done c.requires c.look-found.ensures (finish-applied w yes (rw c.empty.ensures at c.react-after.ensures)),
-      finish-capacity w yes (rw c.empty.ensures at c.react-after.ensures),
+      commit-done c.requires c.look-found.ensures (finish-applied w yes (rw c.empty.ensures at c.react-queue.ensures)),
+      finish-capacity w yes (rw c.empty.ensures at c.react-queue.ensures),
     )
 
 pub empty-requires : goal.empty-requires
@@ -74,8 +69,8 @@ overflow_sub-left c = commit-left c.requires c.look-found.ensures
 pub overflow_sub-left-2 : goal.overflow_sub-left-2
 overflow_sub-left-2 c = commit-some c.requires
 
-pub overflow_mul-held : goal.overflow_mul-held
-overflow_mul-held c = few-fits _ c.look-found.ensures.few
+pub overflow_mul-back : goal.overflow_mul-back
+overflow_mul-back c = few-fits _ c.look-found.ensures.few
 
 pub slice_bounds-back-end : goal.slice_bounds-back-end
-slice_bounds-back-end c = pairs-inside c
+slice_bounds-back-end c = pairs-inside (goal.at.slice_bounds-back-end c).After-look-found

@@ -1,5 +1,5 @@
 -- An update of the pool: what stands at its place, and the charge without it. Assumes nothing.
-use Rattle.std.specs.Prelude.{ℕ, ◌*◌, ◌-◌, ◌^◌, ◌<◌, ◌≤◌, ◌≡◌, true, List, length, get_or, take, drop, ℤ, pos}
+use Rattle.std.specs.Prelude.{ℕ, ◌*◌, ◌-◌, ◌^◌, ◌<◌, ◌≤◌, ◌≡◌, true, List, length, get_or, take, drop, ℤ, pos, nat_abs}
 use Rattle.std.proofs.Common.{sym, ap₂, ◌∙◌, subst, arith, Fits}
 use Rattle.std.proofs.Math.Path.{ap}
 use Rattle.std.specs.Int.{w64}
@@ -20,7 +20,9 @@ use Rattle.pool_holes.specs.Slots.{Slot, hole, standing, before, fits, Spread}
 use Rattle.pool_holes.proofs.Laws.Standing.{standing-pick, standing-inside}
 use Rattle.pool_holes.proofs.Laws.Spread.{fits-short, spread_at}
 use Rattle.pool_states.specs.Answer.{HoldsKnown, PlaceGives}
-use Rattle.pool_states.specs.Fits.{within}
+use Rattle.pool_states.specs.Fits.{within, IsNatural}
+use Rattle.pool_states.specs.Laws.Fits.{within-natural}
+use Rattle.pool_states.specs.Laws.Charges.{holds-natural, holds-number}
 use Rattle.pool_states.specs.Laws.Places.{Place, place_of}
 use Rattle.pool_states.specs.Laws.PairsHeld.{held-part, known-part}
 use Rattle.firing.specs.Firing.{pick, without}
@@ -113,6 +115,16 @@ module _ {k : Counted.Deck} {rules parts memo : List ℕ} {pool : List ℤ} {p :
 
   pub looking-count : within 5 (get_or numbers 1 (pos 0)) < 5
   looking-count = held-few e numbers looking-holds
+
+  -- as they are read
+  pub looking-naturals : IsNatural (get_or numbers 0 (pos 0)) × IsNatural (get_or numbers 1 (pos 0))
+  looking-naturals =
+      (holds-natural e k.parts (shape-N rules parts k.channels k.rules k.parts) numbers looking-holds, (within-natural 5 _ looking-count).0)
+
+  pub looking-numbers : (nat_abs (get_or numbers 0 (pos 0)) ≡ within k.parts (get_or numbers 0 (pos 0)))
+      × (nat_abs (get_or numbers 1 (pos 0)) ≡ within 5 (get_or numbers 1 (pos 0)))
+  looking-numbers =
+      (holds-number e k.parts (shape-N rules parts k.channels k.rules k.parts) numbers looking-holds, (within-natural 5 _ looking-count).1)
 
   abbrev pairs : List ℤ
   pairs = take (2 * within 5 (get_or numbers 1 (pos 0))) (drop 2 numbers)

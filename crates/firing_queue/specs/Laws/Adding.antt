@@ -54,6 +54,11 @@ pushed_to held index n row = held_of index (written held.pool (10 * n) row)
 abbrev pub counted : ℕ → ℕ → ℕ → Bool → Queue
 counted n c k b = record { used = n; charge = c; capacity = k; full = b }
 
+-- where the capacity was not passed before
+pub still-room : {d : Deck} {us : List Update} {h₀ h : Held} {q : Queue} {m : List ℕ} {n c k : ℕ} {b : Bool} → b ≡ false
+    → Offered d us h₀ q m h (counted n c k false) → Offered d us h₀ q m h (counted n c k b)
+still-room {d} {us} {h₀} {h} {q} {m} {n} {c} {k} e o = subst (λ b. Offered d us h₀ q m h (counted n c k b)) (sym e) o
+
 module _ {d : Deck} {slots : List Slot} {new : List Update} {held : Held} {q : Queue} (g : Grown d slots new held q)
     (w : Update) where
   abbrev C : ℕ

@@ -1,47 +1,32 @@
 -- `firing_rules::made` meets its contract: own and far channels are lent as the condition had them. Assumes nothing.
 use native.Mathlib.Nat.{le-add_right}
 use lib.Dec.{lit<}
-use Rattle.charge.proofs.Laws.Tables.{Field}
 use Rattle.firing_rules.specs.Laws.Sent.{field, fars-fit, own-stretch, far-stretch, to_low, action-known, made_so}
 use Rattle.firing_rules.proofs.made.Goals as goal
 
--- what is read in the rule's row
-kind-field : (s : goal.After-shared_slice_known-3-1) → Field s.args.rules.now s.args.task.rule 3
-kind-field s = field s.requires.0 3 (lit< tt)
-
--- what is read in the rule's row
-kind-field-2 : (s : goal.After-shared_slice_known-4-1-unread) → Field s.args.rules.now s.args.task.rule 3
-kind-field-2 s = field s.requires.0 3 (lit< tt)
-
-action-field : (s : goal.After-shared_slice_known-2-1) → Field s.args.rules.now s.args.task.rule 6
-action-field s = field s.requires.0 6 (lit< tt)
-
-action-field-2 : (s : goal.After-shared_slice_known-3-1-unread) → Field s.args.rules.now s.args.task.rule 6
-action-field-2 s = field s.requires.0 6 (lit< tt)
-
 pub overflow_mul-action : goal.overflow_mul-action
-overflow_mul-action c = (action-field c).row
+overflow_mul-action c = (field c.requires.0 6 (lit< tt)).row
 
 pub overflow_add-action : goal.overflow_add-action
-overflow_add-action c = (action-field c).place
+overflow_add-action c = (field c.requires.0 6 (lit< tt)).place
 
 pub offset_bounds-rules-r : goal.offset_bounds-rules-r
-offset_bounds-rules-r c = (action-field c).bytes
+offset_bounds-rules-r c = (field c.requires.0 6 (lit< tt)).bytes
 
 pub bounds-rules-r : goal.bounds-rules-r
-bounds-rules-r c = (action-field-2 c).inside
+bounds-rules-r c = (field c.requires.0 6 (lit< tt)).inside
 
 pub overflow_mul-kind : goal.overflow_mul-kind
-overflow_mul-kind c = (kind-field c).row
+overflow_mul-kind c = (field c.requires.0 3 (lit< tt)).row
 
 pub overflow_add-kind : goal.overflow_add-kind
-overflow_add-kind c = (kind-field c).place
+overflow_add-kind c = (field c.requires.0 3 (lit< tt)).place
 
 pub offset_bounds-rules-r-2 : goal.offset_bounds-rules-r-2
-offset_bounds-rules-r-2 c = (kind-field c).bytes
+offset_bounds-rules-r-2 c = (field c.requires.0 3 (lit< tt)).bytes
 
 pub bounds-rules-r-2 : goal.bounds-rules-r-2
-bounds-rules-r-2 c = (kind-field-2 c).inside
+bounds-rules-r-2 c = (field c.requires.0 3 (lit< tt)).inside
 
 pub overflow_mul-fars : goal.overflow_mul-fars
 overflow_mul-fars c = fars-fit c.requires.0

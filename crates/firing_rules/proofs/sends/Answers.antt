@@ -2,72 +2,51 @@
 -- nothing.
 use mathlib.Core.Path.{sym, ◌∙◌}
 use lib.Dec.{lit<}
-use Rattle.charge.proofs.Laws.Tables.{Field}
 use Rattle.firing_rules.specs.Laws.Sent.{adds_none, adds-some, field, fars-fit, own-stretch, far-stretch, condition-known}
 use Rattle.firing_rules.specs.Laws.Sent.{condition-value, action-inside, action-length}
 use Rattle.firing_rules.proofs.sends.Goals as goal
 
--- what is read in the rule's row
-kind-field : (s : goal.After-shared_slice_known-5-1) → Field s.args.rules.now s.args.task.rule 3
-kind-field s = field s.requires 3 (lit< tt)
-
--- what is read in the rule's row
-kind-field-2 : (s : goal.After-shared_slice_known-6-1-unread) → Field s.args.rules.now s.args.task.rule 3
-kind-field-2 s = field s.requires 3 (lit< tt)
-
-condition-field : (s : goal.After-shared_slice_known-5-1-unread) → Field s.args.rules.now s.args.task.rule 5
-condition-field s = field s.requires 5 (lit< tt)
-
-condition-field-2 : (s : goal.Else-deck-action-eq0) → Field s.args.rules.now s.args.task.rule 5
-condition-field-2 s = field s.requires 5 (lit< tt)
-
-action-field : (s : goal.After-shared_slice_known-2-1) → Field s.args.rules.now s.args.task.rule 6
-action-field s = field s.requires 6 (lit< tt)
-
-action-field-2 : (s : goal.After-shared_slice_known-3-1-unread) → Field s.args.rules.now s.args.task.rule 6
-action-field-2 s = field s.requires 6 (lit< tt)
-
 pub overflow_mul-action : goal.overflow_mul-action
-overflow_mul-action c = (action-field c).row
+overflow_mul-action c = (field c.requires 6 (lit< tt)).row
 
 pub overflow_add-action : goal.overflow_add-action
-overflow_add-action c = (action-field c).place
+overflow_add-action c = (field c.requires 6 (lit< tt)).place
 
 pub offset_bounds-rules-r : goal.offset_bounds-rules-r
-offset_bounds-rules-r c = (action-field c).bytes
+offset_bounds-rules-r c = (field c.requires 6 (lit< tt)).bytes
 
 pub bounds-rules-r : goal.bounds-rules-r
-bounds-rules-r c = (action-field-2 c).inside
+bounds-rules-r c = (field c.requires 6 (lit< tt)).inside
 
-pub bounds-deck-action : goal.bounds-deck-action
-bounds-deck-action c = action-inside c.requires
+pub bounds-rig-action : goal.bounds-rig-action
+bounds-rig-action c = action-inside c.requires
 
-pub returns-then-deck-action-eq0 : goal.returns-then-deck-action-eq0
-returns-then-deck-action-eq0 c = adds_none _ _ _ _ (sym (action-length c.requires) ∙ c.if-deck-action-eq0.true)
+pub returns-then-rig-action-eq0 : goal.returns-then-rig-action-eq0
+returns-then-rig-action-eq0 c = adds_none _ _ _ _ (sym (action-length c.requires) ∙ c.if-rig-action-eq0.true)
 
 pub overflow_mul-condition : goal.overflow_mul-condition
-overflow_mul-condition c = (condition-field-2 c).row
+overflow_mul-condition c = (field c.requires 5 (lit< tt)).row
 
 pub overflow_add-condition : goal.overflow_add-condition
-overflow_add-condition c = (condition-field-2 c).place
+overflow_add-condition c = (field c.requires 5 (lit< tt)).place
 
 pub offset_bounds-rules-r-2 : goal.offset_bounds-rules-r-2
-offset_bounds-rules-r-2 c = (condition-field-2 c).bytes
+offset_bounds-rules-r-2 c = (field c.requires 5 (lit< tt)).bytes
 
 pub bounds-rules-r-2 : goal.bounds-rules-r-2
-bounds-rules-r-2 c = (condition-field c).inside
+bounds-rules-r-2 c = (field c.requires 5 (lit< tt)).inside
 
 pub overflow_mul-kind : goal.overflow_mul-kind
-overflow_mul-kind c = (kind-field c).row
+overflow_mul-kind c = (field c.requires 3 (lit< tt)).row
 
 pub overflow_add-kind : goal.overflow_add-kind
-overflow_add-kind c = (kind-field c).place
+overflow_add-kind c = (field c.requires 3 (lit< tt)).place
 
 pub offset_bounds-rules-r-3 : goal.offset_bounds-rules-r-3
-offset_bounds-rules-r-3 c = (kind-field c).bytes
+offset_bounds-rules-r-3 c = (field c.requires 3 (lit< tt)).bytes
 
 pub bounds-rules-r-3 : goal.bounds-rules-r-3
-bounds-rules-r-3 c = (kind-field-2 c).inside
+bounds-rules-r-3 c = (field c.requires 3 (lit< tt)).inside
 
 pub overflow_mul-fars : goal.overflow_mul-fars
 overflow_mul-fars c = fars-fit c.requires
@@ -84,4 +63,4 @@ truth_from-requires c = let w = c.requires in
 
 pub returns : goal.returns
 returns c = let w = c.requires in
-    condition-value w c.truth_from.ensures ∙ adds-some _ _ _ _ (λ z. c.if-deck-action-eq0.false (action-length w ∙ z))
+    condition-value w c.truth_from.ensures ∙ adds-some _ _ _ _ (λ z. c.if-rig-action-eq0.false (action-length w ∙ z))

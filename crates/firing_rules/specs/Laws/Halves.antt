@@ -83,7 +83,7 @@ module _ {rules parts : List ℕ} {k : Counted.Deck} {d : Deck} {f : Rule → Li
         }
 
     -- or it has none
-    half-fail : bit set n ≡ false → Half rules parts k d f p set (n + 1) held₀ q₀ m held q
+    pub half-fail : bit set n ≡ false → Half rules parts k d f p set (n + 1) held₀ q₀ m held q
     half-fail y =
         record {
           offering = x.offering;

@@ -43,6 +43,8 @@ use Rattle.firing.specs.Evaluated.{update_by, HasAction, ActionIs}
 use Rattle.firing.proofs.Laws.Lined.{action-stands, action-count}
 use Rattle.firing.proofs.Laws.Written.{row-length}
 use Rattle.firing_rules.specs.Reactions.{adds, fired_in, Tasked, Made}
+use Rattle.firing_rules.specs.declared.Half.{Half}
+use Rattle.firing_rules.specs.declared.Half.TheVariants.{Here, Others}
 
 -- the channels that are lent are those of the scope: the own ones of part p, the far ones of part q
 pub record Lent (sc : Scope) (values : List ℤ) (p q : ℕ) (own far : List ℤ) : Type 0 where
@@ -259,18 +261,18 @@ module _ (values : List ℤ) (p : ℕ) (r : Rule) where
   others-add (q ∷ qs) e = ap₂ (λ (x y : List Update). x ++ y) (there-adds e q) (others-add qs e)
 
 -- in the first half, and in the second
-module _ (d : Deck) (values : List ℤ) (p : ℕ) (r : Rule) {b : Bool} where
-  pub first-wide : b ≡ false → r.default ≡ [] → r.everywhere ≡ true → fired_in d values p b r ≡ []
-  first-wide h none e = ap (λ b. fired_in d values p b r) h ∙ here-wide values p r none e
+module _ (d : Deck) (values : List ℤ) (p : ℕ) (r : Rule) {half : Half} where
+  pub first-wide : half ≡ Here → r.default ≡ [] → r.everywhere ≡ true → fired_in d values p half r ≡ []
+  first-wide h none e = ap (λ half. fired_in d values p half r) h ∙ here-wide values p r none e
 
-  pub first-here : b ≡ false → r.default ≡ [] → r.everywhere ≡ false → fired_in d values p b r ≡ adds values p p r
-  first-here h none e = ap (λ b. fired_in d values p b r) h ∙ here-adds values p r none e
+  pub first-here : half ≡ Here → r.default ≡ [] → r.everywhere ≡ false → fired_in d values p half r ≡ adds values p p r
+  first-here h none e = ap (λ half. fired_in d values p half r) h ∙ here-adds values p r none e
 
-  pub second-wide : b ≡ true → r.everywhere ≡ true → fired_in d values p b r ≡ flat_map (λ q. adds values p q r) (others d p)
-  second-wide h e = ap (λ b. fired_in d values p b r) h ∙ others-add values p r (others d p) e
+  pub second-wide : half ≡ Others → r.everywhere ≡ true → fired_in d values p half r ≡ flat_map (λ q. adds values p q r) (others d p)
+  second-wide h e = ap (λ half. fired_in d values p half r) h ∙ others-add values p r (others d p) e
 
-  pub second-here : b ≡ true → r.everywhere ≡ false → fired_in d values p b r ≡ []
-  second-here h e = ap (λ b. fired_in d values p b r) h ∙ others-here values p r (others d p) e
+  pub second-here : half ≡ Others → r.everywhere ≡ false → fired_in d values p half r ≡ []
+  second-here h e = ap (λ half. fired_in d values p half r) h ∙ others-here values p r (others d p) e
 
 -- ---- what code computes to lend the n channels of part q
 
@@ -289,6 +291,11 @@ stretch-of values q n fits long = record {
 }
 
 -- ---- the row of a rule
+
+pub tasked : {s : List ℕ} {k : Counted.Deck} {rules parts : List ℕ} {values : List ℤ} {p q r : ℕ} → Tabled s k rules parts
+    → length values ≡ 512 → p < k.parts → q < k.parts → r < k.rules → Tasked s k rules values p q r
+tasked {parts} t long from to rule =
+    record { parts = parts; tabled = t; long = long; from = from; to = to; rule = rule }
 
 -- the byte of a kind
 kind-low : (e : Bool) (n : ℕ) → n * kind_byte e ≤ n

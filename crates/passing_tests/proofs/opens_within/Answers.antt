@@ -1,6 +1,6 @@
 -- `passing_tests::opens_within` meets its contract: the limit's truth on the opening values of the part alone. Assumes nothing.
 use Prim.Native.Nat.{◌+◌, ◌*◌}
-use mathlib.Core.Path.{◌≡◌, refl, sym, ap, ◌∙◌}
+use mathlib.Core.Path.{◌≡◌, refl, ap, ◌∙◌}
 use mathlib.Core.List.{[]}
 use native.Mathlib.Omega.{arith}
 use lib.ListN.{length, get_or}
@@ -86,9 +86,3 @@ returns c =
     c.truth_from.ensures (part_at d a.p).limit (limit-there-2 c)
     ∙ ap (λ l. truth_in l [] (part_at d a.p).limit) (row-opening-2 c)
     ∙ opens-value d a.p k.scoped k.formed (known-part a.deck.now a.counts a.parts.now c.requires.0 a.p c.requires.1)
-
-pub slice_bounds-open_part-end : goal.slice_bounds-open_part-end
-slice_bounds-open_part-end c = refl
-
-pub slice_bounds-truth_from-end : goal.slice_bounds-truth_from-end
-slice_bounds-truth_from-end c = sym (row-long c)

@@ -1,7 +1,7 @@
 -- `pool::both_zero` meets its contract. The loop's invariant, for each list: no bit is set so far and the numbers from i on are zeros
 -- exactly if all are. Assumes nothing.
 use Prim.Native.Nat.{ℕ, ◌^◌, ◌<◌}
-use mathlib.Core.Path.{◌≡◌, refl, ap₂, ◌∙◌}
+use mathlib.Core.Path.{◌≡◌, ap₂, ◌∙◌}
 use mathlib.Core.Bool.{◌&&◌}
 use native.Mathlib.Omega.{arith}
 use lib.Bits.{bit_or}
@@ -46,9 +46,3 @@ returns c =
     (zero-end c.args.a.now l.i (eqb l.first-bits 0) (omega arith) ∙ (rw (back l.first-bits l.auto.first-fits) at l.invariant.0))
     (zero-end c.args.b.now l.i (eqb l.second-bits 0) (omega (arith, c.requires))
     ∙ (rw (back l.second-bits l.auto.second-fits) at l.invariant.1))
-
-pub loop-i-init : goal.loop-i-init
-loop-i-init c = (refl, refl)
-
-pub bounds-b-i : goal.bounds-b-i
-bounds-b-i c = omega (arith, c.requires)

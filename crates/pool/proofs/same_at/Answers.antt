@@ -1,6 +1,6 @@
 -- `pool::same_at` meets its contract. The loop's invariant: the numbers from i on are equal exactly if all are. Assumes
 -- nothing.
-use mathlib.Core.Path.{refl, sym, ap, ◌∙◌}
+use mathlib.Core.Path.{sym, ap, ◌∙◌}
 use native.Mathlib.Omega.{arith}
 use Rattle.std.proofs.Common.{rules}
 use lib.ListN.{take, drop}
@@ -8,9 +8,6 @@ use mir.Syntax.{w32}
 use mir.Val.{of_z}
 use Rattle.pool.proofs.Scanning.{bits-same, same_next, same_stop, same_end, place-size, place_at}
 use Rattle.pool.proofs.same_at.Goals as goal
-
-pub loop-i-init : goal.loop-i-init
-loop-i-init c = refl
 
 pub returns-then-pool-at : goal.returns-then-pool-at
 returns-then-pool-at c =

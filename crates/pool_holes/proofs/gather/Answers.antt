@@ -1,20 +1,16 @@
 -- `pool_holes::gather` meets its contract. The loop's invariant: the places before `from` are looked at, and the updates that stood there
 -- are in
 -- the first `to` places. Assumes nothing.
-use Prim.Native.Nat.{◌+◌, ◌*◌, ◌-◌, ◌≤◌}
+use Prim.Native.Nat.{◌*◌, ◌≤◌}
 use mathlib.Core.Path.{◌≡◌}
 use native.Mathlib.Omega.{arith}
 use lib.ListN.{length}
-use Rattle.pool_holes.proofs.Laws.Gathering.{passing-starts, passing-low, passing-next, passing-room, moved-low, passing-ends}
+use Rattle.pool_holes.proofs.Laws.Gathering.{passing-starts, passing-low, passing-next, passing-room, passing-ends}
 use Rattle.pool_holes.proofs.gather.Goals as goal
 
 -- behind the loop
 stop : (c : goal.After-move_down-arg-1) → c.args.last ≤ c.loop-from.from
 stop c = omega (arith, c.loop-from-test.false)
-
--- behind the loop
-stop-2 : (c : goal.After-pool-2-1) → c.args.last ≤ c.loop-from.from
-stop-2 c = omega (arith, c.loop-from-test.false)
 
 -- behind the loop
 stop-3 : (c : goal.After-pool-3-1) → c.args.last ≤ c.loop-from.from
@@ -38,13 +34,6 @@ small-2 c =
     let i = passing-low c.loop-from.invariant in
     (omega (arith, i.0, c.loop-from.invariant.within), i.1, i.2, i.3)
 
-low_of : (c : goal.After-pool-2-1)
-    → let a = c.args in
-    (c.loop-from.to + (a.used - a.last) ≤ a.used) × (10 * a.used ≤ length c.move_down.new.pool)
-low_of c =
-    let i = moved-low c.loop-from.invariant (stop-2 c) c.move_down.ensures in
-    (i.0, i.1)
-
 ended : goal.returns
 ended c =
     passing-ends c.loop-from.invariant (stop-3 c) c.move_down.ensures c.clear.new.tail c.clear.ensures
@@ -67,29 +56,14 @@ overflow_mul-to c = let i = small c in record { fits = omega (arith, i.0, i.1, i
 pub overflow_sub-last : goal.overflow_sub-last
 overflow_sub-last c = (small c).0
 
-pub overflow_mul-last : goal.overflow_mul-last
-overflow_mul-last c = let i = small c in record { fits = omega (arith, i.0, i.1, i.2, i.3) }
-
-pub overflow_sub-used : goal.overflow_sub-used
-overflow_sub-used c = (small c).1
-
-pub overflow_mul-used : goal.overflow_mul-used
-overflow_mul-used c = let i = small c in record { fits = omega (arith, i.0, i.1, i.2, i.3) }
-
 pub move_down-requires : goal.move_down-requires
 move_down-requires c = passing-room c.loop-from.invariant (stop c)
-
-pub overflow_sub-left : goal.overflow_sub-left
-overflow_sub-left c = (small-2 c).1
 
 pub overflow_add-left : goal.overflow_add-left
 overflow_add-left c = let i = small-2 c in record { fits = omega (arith, i.0, i.1, i.2, i.3) }
 
 pub overflow_mul-start : goal.overflow_mul-start
 overflow_mul-start c = let i = small-2 c in record { fits = omega (arith, i.0, i.1, i.2, i.3) }
-
-pub overflow_mul-end : goal.overflow_mul-end
-overflow_mul-end c = let i = small-2 c in record { fits = omega (arith, i.0, i.1, i.2, i.3) }
 
 pub offset_bounds-pool-start : goal.offset_bounds-pool-start
 offset_bounds-pool-start c = let i = small-2 c in record { fits = omega (arith, i.0, i.1, i.2, i.3) }
@@ -99,12 +73,6 @@ slice_bounds-clear-count c = let i = small-2 c in omega (arith, i.0, i.1)
 
 pub slice_bounds-clear-start : goal.slice_bounds-clear-start
 slice_bounds-clear-start c = let i = small-2 c in omega (arith, i.0, i.1)
-
-pub slice_bounds-clear-end : goal.slice_bounds-clear-end
-slice_bounds-clear-end c = (low_of c).1
-
-pub shape_of-pool : goal.shape_of-pool
-shape_of-pool c = (ended c).long
 
 pub returns : goal.returns
 returns c = ended c

@@ -4,11 +4,7 @@ use mathlib.Core.Path.{ap}
 use native.Mathlib.Omega.{arith}
 use Rattle.pool_index.specs.Hash.{bucket_of}
 use Rattle.pool_index.specs.Laws.Entering.{bucket-low}
-use Rattle.pool_index.proofs.Hashing.{product-fits}
 use Rattle.pool_index.proofs.bucket.Goals as goal
-
-pub overflow_mul-result : goal.overflow_mul-result
-overflow_mul-result c = omega (arith, product-fits (c.hash-h.result % 4294967296) c.args.heads (omega arith) (omega arith))
 
 pub returns : goal.returns
 unfolding bucket_of

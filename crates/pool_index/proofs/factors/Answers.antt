@@ -21,12 +21,3 @@ returns c =
       ap₂ (λ x y. x * a.j + y * a.k) c.raise-x.ensures.0 c.raise-y.ensures.0,
       omega (arith, (lows c).0, (lows c).1),
     )
-
-pub overflow_mul-result : goal.overflow_mul-result
-overflow_mul-result c = omega (arith, (lows c).0, c.requires.1)
-
-pub overflow_mul-result-2 : goal.overflow_mul-result-2
-overflow_mul-result-2 c = omega (arith, (lows c).1, c.requires.2)
-
-pub overflow_add-result : goal.overflow_add-result
-overflow_add-result c = omega (arith, (lows c).0, (lows c).1, c.requires.1, c.requires.2)

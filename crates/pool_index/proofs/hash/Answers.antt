@@ -2,7 +2,6 @@
 -- below 2^32, so that no sum leaves 64 bits. Assumes nothing.
 use Prim.Native.Nat.{◌+◌}
 use mathlib.Core.Path.{◌≡◌, ap₂, ◌∙◌}
-use native.Mathlib.Omega.{arith}
 use Rattle.std.proofs.Common.{rules}
 use Rattle.pool_index.specs.Hash.{factored}
 use Rattle.pool_index.proofs.Hashing.{one-pair, more-pairs}
@@ -30,23 +29,3 @@ returns c =
     (ap₂ (λ x y. x + y) (ap₂ (λ x y. x + y) c.factors-third.ensures.0 c.factors-fourth.ensures.0)
     c.factors-fifth.ensures.0)
     ∙ more-pairs c.args.place.now c.if-count-eq1.false
-
-pub overflow_add-four : goal.overflow_add-four
-overflow_add-four c = omega (arith, c.factors-first.ensures.1, c.factors.ensures.1)
-
-pub overflow_add-result : goal.overflow_add-result
-overflow_add-result c = omega (arith, c.factors-third.ensures.1, c.factors-fourth.ensures.1)
-
-pub overflow_add-result-2 : goal.overflow_add-result-2
-overflow_add-result-2 c = omega (arith, c.factors-third.ensures.1, c.factors-fourth.ensures.1, c.factors-fifth.ensures.1)
-
-pub overflow_add-result-3 : goal.overflow_add-result-3
-overflow_add-result-3 c =
-    omega (
-      arith,
-      c.factors-third.ensures.1,
-      c.factors-fourth.ensures.1,
-      c.factors-fifth.ensures.1,
-      c.factors-first.ensures.1,
-      c.factors.ensures.1,
-    )

@@ -1,21 +1,9 @@
 -- `pool_states::values_fit` meets its contract: the parts, and what is behind the last of them. Assumes nothing.
-use Prim.Native.Nat.{◌*◌}
-use mathlib.Core.Path.{◌≡◌, sym, ◌∙◌}
+use mathlib.Core.Path.{sym, ◌∙◌}
 use native.Mathlib.Omega.{arith}
-use lib.ListN.{length, take, length-take}
 use Rattle.pool_states.proofs.Deciding.{tail-zeros}
 use Rattle.pool_states.proofs.Turns.{values-stop, values-last}
 use Rattle.pool_states.proofs.values_fit.Goals as goal
-
--- the parts as they are lent
-lent_length : (s : goal.Start) → length (take (32 * s.args.parts) s.args.values.now) ≡ 32 * s.args.parts
-lent_length s = omega (arith, length-take (32 * s.args.parts) s.args.values.now, s.requires)
-
-pub slice_bounds-parts_fit-end : goal.slice_bounds-parts_fit-end
-slice_bounds-parts_fit-end c = sym (lent_length c)
-
-pub parts_fit-requires : goal.parts_fit-requires
-parts_fit-requires c = (lent_length c, omega arith, omega arith)
 
 pub returns-then-not-parts_fit : goal.returns-then-not-parts_fit
 returns-then-not-parts_fit c d e_r e_n =
