@@ -8,8 +8,8 @@ use Rattle.refusals.specs.Laws.Outcomes.{refused≢accepted, accepted-inj}
 use Rattle.conversion.specs.Conversion.{conversion, reply, convert, convert_outcome, reply_of}
 use Rattle.convert_deck.specs.Written.{Holds}
 
-of-outcome : (r : Result ℕ Declined) (buffer after : List ℕ) (made : Outcome (List ℕ)) → reply_of (convert_outcome r) after ≡ reply buffer made
-    → Holds r after made
+of-outcome : (r : Result ℕ Declined) (buffer after : List ℕ) (made : Outcome (List ℕ))
+    → reply_of (convert_outcome r) after ≡ reply buffer made → Holds r after made
 unfolding reply
 of-outcome (Ok n) buffer after (refused k p) e = refused≢accepted (sym (ap (λ r. r.answer) e))
 of-outcome (Ok n) buffer after (accepted new) e =
