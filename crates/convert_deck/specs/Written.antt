@@ -1,11 +1,10 @@
 -- What the program writes to standard output. Assumes nothing.
-use Rattle.std.specs.Prelude.{ℕ, ◌+◌, ◌≡◌, List, [], take, Option, IfSome}
+use Rattle.std.specs.Prelude.{ℕ, ◌+◌, ◌≡◌, List, [], take, Option, IfSome, Result, Ok, Err}
 use Rattle.std.specs.Io.KnownBytes.{Appends}
 use Rattle.refusals.specs.Outcome.{Outcome, refused, accepted}
+use Rattle.refusals.specs.declared.Declined.{Declined}
 use Rattle.deck.specs.Limits.{limits}
 use Rattle.conversion.specs.Conversion.{conversion}
-use Rattle.conversion.specs.declared.ConvertAnswer.{ConvertAnswer}
-use Rattle.conversion.specs.declared.ConvertAnswer.TheVariants.{Converted, Refused}
 
 -- the new deck's bytes, or nothing where there is none
 abbrev pub bytes_of : Outcome (List ℕ) → List ℕ
@@ -21,6 +20,6 @@ abbrev pub Writes : Option (List ℕ) → Option (List ℕ) → Option (List ℕ
 Writes given before after = IfSome given (λ deck. Appends before after (written (take (limits.old + 1) deck)))
 
 -- the code's answer, with what the buffer holds then: its front is what is to be written
-abbrev pub Holds : ConvertAnswer → List ℕ → Outcome (List ℕ) → Type 0
-Holds (Converted length) buffer made = take length buffer ≡ bytes_of made
-Holds (Refused number place) buffer made = bytes_of made ≡ []
+abbrev pub Holds : Result ℕ Declined → List ℕ → Outcome (List ℕ) → Type 0
+Holds (Ok length) buffer made = take length buffer ≡ bytes_of made
+Holds (Err why) buffer made = bytes_of made ≡ []

@@ -2,58 +2,29 @@
 // `refused NUMBER PLACE` to standard error.
 #![tactic(auto)]
 
-ghost use Rattle.std.specs.Prelude.{◌≡◌, ◌≤◌, IsTrue, OnOk, length, take};
+ghost use Rattle.std.specs.Prelude.{◌≡◌, IsTrue, length};
 ghost use Rattle.std.specs.Io.KnownBytes.{Appends};
-ghost use Rattle.deck.specs.Limits.{limits};
 ghost use Rattle.conversion.specs.Conversion.{conversion};
 ghost use Rattle.conversion.specs.Fits.{Fits};
 ghost use Rattle.convert_deck.specs.Written.{Holds, Writes, written};
 
-use conversion::ConvertAnswer;
 use deck::Deck;
-use descriptors::Input;
+use refusals::Declined;
 use replay_text::answers::Answer;
-use std::io;
 use std::io::{Read, Write};
 
-// Writes the first n bytes.
-fn write_first<W: Write>(to: &mut W, bytes: &[u8], n: usize) -> io::Result<()>
-    requires { n ≤ length bytes.now }
-    ensures { OnOk result (Appends (W.contents to.old) (W.contents to.new) (take n bytes.now)) }
-{
-    to.write_all(&bytes[..n])
-}
-
 // Writes a deck, and answers whether it did.
-fn write_deck<W: Write, E: Write>(
-    out: &mut W,
-    err: &mut E,
-    deck: &[u8; Deck::BYTES],
-    n: usize,
-) -> bool
-    requires { n ≤ limits.deck }
-    ensures { IsTrue result → Appends (W.contents out.old) (W.contents out.new) (take n deck.now) }
+fn write_deck<W: Write, E: Write>(deck: &[u8], out: &mut W, err: &mut E) -> bool
+    ensures { IsTrue result → Appends (W.contents out.old) (W.contents out.new) deck.now }
 {
-    if let Err(why) = write_first(out, deck, n) {
+    if let Err(why) = out.write_all(deck) {
         let _ = descriptors::fail(err, b"cannot write the deck", &why);
         return false;
     }
     true
 }
 
-fn write_line<E: Write>(err: &mut E, text: &[u8; 64], n: usize)
-    requires { n ≤ 64 }
-{
-    let _ = write_first(err, text, n);
-}
-
-fn refuse<E: Write>(err: &mut E, number: u32, place: u32) {
-    let mut text = [0u8; 64];
-    let n = replay_text::answers::put_answer(Answer::Refused(number, place), &mut text);
-    write_line(err, &text, n);
-}
-
-fn convert_into(deck: &[u8], new: &mut [u8]) -> ConvertAnswer
+fn convert_into(deck: &[u8], new: &mut [u8]) -> Result<u32, Declined>
     ensures fits { Fits result (length new.old) }
     ensures holds { Holds result new.new (conversion deck.now (length new.old)) }
 {
@@ -66,9 +37,10 @@ fn convert<W: Write, E: Write>(deck: &[u8], out: &mut W, err: &mut E) -> bool
 {
     let mut new = [0u8; Deck::BYTES];
     match convert_into(deck, &mut new) {
-        ConvertAnswer::Converted { length } => write_deck(out, err, &new, length as usize),
-        ConvertAnswer::Refused { number, place } => {
-            refuse(err, number, place);
+        Ok(length) => write_deck(&new[..length as usize], out, err),
+        Err(why) => {
+            let refusal = Answer::from(why);
+            let _ = writeln!(err, "{refusal}");
             true
         }
     }
@@ -80,8 +52,8 @@ fn convert_from<R: Read, W: Write, E: Write>(from: &mut R, out: &mut W, err: &mu
 {
     let mut old = [0u8; Deck::OLD_BYTES + 1];
     match descriptors::read_all(from, &mut old) {
-        Input::Bytes(n) => convert(&old[..n], out, err),
-        Input::Failed(why) => {
+        Ok(n) => convert(&old[..n], out, err),
+        Err(why) => {
             let _ = descriptors::fail(err, b"cannot read the deck", &why);
             false
         }

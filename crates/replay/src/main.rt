@@ -7,12 +7,12 @@ use std::io::Write;
 fn main(rt: HostRuntime) {
     let mut err = rt.stderr();
     let mut name = [0u8; 4096];
-    let n = descriptors::argument(&rt, 1, &mut name);
-    if n == 0 || descriptors::has_argument(&rt, 2) {
+    let named = descriptors::argument(&rt, 1, &mut name).unwrap_or(0);
+    if named == 0 || descriptors::argument(&rt, 2, &mut []).is_some() {
         let _ = err.write_all(b"usage: replay DECKFILE\n");
         return;
     }
-    if let Some(mut deck) = descriptors::open_named(&rt, &name[..n], &mut err) {
-        replay_calls::replay(&mut deck, &mut rt.stdin(), rt.stdout(), err);
+    if let Some(mut deck) = descriptors::open_named(&rt, &name[..named], &mut err) {
+        replay_calls::replay(rt.alloc(), &mut deck, &mut rt.stdin(), rt.stdout(), err);
     }
 }

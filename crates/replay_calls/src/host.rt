@@ -1,316 +1,217 @@
 // The memory that a host holds and lends, and what a line does to it.
-ghost use Rattle.std.specs.Prelude.{◌≡◌, ◌≤◌, length};
 
-use calls::{CommitAnswer, InputAnswer, SettleAnswer, StartAnswer, Started};
+use crate::output::Output;
+use calls::{Answered, CommitAnswer, SettleAnswer};
 use deck::Deck;
 use pool::State;
+use refusals::Declined;
 use replay_text::answers::Answer;
-use replay_text::lines::{Command, KEPT};
+use replay_text::lines::Command;
+use std::alloc::{AllocError, Global};
+use std::io;
+use std::io::Write;
 
 // The longest pool that a line may lend.
-pub const LONGEST_POOL: usize = 700000;
+const LONGEST_POOL: u32 = 700_000;
 
 // What every number of a pool is before a start.
 const LENT: i32 = 7;
 
-// The state, and the length of the pool that is lent.
-#[derive(Clone, Copy)]
+// The longest buffer that a line may lend.
+const LONGEST_BUFFER: u32 = 50_000;
+
+// What every byte of a buffer is before a conversion.
+const LENT_BYTE: u8 = 7;
+
+// What a host holds and lends.
+#[derive(Drop)]
 pub struct Host {
-    pub state: State,
-    pub length: usize,
-}
-
-// What a line prints, and what it leaves.
-#[derive(Clone, Copy)]
-pub struct Turn {
-    pub answer: Answer,
-    pub host: Host,
-}
-
-// Before the first start the state is zeros and the pool has length 0.
-pub fn new() -> Host
-    ensures { result.length ≤ 700000 }
-{
-    let values = [0i32; Deck::VALUES];
-    let state = State {
-        values: values,
-        pending: 0,
-    };
-    Host {
-        state: state,
-        length: 0,
-    }
-}
-
-fn fill(pool: &mut [i32], n: usize)
-    requires { n ≤ length pool.old }
-{
-    for i in 0..n {
-        pool[i] = LENT;
-    }
-}
-
-// Lends the first n numbers, all 7 before the call.
-fn start_with(deck: &[u8], pool: &mut [i32], n: usize) -> Started
-    requires { n ≤ length pool.old }
-{
-    fill(pool, n);
-    engine::start(deck, &mut pool[..n])
-}
-
-fn start(deck: &[u8], pool: &mut [i32; LONGEST_POOL], host: Host, length: u32) -> Turn
-    requires { host.length ≤ 700000 }
-    ensures { result.host.length ≤ 700000 }
-{
-    let n = length as usize;
-    if n > LONGEST_POOL {
-        return Turn {
-            answer: Answer::Unreadable,
-            host: host,
-        };
-    }
-    let called = start_with(deck, pool, n);
-    let given = called.answer;
-    let answer = match given {
-        StartAnswer::Started => Answer::Started,
-        StartAnswer::Refused { number, place } => Answer::Refused(number, place),
-    };
-    let state = called.state;
-    let later = Host {
-        state: state,
-        length: n,
-    };
-    Turn {
-        answer: answer,
-        host: later,
-    }
-}
-
-fn input(
-    deck: &[u8],
-    pool: &mut [i32],
-    n: usize,
+    alloc: Global,
+    deck: Vec<u8>,
+    pool: Vec<i32>,
     state: State,
-    part: u32,
+}
+
+// Writes into memory, to try damaged memory.
+fn set(numbers: &mut [i32], index: u32, value: i32) -> Option<Answer> {
+    let Some(number) = numbers.get_mut(index as usize) else {
+        return Some(Answer::Unreadable);
+    };
+    *number = value;
+    None
+}
+
+// Prints each number that is not 0.
+fn print_numbers<F: Fn(u32, i32) -> Answer, W: Write + Drop, E: Write + Drop>(
     numbers: &[i32],
-    count: usize,
-) -> Turn
-    requires { (n ≤ length pool.old) × (count ≤ length numbers.now) }
-    ensures { result.host.length ≡ n }
+    entry: &F,
+    out: &mut Output<W, E>,
+) -> io::Result<()>
+    requires { F.IsAlwaysCallable entry.now }
 {
-    let called = engine::input(deck, &mut pool[..n], state, part, &numbers[..count]);
-    let given = called.answer;
-    let answer = match given {
-        InputAnswer::Added(charge) => Answer::Added(charge),
-        InputAnswer::Refused { number, place } => Answer::Refused(number, place),
-    };
-    let later = called.state;
-    let left = Host {
-        state: later,
-        length: n,
-    };
-    Turn {
-        answer: answer,
-        host: left,
+    for (index, value) in (0u32..).zip(numbers) {
+        if *value != 0 {
+            out.print(entry(index, *value))?;
+        }
     }
+    Ok(())
 }
 
-fn commit(deck: &[u8], pool: &mut [i32], n: usize, state: State, place: u32) -> Turn
-    requires { n ≤ length pool.old }
-    ensures { result.host.length ≡ n }
-{
-    let called = engine::commit(deck, &mut pool[..n], state, place);
-    let given = called.answer;
-    let answer = match given {
-        CommitAnswer::Applied(charge) => Answer::Applied(charge),
-        CommitAnswer::Discarded(charge) => Answer::Discarded(charge),
-        CommitAnswer::Refused { number, place: p } => Answer::Refused(number, p),
-    };
-    let later = called.state;
-    let left = Host {
-        state: later,
-        length: n,
-    };
-    Turn {
-        answer: answer,
-        host: left,
+impl Host {
+    // Before the first start the state is zeros and the pool has length 0.
+    pub fn new(alloc: Global, deck: Vec<u8>) -> Host {
+        Host {
+            alloc,
+            deck,
+            pool: Vec::new(alloc),
+            state: State {
+                values: [0; Deck::VALUES],
+                pending: 0,
+            },
+        }
     }
-}
 
-fn settle(deck: &[u8], pool: &mut [i32], n: usize, state: State, budget: u32) -> Turn
-    requires { n ≤ length pool.old }
-    ensures { result.host.length ≡ n }
-{
-    let called = engine::settle(deck, &mut pool[..n], state, budget);
-    let given = called.answer;
-    let answer = match given {
-        SettleAnswer::Settled(made) => Answer::Settled(made),
-        SettleAnswer::Spent(made) => Answer::Spent(made),
-        SettleAnswer::Refused { number, place } => Answer::Refused(number, place),
-    };
-    let later = called.state;
-    let left = Host {
-        state: later,
-        length: n,
-    };
-    Turn {
-        answer: answer,
-        host: left,
+    // Keeps the state that a call hands back.
+    fn keep<T: Drop>(&mut self, called: Answered<T>) -> Result<T, Declined> {
+        self.state = called.state;
+        called.answer
     }
-}
 
-// Where a stretch ends. A deck has fewer than 2^32 bytes, so nothing wraps.
-fn after(from: u32, length: usize) -> u32 {
-    std::num::wrapping_add_u32(from, (length % 4294967296) as u32)
-}
-
-// The sections follow each other from the deck's first byte on, so one begins where those in front of it end.
-fn section(deck: &[u8], number: u32) -> Answer {
-    let mut refusal: u32 = 0;
-    let mut place: u32 = 0;
-    let found = engine::section(deck, number, &mut refusal, &mut place).len();
-    if refusal != 0 {
-        return Answer::Refused(refusal, place);
+    // Lends a new pool.
+    fn start(&mut self, length: u32) -> Result<Answer, AllocError> {
+        if length > LONGEST_POOL {
+            return Ok(Answer::Unreadable);
+        }
+        self.pool = vec![in self.alloc; LENT; length as usize]?;
+        let called = engine::start(&self.deck, &mut self.pool);
+        Ok(match self.keep(called) {
+            Ok(()) => Answer::Started,
+            Err(why) => Answer::from(why),
+        })
     }
-    let mut from: u32 = 0;
-    if number > 0 {
-        from = after(
+
+    fn input(&mut self, part: u32, numbers: &[i32]) -> Result<Answer, Declined> {
+        let called = engine::input(&self.deck, &mut self.pool, self.state, part, numbers);
+        Ok(Answer::Added(self.keep(called)?))
+    }
+
+    fn commit(&mut self, place: u32) -> Result<Answer, Declined> {
+        let called = engine::commit(&self.deck, &mut self.pool, self.state, place);
+        Ok(match self.keep(called)? {
+            CommitAnswer::Applied(charge) => Answer::Applied(charge),
+            CommitAnswer::Discarded(charge) => Answer::Discarded(charge),
+        })
+    }
+
+    fn settle(&mut self, budget: u32) -> Result<Answer, Declined> {
+        let called = engine::settle(&self.deck, &mut self.pool, self.state, budget);
+        Ok(match self.keep(called)? {
+            SettleAnswer::Settled(commits) => Answer::Settled(commits),
+            SettleAnswer::Spent(commits) => Answer::Spent(commits),
+        })
+    }
+
+    // How many bytes a section has, or the answer that there is none.
+    fn section_len(&self, number: u32) -> Result<u32, Answer> {
+        let (mut refusal, mut place) = (0, 0);
+        let section = engine::section(&self.deck, number, &mut refusal, &mut place);
+        if refusal != 0 {
+            return Err(Answer::Refused {
+                number: refusal,
+                place,
+            });
+        }
+        // A deck has fewer than 2^32 bytes.
+        Ok(u32::try_from(section.len()).unwrap_or(u32::MAX))
+    }
+
+    // The sections follow each other from the deck's first byte on, so one begins where those in front of it end.
+    fn section(&self, number: u32) -> Result<Answer, Answer> {
+        let length = self.section_len(number)?;
+        let mut from = 0u32;
+        for earlier in 0..number {
+            from = from.saturating_add(self.section_len(earlier)?);
+        }
+        Ok(Answer::Section {
             from,
-            engine::section(deck, 0, &mut refusal, &mut place).len(),
-        );
+            to: from.saturating_add(length),
+        })
     }
-    if number > 1 {
-        from = after(
-            from,
-            engine::section(deck, 1, &mut refusal, &mut place).len(),
-        );
-    }
-    Answer::Section(from, after(from, found))
-}
 
-// Writes into the state, to try damaged memory.
-fn set_value(host: Host, index: u32, v: i32) -> Turn
-    requires { host.length ≤ 700000 }
-    ensures { result.host.length ≤ 700000 }
-{
-    let at = index as usize;
-    if at >= Deck::VALUES {
-        return Turn {
-            answer: Answer::Unreadable,
-            host: host,
+    fn set_pending(&mut self, pending: u32) -> Option<Answer> {
+        self.state.pending = pending;
+        None
+    }
+
+    // Lends the deck and a new buffer; what the converter makes is the deck from then on. Behind the answer comes each byte that
+    // should be as it was lent and is not.
+    fn convert<W: Write + Drop, E: Write + Drop>(
+        &mut self,
+        length: u32,
+        out: &mut Output<W, E>,
+    ) -> io::Result<()> {
+        if length > LONGEST_BUFFER {
+            return out.print(Answer::Unreadable);
+        }
+        let mut buffer = vec![in self.alloc; LENT_BYTE; length as usize]?;
+        let made = engine::convert(&self.deck, &mut buffer);
+        out.print(made.map_or_else(Answer::from, Answer::Converted))?;
+        let written = made.unwrap_or(0) as usize;
+        for (index, byte) in (0u32..).zip(&buffer).skip(written) {
+            if *byte != LENT_BYTE {
+                out.print(Answer::Buffer { index, byte: *byte })?;
+            }
+        }
+        if made.is_ok() {
+            buffer.truncate(written);
+            self.deck = buffer;
+        }
+        Ok(())
+    }
+
+    // Does what a line asks for, and prints what it answers.
+    pub fn perform<W: Write + Drop, E: Write + Drop>(
+        &mut self,
+        command: Command,
+        out: &mut Output<W, E>,
+    ) -> io::Result<()> {
+        let answer = match command {
+            Command::Start(length) => Some(self.start(length)?),
+            Command::Input { part, numbers } => Some(
+                self.input(part, numbers.as_slice())
+                    .unwrap_or_else(Answer::from),
+            ),
+            Command::Commit(place) => Some(self.commit(place).unwrap_or_else(Answer::from)),
+            Command::Settle(budget) => Some(self.settle(budget).unwrap_or_else(Answer::from)),
+            Command::Section(number) => Some(
+                self.section(number).unwrap_or_else(|refused| refused),
+            ),
+            Command::Convert(length) => return self.convert(length, out),
+            Command::Value { index, value } => set(&mut self.state.values, index, value),
+            Command::Pool { index, value } => set(&mut self.pool, index, value),
+            Command::Pending(pending) => self.set_pending(pending),
         };
-    }
-    let mut state = host.state;
-    state.values[at] = v;
-    let left = Host {
-        state: state,
-        length: host.length,
-    };
-    Turn {
-        answer: Answer::Nothing,
-        host: left,
-    }
-}
-
-// Writes into the pool that is lent, to try damaged memory.
-fn set_pool(pool: &mut [i32], n: usize, index: u32, v: i32) -> Answer
-    requires { n ≤ length pool.old }
-{
-    let at = index as usize;
-    if at >= n {
-        return Answer::Unreadable;
-    }
-    pool[at] = v;
-    Answer::Nothing
-}
-
-fn set_pending(host: Host, n: u32) -> Turn
-    requires { host.length ≤ 700000 }
-    ensures { result.host.length ≤ 700000 }
-{
-    let mut state = host.state;
-    state.pending = n;
-    let left = Host {
-        state: state,
-        length: host.length,
-    };
-    Turn {
-        answer: Answer::Nothing,
-        host: left,
-    }
-}
-
-// The number that stands second in a line of two fields.
-fn second(numbers: &[i32; KEPT]) -> i32 {
-    numbers[0]
-}
-
-// Prints a line, and leaves the state as it is.
-fn said(answer: Answer, host: Host) -> Turn
-    ensures { result.host.length ≡ host.length }
-{
-    Turn {
-        answer: answer,
-        host: host,
-    }
-}
-
-// Does what a line asks for where that is no call: writes into memory, or nothing.
-fn change(pool: &mut [i32; LONGEST_POOL], host: Host, command: Command, v: i32) -> Turn
-    requires { host.length ≤ 700000 }
-    ensures { result.host.length ≤ 700000 }
-{
-    match command {
-        Command::Value(index) => set_value(host, index, v),
-        Command::Pending(pending) => set_pending(host, pending),
-        Command::Pool(index) => {
-            let answer = set_pool(pool, host.length, index, v);
-            said(answer, host)
+        match answer {
+            Some(answer) => out.print(answer),
+            None => Ok(()),
         }
-        Command::Unreadable => said(Answer::Unreadable, host),
-        _ => said(Answer::Nothing, host),
     }
-}
 
-// Does what a line asks for that leaves the deck as it is.
-fn perform(
-    deck: &[u8],
-    pool: &mut [i32; LONGEST_POOL],
-    host: Host,
-    command: Command,
-    numbers: &[i32; KEPT],
-    count: usize,
-) -> Turn
-    requires { (host.length ≤ 700000) × (count ≤ 128) }
-    ensures { result.host.length ≤ 700000 }
-{
-    let n = host.length;
-    let state = host.state;
-    match command {
-        Command::Start(length) => start(deck, pool, host, length),
-        Command::Input(part) => input(deck, pool, n, state, part, numbers, count),
-        Command::Commit(place) => commit(deck, pool, n, state, place),
-        Command::Settle(budget) => settle(deck, pool, n, state, budget),
-        Command::Section(number) => {
-            let answer = section(deck, number);
-            said(answer, host)
-        }
-        _ => change(pool, host, command, second(numbers)),
+    // Prints what is left in memory: what is pending, and each number that is not 0.
+    pub fn print<W: Write + Drop, E: Write + Drop>(
+        &self,
+        out: &mut Output<W, E>,
+    ) -> io::Result<()> {
+        out.print(Answer::Pending(self.state.pending))?;
+        print_numbers(
+            &self.state.values,
+            &|index, value| Answer::Value { index, value },
+            out,
+        )?;
+        print_numbers(
+            &self.pool,
+            &|index, value| Answer::Pool { index, value },
+            out,
+        )
     }
-}
-
-// The same with the deck's room and how many of its bytes the deck has.
-pub fn perform_on(
-    deck: &[u8],
-    size: usize,
-    pool: &mut [i32; LONGEST_POOL],
-    host: Host,
-    command: Command,
-    numbers: &[i32; KEPT],
-    count: usize,
-) -> Turn
-    requires { (size ≤ length deck.now) × (host.length ≤ 700000) × (count ≤ 128) }
-    ensures { result.host.length ≤ 700000 }
-{
-    perform(&deck[..size], pool, host, command, numbers, count)
 }

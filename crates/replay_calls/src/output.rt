@@ -1,130 +1,64 @@
 // Output that waits in a buffer until it is full.
-ghost use Rattle.std.specs.Prelude.{◌≡◌, ◌+◌, ◌≤◌, length};
 
-use crate::host::{Host, LONGEST_POOL};
-use deck::Deck;
 use replay_text::answers::Answer;
-use std::io::Write;
+use std::alloc::Global;
+use std::io;
+use std::io::{BufWriter, Error, Write};
 
 // Bytes of output that may wait.
-pub const ROOM: usize = 65536;
+const ROOM: usize = 65_536;
 
-// What waits stands at the front of the buffer. It goes to `to`; where that fails, `err` is told.
+// What comes goes to `to`; where that fails, `err` is told, and the bytes are lost.
 #[derive(Drop)]
-pub struct Output<W, E> {
-    pub to: W,
-    pub err: E,
-    pub buffer: [u8; ROOM],
-    pub waiting: usize,
-    ghost fits: { waiting ≤ 65536 },
+struct Telling<W: Write + Drop, E: Write + Drop> {
+    to: W,
+    err: E,
 }
 
-// Nothing waits.
-pub fn new<W: Write, E: Write>(to: W, err: E) -> Output<W, E>
-    ensures { result.waiting ≡ 0 }
-{
-    Output {
-        to: to,
-        err: err,
-        buffer: [0u8; ROOM],
-        waiting: 0,
+impl<W: Write + Drop, E: Write + Drop> Telling<W, E> {
+    fn tell(&mut self, what: &[u8], why: &Error) {
+        let _ = descriptors::fail(&mut self.err, what, why);
     }
 }
 
-// Writes the first n bytes.
-fn write_first<W: Write, E: Write>(to: &mut W, err: &mut E, bytes: &[u8], n: usize)
-    requires { n ≤ length bytes.now }
-{
-    if let Err(why) = to.write_all(&bytes[..n]) {
-        let _ = descriptors::fail(err, b"cannot write the answers", &why);
-    }
-}
-
-// Writes what waits.
-fn flush<W: Write, E: Write>(out: &mut Output<W, E>)
-    ensures { out.new.waiting ≡ 0 }
-{
-    write_first(&mut out.to, &mut out.err, &out.buffer, out.waiting);
-    out.waiting = 0;
-}
-
-// Puts the first n bytes of a text at a place, and answers the place after them.
-fn put_part(text: &[u8], n: usize, out: &mut [u8], at: usize) -> usize
-    requires { (n ≤ length text.now) × (at + n ≤ length out.old) }
-    ensures { result ≡ at + n }
-{
-    decimal::put_text(out, at, &text[..n])
-}
-
-// Makes room for n bytes more.
-fn make_room<W: Write, E: Write>(out: &mut Output<W, E>, n: usize)
-    requires { n ≤ 65536 }
-    ensures { out.new.waiting + n ≤ 65536 }
-{
-    if ROOM - out.waiting < n {
-        flush(out);
-    }
-}
-
-// Puts the first n bytes of a text behind what waits.
-fn put<W: Write, E: Write>(text: &[u8; 64], n: usize, out: &mut Output<W, E>)
-    requires { n ≤ 64 }
-    ensures { out.new.waiting ≤ 65536 }
-{
-    make_room(out, n);
-    out.waiting = put_part(text, n, &mut out.buffer, out.waiting);
-}
-
-// Prints a line, where there is something to say.
-pub fn print<W: Write, E: Write>(answer: Answer, out: &mut Output<W, E>)
-    ensures { out.new.waiting ≤ 65536 }
-{
-    let mut text = [0u8; 64];
-    let n = replay_text::answers::put_answer(answer, &mut text);
-    put(&text, n, out);
-}
-
-// One number of the memory.
-fn entry(is_pool: bool, i: usize, v: i32) -> Answer {
-    let index = (i % 4294967296) as u32;
-    if is_pool {
-        return Answer::Pool(index, v);
-    }
-    Answer::Value(index, v)
-}
-
-// Prints each of the first n numbers that is not 0.
-fn print_numbers<W: Write, E: Write>(
-    is_pool: bool,
-    numbers: &[i32],
-    n: usize,
-    out: &mut Output<W, E>,
-)
-    requires { n ≤ length numbers.now }
-    ensures { out.new.waiting ≤ 65536 }
-{
-    for i in 0..n {
-        let v = numbers[i];
-        if v != 0 {
-            print(entry(is_pool, i, v), out);
+impl<W: Write + Drop, E: Write + Drop> Write for Telling<W, E> {
+    fn write(&mut self, bytes: &[u8]) -> io::Result<usize> {
+        if let Err(why) = self.to.write_all(bytes) {
+            self.tell(b"cannot write the answers", &why);
         }
+        Ok(bytes.len())
+    }
+
+    fn flush(&mut self) -> io::Result<()> {
+        Ok(())
     }
 }
 
-fn print_values<W: Write, E: Write>(values: &[i32; Deck::VALUES], out: &mut Output<W, E>)
-    ensures { out.new.waiting ≤ 65536 }
-{
-    print_numbers(false, values, Deck::VALUES, out);
+#[derive(Drop)]
+pub struct Output<W: Write + Drop, E: Write + Drop> {
+    alloc: Global,
+    to: BufWriter<Telling<W, E>>,
 }
 
-// Prints what is left in memory, and writes all that waits.
-pub fn finish<W: Write, E: Write>(host: Host, pool: &[i32; LONGEST_POOL], out: &mut Output<W, E>)
-    requires { host.length ≤ 700000 }
-    ensures { out.new.waiting ≡ 0 }
-{
-    let state = host.state;
-    print(Answer::Pending(state.pending), out);
-    print_values(&state.values, out);
-    print_numbers(true, pool, host.length, out);
-    flush(out);
+impl<W: Write + Drop, E: Write + Drop> Output<W, E> {
+    pub fn new(alloc: Global, to: W, err: E) -> io::Result<Output<W, E>> {
+        let to = BufWriter::with_capacity(alloc, ROOM, Telling { to, err })?;
+        Ok(Output { alloc, to })
+    }
+
+    // Prints a line. It is written in one piece, so that a write that fails loses whole lines.
+    pub fn print(&mut self, answer: Answer) -> io::Result<()> {
+        let line = format!(in self.alloc; "{answer}\n")?;
+        self.to.write_all(line.as_bytes())
+    }
+
+    // Says on `err` what failed and why.
+    pub fn tell(&mut self, what: &[u8], why: &Error) {
+        self.to.get_mut().tell(what, why);
+    }
+
+    // Writes what waits.
+    pub fn flush(&mut self) -> io::Result<()> {
+        self.to.flush()
+    }
 }

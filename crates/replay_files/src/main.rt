@@ -4,47 +4,33 @@
 use std::io::Write;
 use std::rt::{Env, Files};
 
-// Opens the file that an argument names, and prints the name where it is a title; answers None after saying what is wrong.
-fn open_arg<R: Env + Files, W: Write, E: Write>(
+// The deck and the text that two arguments name, from the first on.
+fn replay_pair<R: Env + Files + AllocGlobal, W: Write + Drop, E: Write + Drop>(
     rt: &R,
-    i: usize,
-    is_title: bool,
-    out: &mut W,
-    err: &mut E,
-) -> Option<R::File> {
-    let mut name = [0u8; 4096];
-    let n = descriptors::argument(rt, i, &mut name);
-    let file = descriptors::open_named(rt, &name[..n], err)?;
-    if is_title {
-        let _ = out.write_all(&name[..n]);
-        let _ = out.write_all(b"\n");
-    }
-    Some(file)
-}
-
-fn replay_files<R: Env + Files, W: Write + Drop, E: Write + Drop>(
-    rt: &R,
-    i: usize,
+    first: usize,
+    second: usize,
     mut out: W,
     mut err: E,
 ) {
-    let Some(mut deck) = open_arg(rt, i, false, &mut out, &mut err) else {
+    let mut name = [0u8; 4096];
+    let n = descriptors::argument(rt, first, &mut name).unwrap_or(0);
+    let Some(mut deck) = descriptors::open_named(rt, &name[..n], &mut err) else {
         return;
     };
-    if i < usize::MAX {
-        if let Some(mut calls) = open_arg(rt, i + 1, true, &mut out, &mut err) {
-            replay_calls::replay(&mut deck, &mut calls, out, err);
-        }
-    }
+    let n = descriptors::argument(rt, second, &mut name).unwrap_or(0);
+    let Some(mut calls) = descriptors::open_named(rt, &name[..n], &mut err) else {
+        return;
+    };
+    let _ = out.write_all(&name[..n]);
+    let _ = out.write_all(b"\n");
+    replay_calls::replay(rt.alloc(), &mut deck, &mut calls, out, err);
 }
 
 fn main(rt: HostRuntime) {
-    for i in 1..usize::MAX {
-        if !descriptors::has_argument(&rt, i) {
+    for i in (1..usize::MAX).step_by(2) {
+        if descriptors::argument(&rt, i, &mut []).is_none() {
             return;
         }
-        if i % 2 == 1 {
-            replay_files(&rt, i, rt.stdout(), rt.stderr());
-        }
+        replay_pair(&rt, i, i + 1, rt.stdout(), rt.stderr());
     }
 }

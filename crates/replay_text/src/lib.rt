@@ -2,4 +2,5 @@
 #![tactic(auto)]
 
 pub mod answers;
+mod fields;
 pub mod lines;

@@ -9,12 +9,12 @@ use Rattle.check_line.proofs.report.Goals as goal
 
 pub returns : goal.returns
 returns g c printed =
-    let read = c.in-Bytes.ensures in
+    let read = c.in-Ok.ensures in
     of-the-front
     (λ deck. Appends (g.W.Write.contents c.args.out.now) (g.W.Write.contents c.print.new.out) (line (check deck)))
     _
     _
-    c.in-Bytes.n
+    c.in-Ok.n
     (limits.deck + 1)
     c.read_all.new.buf
     read.within.0

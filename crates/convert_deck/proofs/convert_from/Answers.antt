@@ -6,14 +6,14 @@ use Rattle.descriptors.specs.Laws.{of-the-front}
 use Rattle.convert_deck.specs.Written.{written}
 use Rattle.convert_deck.proofs.convert_from.Goals as goal
 
-pub returns-in-Bytes : goal.returns-in-Bytes
-returns-in-Bytes g c made =
-    let read = c.in-Bytes.ensures in
+pub returns-in-Ok : goal.returns-in-Ok
+returns-in-Ok g c made =
+    let read = c.in-Ok.ensures in
     of-the-front
     (λ deck. Appends (g.W.Write.contents c.args.out.now) (g.W.Write.contents c.convert.new.out) (written deck))
     _
     _
-    c.in-Bytes.n
+    c.in-Ok.n
     (limits.old + 1)
     c.read_all.new.buf
     read.within.0

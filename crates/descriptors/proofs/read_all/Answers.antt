@@ -18,8 +18,8 @@ filled a k n before part within fits =
 
 pub loop-done-preserved : goal.loop-done-preserved
 loop-done-preserved g c =
-    let read = c.in-Bytes.ensures in
-    let more = filled c.loop-done.done (length c.loop-done.buf - c.loop-done.done) c.in-Bytes.n c.loop-done.buf c.read_some.new.buf
+    let read = c.in_ok-n.ensures in
+    let more = filled c.loop-done.done (length c.loop-done.buf - c.loop-done.done) c.in_ok-n.n c.loop-done.buf c.read_some.new.buf
     c.loop-done.invariant.0 read.within.0 in (
       omega (arith, ap length more, read.within.0),
       subst (Consumes _ _) (sym more) (Consumes-trans _ _ _ _ _ c.loop-done.invariant.1 read.given.0),

@@ -1,0 +1,3 @@
+-- What is promised of the lines that are read and printed.
+pub mod Answers
+pub mod Lines
