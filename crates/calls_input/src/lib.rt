@@ -70,7 +70,7 @@ fn enter(
 {
     let mut after = *values;
     firing_actions::assign_pairs(&mut after, part, pairs);
-    if !passing_tests::within(rig.deck, rig.counts, rig.parts, &after, part) {
+    if !passing_tests::within(rig, &after, part) {
         return Err(Refusal::InputOutside.unplaced());
     }
     let mut back = [0i32; 2 * Deck::CHANNELS];

@@ -8,7 +8,7 @@ ghost use Rattle.calls.specs.Answers.{start_outcome, reply_of};
 ghost use Rattle.passing.specs.Judged.{ZeroRules, ZeroMemo};
 
 use calls::Answered;
-use deck::{Deck, Form};
+use deck::{Deck, Form, Rig};
 use pool::State;
 use refusals::{Declined, Refusal};
 
@@ -56,7 +56,13 @@ pub fn start_with<const RULES: usize, const MEMO: usize>(
             if !pool::good_length(pool.len()) {
                 return start_declined(Refusal::BadPool.unplaced());
             }
-            passing_tests::open_parts(&mut values, deck, passing.counts, &parts);
+            let rig = Rig {
+                deck,
+                counts: passing.counts,
+                rules: &rules,
+                parts: &parts,
+            };
+            passing_tests::open_parts(&rig, &mut values);
             begin(pool, State { values, pending: 0 })
         }
     }

@@ -86,23 +86,3 @@ pub fn value_of(bytes: [u8; 4]) -> i32
 {
     i32::from_le_bytes(bytes)
 }
-// ---- bytes
-
-// Four bytes, low byte first.
-pub fn word_of(a: u8, b: u8, c: u8, d: u8) -> u32
-    ensures { result ≡ word a b c d }
-{
-    (a as u32) + (b as u32) * 256 + (c as u32) * 65536 + (d as u32) * 16777216
-}
-
-// A signed number from its bits. `!x` is -1 - x, so that no step leaves the range of 32 bits.
-pub fn signed_of(n: u32) -> i32
-    ensures { result ≡ signed n }
-{
-    if n < 2147483648 {
-        n as i32
-    } else {
-        let below = (4294967295 - n) as i32;
-        !below
-    }
-}

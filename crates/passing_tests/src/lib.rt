@@ -64,7 +64,15 @@ pub fn within(rig: &Rig, values: &[i32], p: usize) -> bool
     ensures { result ≡ Check.within (deck_of rig.now.deck.now) p values.now }
 {
     let at = rig.parts[Deck::PART_ROW * p + Deck::PART_LIMIT_AT] as usize;
-    truth_from(rig.deck, at, values, Deck::CHANNELS * p, rig.counts.channels, 0, 0)
+    truth_from(
+        rig.deck,
+        at,
+        values,
+        Deck::CHANNELS * p,
+        rig.counts.channels,
+        0,
+        0,
+    )
 }
 
 // The opening values of all parts, written into a table of zeros.

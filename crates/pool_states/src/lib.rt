@@ -166,7 +166,13 @@ pub fn place_charge(rig: &Rig, memo: &mut [u32], place: &[i32]) -> u32
 // The charge of the pending updates, up to 65,536, and the index of them, if each place is well written and holds a known
 // update and no two are equal. A place is looked for where it and all before it are well written: equal numbers mean equal
 // updates only there.
-fn weigh(rig: &Rig, memo: &mut [u32], pool: &[i32], pending: usize, index: &mut [u16]) -> Option<u32>
+fn weigh(
+    rig: &Rig,
+    memo: &mut [u32],
+    pool: &[i32],
+    pending: usize,
+    index: &mut [u16],
+) -> Option<u32>
     requires { Ready rig.now.rules.now rig.now.parts.now rig.now.counts memo.old × (rig.now.counts.channels ≤ 32)
         × (10 * pending ≤ length pool.now) × (pending ≤ 65535) × Roomy pending index.old
         × (index.old ≡ replicate (length index.old) 0) }
