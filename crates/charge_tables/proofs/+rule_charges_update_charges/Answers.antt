@@ -31,7 +31,8 @@ rule_charges-update_charges-requires t c =
 
 -- what is known where the arms of a test for an empty action meet
 first-given : (t : ℕ) (c : goal.rule_charges-After-second-1 t)
-    → ActionGives c.args.rig.now.rules.now c.args.rig.now.parts.now c.args.rig.now.counts (get_or c.args.rig.now.rules.now (8 * c.args.r + 1) 0)
+    → ActionGives c.args.rig.now.rules.now c.args.rig.now.parts.now c.args.rig.now.counts
+    (get_or c.args.rig.now.rules.now (8 * c.args.r + 1) 0)
     c.args.memo.now c.if-default-ne0.memo c.if-default-ne0.first
 first-given t c =
     elim c.if-default-ne0.branch [
@@ -55,7 +56,8 @@ rule_charges-update_charges-requires-then-action-ne0 t c =
 
 -- the same of both rows
 first-given-2 : (t : ℕ) (c : goal.rule_charges-After-second-2-1 t)
-    → ActionGives c.args.rig.now.rules.now c.args.rig.now.parts.now c.args.rig.now.counts (get_or c.args.rig.now.rules.now (8 * c.args.r + 1) 0)
+    → ActionGives c.args.rig.now.rules.now c.args.rig.now.parts.now c.args.rig.now.counts
+    (get_or c.args.rig.now.rules.now (8 * c.args.r + 1) 0)
     c.args.memo.now c.if-default-ne0.memo c.if-default-ne0.first
 first-given-2 t c =
     elim c.if-default-ne0.branch [
@@ -68,7 +70,8 @@ first-given-2 t c =
     ]
 
 second-given-2 : (t : ℕ) (c : goal.rule_charges-After-second-2-1 t)
-    → ActionGives c.args.rig.now.rules.now c.args.rig.now.parts.now c.args.rig.now.counts (get_or c.args.rig.now.rules.now (8 * c.args.r + 2) 0)
+    → ActionGives c.args.rig.now.rules.now c.args.rig.now.parts.now c.args.rig.now.counts
+    (get_or c.args.rig.now.rules.now (8 * c.args.r + 2) 0)
     c.if-default-ne0.memo c.if-action-ne0.memo c.if-action-ne0.second
 second-given-2 t c =
     elim c.if-action-ne0.branch [
@@ -89,7 +92,8 @@ rule_charges-put_row-requires t c =
 
 -- the same of both rows
 first-given-3 : (t : ℕ) (c : goal.rule_charges-After-slice_known-3-1 t)
-    → ActionGives c.args.rig.now.rules.now c.args.rig.now.parts.now c.args.rig.now.counts (get_or c.args.rig.now.rules.now (8 * c.args.r + 1) 0)
+    → ActionGives c.args.rig.now.rules.now c.args.rig.now.parts.now c.args.rig.now.counts
+    (get_or c.args.rig.now.rules.now (8 * c.args.r + 1) 0)
     c.args.memo.now c.if-default-ne0.memo c.if-default-ne0.first
 first-given-3 t c =
     elim c.if-default-ne0.branch [
@@ -102,7 +106,8 @@ first-given-3 t c =
     ]
 
 second-given-3 : (t : ℕ) (c : goal.rule_charges-After-slice_known-3-1 t)
-    → ActionGives c.args.rig.now.rules.now c.args.rig.now.parts.now c.args.rig.now.counts (get_or c.args.rig.now.rules.now (8 * c.args.r + 2) 0)
+    → ActionGives c.args.rig.now.rules.now c.args.rig.now.parts.now c.args.rig.now.counts
+    (get_or c.args.rig.now.rules.now (8 * c.args.r + 2) 0)
     c.if-default-ne0.memo c.if-action-ne0.memo c.if-action-ne0.second
 second-given-3 t c =
     elim c.if-action-ne0.branch [

@@ -16,4 +16,5 @@ decreases-update_charges l = update_rank (shape l.rig.now.rules.now l.rig.now.pa
 abbrev pub invariant-update_charges-loop-r : goal.invariant-update_charges-loop-r
 invariant-update_charges-loop-r l =
     let d = shape l.rig.rules.now l.rig.parts.now l.rig.counts in
-    Memo d l.memo × Keeps l.initial.memo l.memo × Going l.set l.rig.counts.rules (λ k. Hearing d l.rig.counts.parts l.mask k l.sums) l.r-iterator
+    Memo d l.memo × Keeps l.initial.memo l.memo
+    × Going l.set l.rig.counts.rules (λ k. Hearing d l.rig.counts.parts l.mask k l.sums) l.r-iterator

@@ -17,7 +17,8 @@ returns-in-Not t c = as-not (op-here c.in_ok-get.ensures.lookup.3 c.truth_op-op.
 
 pub returns-in_err-truth_end-in-Both : goal.returns-in_err-truth_end-in-Both
 returns-in_err-truth_end-in-Both t c =
-    rw c.from_residual-in_err-truth_end-in-Both.ensures (as-both-nothing (op-here c.in_ok-get.ensures.lookup.3 c.truth_op-op.ensures) c.in-Both.is
+    rw c.from_residual-in_err-truth_end-in-Both.ensures
+    (as-both-nothing (op-here c.in_ok-get.ensures.lookup.3 c.truth_op-op.ensures) c.in-Both.is
     (rw c.in_err-truth_end-in-Both.was at c.truth_end-in-Both.ensures))
 
 pub returns-in_ok-truth_end-in-Both : goal.returns-in_ok-truth_end-in-Both
@@ -28,7 +29,8 @@ returns-in_ok-truth_end-in-Both t c =
 
 pub returns-in_err-num_end-in-Two : goal.returns-in_err-num_end-in-Two
 returns-in_err-num_end-in-Two t c =
-    rw c.from_residual-in_err-num_end-in-Two.ensures (as-compared-nothing (op-here c.in_ok-get.ensures.lookup.3 c.truth_op-op.ensures) c.in-Two.is
+    rw c.from_residual-in_err-num_end-in-Two.ensures
+    (as-compared-nothing (op-here c.in_ok-get.ensures.lookup.3 c.truth_op-op.ensures) c.in-Two.is
     (rw c.in_err-num_end-in-Two.was at c.num_end.ensures))
 
 pub returns-in_ok-num_end-in-Two : goal.returns-in_ok-num_end-in-Two

@@ -12,10 +12,12 @@ first_above-requires c =
     }
 
 pub declined-requires-in-Err : goal.declined-requires-in-Err
-declined-requires-in-Err c = above_place c.args.rig.now.rules.now c.args.rig.now.parts.now c.args.rig.now.counts c.requires.0 _ (sym c.in-Err.ensures.0)
+declined-requires-in-Err c =
+    above_place c.args.rig.now.rules.now c.args.rig.now.parts.now c.args.rig.now.counts c.requires.0 _ (sym c.in-Err.ensures.0)
 
 pub returns-in-Ok : goal.returns-in-Ok
 returns-in-Ok c =
     let a = c.args in
     let none = c.in_default.ensures in
-    (refl, none, sym c.in-Ok.ensures.0, acyclic-tables a.rig.now.rules.now a.rig.now.parts.now a.rig.now.counts c.requires.0 none, c.in-Ok.ensures.1)
+    (refl, none, sym c.in-Ok.ensures.0, acyclic-tables a.rig.now.rules.now a.rig.now.parts.now a.rig.now.counts c.requires.0 none,
+    c.in-Ok.ensures.1)

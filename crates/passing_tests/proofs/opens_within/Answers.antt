@@ -54,7 +54,8 @@ limit-there c =
     let a = c.args in
     let d = deck_of a.rig.now.deck.now in
     let lp = known-part a.rig.now.deck.now a.rig.now.counts a.rig.now.parts.now c.requires.0 a.p c.requires.1 in
-    limit-stands a.rig.now.deck.now a.rig.now.parts.now d a.p c.requires.0.table lp (stretch c.open_part.new.stretch 0 a.rig.now.counts.channels)
+    limit-stands a.rig.now.deck.now a.rig.now.parts.now d a.p c.requires.0.table lp
+    (stretch c.open_part.new.stretch 0 a.rig.now.counts.channels)
     (ap length (row-opening c) ∙ opening-length d c.requires.0.counts.formed a.p lp)
 
 -- its limit stands there, for as many channels
@@ -67,7 +68,8 @@ limit-there-2 c =
     let a = c.args in
     let d = deck_of a.rig.now.deck.now in
     let lp = known-part a.rig.now.deck.now a.rig.now.counts a.rig.now.parts.now c.requires.0 a.p c.requires.1 in
-    limit-stands a.rig.now.deck.now a.rig.now.parts.now d a.p c.requires.0.table lp (stretch c.open_part.new.stretch 0 a.rig.now.counts.channels)
+    limit-stands a.rig.now.deck.now a.rig.now.parts.now d a.p c.requires.0.table lp
+    (stretch c.open_part.new.stretch 0 a.rig.now.counts.channels)
     (ap length (row-opening-2 c) ∙ opening-length d c.requires.0.counts.formed a.p lp)
 
 pub truth_from-requires : goal.truth_from-requires

@@ -32,7 +32,8 @@ weigh-requires c =
     let a = c.args in
     let d = shape a.rig.now.rules.now a.rig.now.parts.now a.rig.now.counts in
     let m = memory_of a.values.now a.pending a.pool.now in
-    let few = (framed-tests d m (learnt a.rig.now.rules.now a.rig.now.parts.now a.rig.now.counts m c.state_fits.ensures c.if-not-state_fits.false)).few in (
+    let few = (framed-tests d m (learnt a.rig.now.rules.now a.rig.now.parts.now a.rig.now.counts m c.state_fits.ensures
+    c.if-not-state_fits.false)).few in (
       c.requires.0,
       c.requires.1,
       omega (arith, few),

@@ -16,29 +16,34 @@ pub returns-in_err-mask : goal.returns-in_err-mask
 returns-in_err-mask c =
     let a = c.args in
     let d = shape a.rig.now.rules.now a.rig.now.parts.now a.rig.now.counts in
-    let unfit = c.in_err-mask.ensures d (counted-R a.rig.now.rules.now a.rig.now.parts.now a.rig.now.counts) (counted-N a.rig.now.rules.now a.rig.now.parts.now a.rig.now.counts) in
+    let unfit = c.in_err-mask.ensures d (counted-R a.rig.now.rules.now a.rig.now.parts.now a.rig.now.counts)
+    (counted-N a.rig.now.rules.now a.rig.now.parts.now a.rig.now.counts) in
     rw c.from_residual.ensures (adding-unfit d a.pending a.pool.now c.loop-k.invariant c.loop-k-test.true unfit)
 
 pub number_at-p-requires : goal.number_at-p-requires
 number_at-p-requires c =
     let a = c.args in
-    let w = place-held a.rig.now.rules.now a.rig.now.parts.now a.rig.now.counts a.pending a.pool.now c.loop-k-test.true c.requires.2 c.in_ok-mask.ensures in (
+    let w = place-held a.rig.now.rules.now a.rig.now.parts.now a.rig.now.counts a.pending a.pool.now c.loop-k-test.true c.requires.2
+    c.in_ok-mask.ensures in (
       omega (arith, w.holds.long),
-      place-natural a.rig.now.rules.now a.rig.now.parts.now a.rig.now.counts a.pending a.pool.now c.loop-k-test.true c.requires.2 c.in_ok-mask.ensures,
+      place-natural a.rig.now.rules.now a.rig.now.parts.now a.rig.now.counts a.pending a.pool.now c.loop-k-test.true c.requires.2
+      c.in_ok-mask.ensures,
     )
 
 pub update_charge-c-requires : goal.update_charge-c-requires
 update_charge-c-requires c =
     let a = c.args in (
       record { tables = c.requires.0.tables; memo = c.loop-k.invariant.memo },
-      place-part a.rig.now.rules.now a.rig.now.parts.now a.rig.now.counts a.pending a.pool.now c.loop-k-test.true c.requires.2 c.in_ok-mask.ensures c.number_at-p.ensures,
+      place-part a.rig.now.rules.now a.rig.now.parts.now a.rig.now.counts a.pending a.pool.now c.loop-k-test.true c.requires.2
+      c.in_ok-mask.ensures c.number_at-p.ensures,
     )
 
 pub find-requires : goal.find-requires
 find-requires c =
     let a = c.args in
     let i = c.loop-k.invariant in
-    let w = place-held a.rig.now.rules.now a.rig.now.parts.now a.rig.now.counts a.pending a.pool.now c.loop-k-test.true c.requires.2 c.in_ok-mask.ensures in
+    let w = place-held a.rig.now.rules.now a.rig.now.parts.now a.rig.now.counts a.pending a.pool.now c.loop-k-test.true c.requires.2
+    c.in_ok-mask.ensures in
     let h = adding-heads _ a.pending a.pool.now i in
     let r = roomy-heads c.requires.4 in
     record {
@@ -57,7 +62,8 @@ returns-in_err-slot c =
     let t = c.loop-k-test.true in
     let f = c.in_ok-mask.ensures in
     let w = place-held a.rig.now.rules.now a.rig.now.parts.now a.rig.now.counts a.pending a.pool.now t c.requires.2 f in
-    let charged = place-charged a.rig.now.rules.now a.rig.now.parts.now a.rig.now.counts a.pending a.pool.now t c.requires.2 f c.number_at-p.ensures c.requires.1
+    let charged = place-charged a.rig.now.rules.now a.rig.now.parts.now a.rig.now.counts a.pending a.pool.now t c.requires.2 f
+    c.number_at-p.ensures c.requires.1
     c.update_charge-c.ensures in
     rw c.from_residual-in_err-slot.ensures
     (adding-twice _ a.pending a.pool.now c.loop-k.invariant t w.fit charged c.in_err-slot.ensures)
@@ -77,7 +83,8 @@ loop-k-preserved c =
     let t = c.loop-k-test.true in
     let f = c.in_ok-mask.ensures in
     let w = place-held a.rig.now.rules.now a.rig.now.parts.now a.rig.now.counts a.pending a.pool.now t c.requires.2 f in
-    let charged = place-charged a.rig.now.rules.now a.rig.now.parts.now a.rig.now.counts a.pending a.pool.now t c.requires.2 f c.number_at-p.ensures c.requires.1
+    let charged = place-charged a.rig.now.rules.now a.rig.now.parts.now a.rig.now.counts a.pending a.pool.now t c.requires.2 f
+    c.number_at-p.ensures c.requires.1
     c.update_charge-c.ensures in
     let entered = entering-done (adding-entering _ a.pending a.pool.now i t c.requires.4 c.in_ok-slot.ensures.ends) in
     rw c.note.ensures
