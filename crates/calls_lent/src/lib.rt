@@ -12,7 +12,7 @@ use calls_tests::Pending;
 use deck::{Deck, Rig};
 use refusals::Declined;
 
-// What is asked for, on what was tested.
+// What is asked for, on what was tested. A `match`, and no type with a trait for each call: so the tests and the firing are compiled once.
 fn call_tested(
     rig: &Rig,
     pending: Pending,

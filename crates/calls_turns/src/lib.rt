@@ -46,6 +46,7 @@ pub fn take_turns(
     let mut applied = false;
     let mut made: u32 = 0;
     let mut next = first;
+    // A `while`: it ends as well where nothing is pending there, and what follows asks how many turns were made.
     while made < budget {
         let ahead = queue.used - next;
         if ahead == 0 {

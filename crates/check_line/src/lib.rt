@@ -80,6 +80,7 @@ fn print<W: Write>(deck: &[u8], out: &mut W) -> io::Result<()>
 pub fn report<R: Read, W: Write, E: Write>(from: &mut R, out: &mut W, err: &mut E) -> bool
     ensures { IsTrue result → Reports (R.remaining from.old) (W.contents out.old) (W.contents out.new) }
 {
+    // On the stack: a report cannot run out of memory.
     let mut buf = [0u8; Deck::BYTES + 1];
     let n = match descriptors::read_all(from, &mut buf) {
         Ok(n) => n,

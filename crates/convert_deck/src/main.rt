@@ -50,6 +50,7 @@ fn convert<W: Write, E: Write>(deck: &[u8], out: &mut W, err: &mut E) -> bool
 fn convert_from<R: Read, W: Write, E: Write>(from: &mut R, out: &mut W, err: &mut E) -> bool
     ensures { IsTrue result → Writes (R.remaining from.old) (W.contents out.old) (W.contents out.new) }
 {
+    // On the stack: a conversion cannot run out of memory.
     let mut old = [0u8; Deck::OLD_BYTES + 1];
     match descriptors::read_all(from, &mut old) {
         Ok(n) => convert(&old[..n], out, err),

@@ -97,7 +97,8 @@ impl Deck {
 
     // The numbers of a rule's row in the table that the pass fills, and their columns: its events and the targets of its two actions
     // as sets, its kind, and where its default action, its condition and its action stand in the deck. The events are column 0. In
-    // the last column row c has the rules that listen to channel c.
+    // the last column row c has the rules that listen to channel c. Plain numbers, the kind too: a table begins as zeros, and laws of
+    // tables are laws of lists.
     pub const RULE_ROW: usize = 8;
 
     pub const RULE_DEFAULT_TARGETS: usize = 1;

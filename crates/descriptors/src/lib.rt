@@ -24,6 +24,7 @@ pub fn read_all<R: Read>(from: &mut R, buf: &mut [u8]) -> io::Result<usize>
     ensures given { GivesAll (R.remaining from.old) (R.remaining from.new) result buf.new }
 {
     let mut done = 0;
+    // A `while`: a read gives as many bytes as it likes, and `GivesAll` says how they add up.
     while done < buf.len() {
         let n = read_some(from, &mut buf[done..])?;
         if n == 0 {
@@ -42,6 +43,7 @@ pub fn fail<W: Write>(to: &mut W, what: &[u8], why: &Error) -> io::Result<()> {
 
 // Puts an argument at the start of buf, and answers its length: nothing of it, where it is longer than buf. 0 is the program's name,
 // and behind the last argument there is none.
+// A buffer and a length, not a `String`: a name that is no text is reported, and the programs go on with the next.
 pub fn argument<R: Env>(rt: &R, i: usize, buf: &mut [u8]) -> Option<usize>
     ensures { IfSome result (λ n. IsPrefixLen n buf.new) }
 {

@@ -6,7 +6,8 @@
 ghost use Rattle.std.specs.Prelude.{◌≡◌};
 ghost use Rattle.deck.specs.Stretch.{LiesAt};
 ghost use Rattle.calls.specs.Calls as Calls;
-ghost use Rattle.calls.specs.Answers.{check_outcome, section_of, start_outcome, input_outcome, commit_outcome, settle_outcome, memory_of, reply_of};
+ghost use Rattle.calls.specs.Answers.{check_outcome, section_of, start_outcome, input_outcome, commit_outcome, settle_outcome};
+ghost use Rattle.calls.specs.Answers.{memory_of, reply_of};
 ghost use Rattle.calls.specs.Requests.{outcome_to, Accepts, IsOfInput, IsOfCommit, IsOfSettle};
 ghost use Rattle.conversion.specs.Conversion as Conversion;
 

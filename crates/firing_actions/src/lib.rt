@@ -64,6 +64,7 @@ pub fn changed_by(values: &[i32], part: usize, pairs: &[i32], back: &mut [i32]) 
 {
     let n = pairs.len() / 2;
     let mut mask: u64 = 0;
+    // By index: the same places of `back` are written.
     for i in 0..n {
         let c = pairs[2 * i] as usize;
         let new = pairs[2 * i + 1];

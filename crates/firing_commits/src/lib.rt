@@ -53,7 +53,7 @@ fn look(
     }
 }
 
-// What is pending after a commit, and whether the update was applied.
+// What is pending after a commit, and whether the update was applied: the queue is as good where it was not.
 #[derive(Clone, Copy)]
 pub struct AfterCommit {
     pub queue: Queue,

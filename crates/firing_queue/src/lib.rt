@@ -10,7 +10,8 @@ ghost use Rattle.firing_queue.specs.Queue.{held_of, Offering, Offered};
 use deck::Rig;
 
 // The places used, those from which an update was taken out among them, the charge of the pending updates, and the capacity that it
-// keeps within; full where a new one would have passed it.
+// keeps within; full where a new one would have passed it. A flag beside numbers that mean the same where it is set: an input takes back
+// the places that were used then.
 #[derive(Clone, Copy)]
 pub struct Queue {
     pub used: usize,
@@ -21,7 +22,8 @@ pub struct Queue {
 
 // The capacity would be passed: nothing more is taken.
 fn over_capacity(queue: Queue) -> Queue
-    ensures { (result.used ≡ queue.used) × (result.charge ≡ queue.charge) × (result.capacity ≡ queue.capacity) × (result.full ≡ true) }
+    ensures { (result.used ≡ queue.used) × (result.charge ≡ queue.charge) × (result.capacity ≡ queue.capacity)
+        × (result.full ≡ true) }
 {
     Queue {
         full: true,
@@ -29,6 +31,7 @@ fn over_capacity(queue: Queue) -> Queue
     }
 }
 
+// Memo, index and pool are lent one by one: what is said of them is said of each, before and after.
 // A new update behind the last place used, unless it is equal to one then pending or its charge passes the capacity.
 pub fn add(
     rig: &Rig,

@@ -78,6 +78,7 @@ pub fn find(index: &[u16], pool: &[i32], used: usize, row: &[i32]) -> Option<usi
     let mut s = bucket(row, heads);
     let mut i = usize::from(index[s]);
     let mut d: usize = 0;
+    // A `while`: the way down the tree ends at a free slot, and how long it is nobody knows before.
     while i > 0 {
         if pool::same_at(pool, Deck::PLACE * (i - 1), row) {
             return None;

@@ -111,7 +111,7 @@ impl Host {
         })
     }
 
-    // How many bytes a section has, or the answer that there is none.
+    // How many bytes a section has, or the answer that there is none. The two lent numbers are the published call's.
     fn section_len(&self, number: u32) -> Result<u32, Answer> {
         let (mut refusal, mut place) = (0, 0);
         let section = engine::section(&self.deck, number, &mut refusal, &mut place);
