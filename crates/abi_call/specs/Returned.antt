@@ -1,5 +1,5 @@
 -- The replies of the seven calls as a host in C sees them. Assumes nothing.
-use Rattle.std.specs.Prelude.{ℕ, List, [], ◌∷◌}
+use Rattle.std.specs.Prelude.{ℕ, Bool, true, false, List, [], ◌∷◌}
 use Rattle.refusals.specs.Outcome.{Outcome, refused, accepted}
 use Rattle.pool.specs.States.{Memory}
 use Rattle.calls.specs.Calls.{Answer, Reply, Section}
@@ -20,6 +20,11 @@ array_of n = answered_of n.number (n.place ∷ n.values)
 -- an outcome as it is returned
 abbrev pub answered : Outcome Answer → Answered
 answered o = array_of (numbers_of o)
+
+-- a flag as a number
+unfoldable pub bit : Bool → ℕ
+bit true = 1
+bit false = 0
 
 -- the numbers of a call that answers at most two
 abbrev pub numbers_at : ℕ → ℕ → ℕ → ℕ → Numbers

@@ -1,12 +1,12 @@
 -- The replies of the calls, as they are returned. Assumes nothing.
-use Rattle.std.specs.Prelude.{ℕ, ◌≡◌, List, [], ◌∷◌, ℤ}
+use Rattle.std.specs.Prelude.{ℕ, ◌≡◌, refl, Bool, true, false, cond, List, [], ◌∷◌, ℤ}
 use Rattle.std.proofs.Common.{ap, ap₂, ◌∙◌}
-use Rattle.refusals.specs.Outcome.{Outcome}
+use Rattle.refusals.specs.Outcome.{Outcome, accepted}
 use Rattle.pool.specs.declared.State.{State}
-use Rattle.calls.specs.Calls.{Answer, Reply, Section}
+use Rattle.calls.specs.Calls.{Answer, applied, discarded, settled, spent, Reply, Section}
 use Rattle.calls.specs.Answers.{numbers_of, section_of, memory_at, reply_of, reply_at}
 use Rattle.conversion.specs.Conversion as Conversion
-use Rattle.abi_call.specs.Returned.{answered_of, answered, numbers_at, returned_of, returned, returned_section_of, returned_section}
+use Rattle.abi_call.specs.Returned.{answered_of, answered, bit, numbers_at, returned_of, returned, returned_section_of, returned_section}
 use Rattle.abi_call.specs.Returned.{returned_conversion_of, converted_numbers, returned_conversion}
 
 -- the array holds the numbers of an outcome
@@ -32,6 +32,24 @@ pub stored : {o : Outcome Answer} {st : State} {values pool : List ℤ} {pending
     → AnswerHolds array o → (values ≡ st.values) × (pending ≡ st.pending) → reply_of o st pool ≡ r
     → returned_of (numbers_of o).number array (memory_at values pending pool) ≡ returned r
 stored {o} {pool = pool} w h e = left w (ap₂ (λ v n. reply_at o v n pool) h.0 h.1 ∙ e)
+
+-- a flag as a number
+commit-flag : (flag : Bool) (n : ℕ) → numbers_at 0 0 (bit flag) n ≡ numbers_of (accepted (cond flag (applied n) (discarded n)))
+unfolding bit
+commit-flag true n = refl
+commit-flag false n = refl
+
+settle-flag : (flag : Bool) (n : ℕ) → numbers_at 0 0 n (bit flag) ≡ numbers_of (accepted (cond flag (settled n) (spent n)))
+unfolding bit
+settle-flag true n = refl
+settle-flag false n = refl
+
+module _ (flag : Bool) {one n : ℕ} (e : one ≡ bit flag) where
+  pub commit-numbers : numbers_at 0 0 one n ≡ numbers_of (accepted (cond flag (applied n) (discarded n)))
+  commit-numbers = ap (λ x. numbers_at 0 0 x n) e ∙ commit-flag flag n
+
+  pub settle-numbers : numbers_at 0 0 n one ≡ numbers_of (accepted (cond flag (settled n) (spent n)))
+  settle-numbers = ap (numbers_at 0 0 n) e ∙ settle-flag flag n
 
 -- the numbers of a response are written, and the call left the state where the host holds it
 pub told : {o : Outcome Answer} {number place first second : ℕ} {values pool : List ℤ} {pending : ℕ} {array : List ℕ} {r : Reply}

@@ -153,7 +153,7 @@ module _ (s rules parts charges : List ℕ) (k : Counted.Deck) (n : ℕ) (w : Ju
     abbrev m : Memory
     m = memory_at vs pending pool
 
-    state-passed : (x : TestsFound) → TestsState k rules parts memo index pool vs pending (Ok x)
+    pub state-passed : (x : TestsFound) → TestsState k rules parts memo index pool vs pending (Ok x)
         → TestsPassed s rules parts memo index m x.counts x.pending.charge
     state-passed x t =
         subst (λ c. TestsPassed s rules parts memo index m c x.pending.charge) (sym t.0)
@@ -190,12 +190,12 @@ module _ (s rules parts charges : List ℕ) (k : Counted.Deck) (n : ℕ) (w : Ju
         held : Stored (deck_of s) (capacity (length pool)) slots (load m) vs pending x.pending.charge (held_of index pool)
         held = held-loaded (deck_of s) m index x.pending.charge a.0 a.1 t.4
 
-    state-declined : (d : Declined) → TestsState k rules parts memo index pool vs pending (Err d) → tested s m ≡ decline_outcome d
-    state-declined d (z, inl x) = tested-pool s m w.passes x.1 ∙ ap₂ refused (sym x.0) (sym z)
-    state-declined d (z, inr x) =
+    pub state-refused : (d : Declined) → TestsState k rules parts memo index pool vs pending (Err d) → tested s m ≡ decline_outcome d
+    state-refused d (z, inl x) = tested-pool s m w.passes x.1 ∙ ap₂ refused (sym x.0) (sym z)
+    state-refused d (z, inr x) =
         tested-state s m w.passes x.1 (bad-answer (deck_of s) m (x.2 ∙ goodness-same m)) ∙ ap₂ refused (sym x.0) (sym z)
 
     pub state-tests : (r : Result TestsFound Declined) → TestsState k rules parts memo index pool vs pending r
         → Tests s rules parts memo index pool vs pending r
     state-tests (Ok x) t = (t.6, state-passed x t)
-    state-tests (Err d) t = state-declined d t
+    state-tests (Err d) t = state-refused d t

@@ -1,5 +1,5 @@
 -- From what the pass and the searches give to the answer of the tests of a deck. Assumes nothing.
-use Rattle.std.specs.Prelude.{ℕ, suc, ◌≤◌, ◌<◌, ◌≡◌, refl, List, [], ◌∷◌, length, get_or, replicate, Result, Ok, Err}
+use Rattle.std.specs.Prelude.{ℕ, suc, ◌≤◌, ◌<◌, ◌≡◌, refl, Bool, List, [], ◌∷◌, length, get_or, replicate, Result, Ok, Err}
 use Rattle.std.proofs.Math.Path.{sym}
 use Rattle.std.proofs.Common.{ap, ◌∙◌, subst, inl, inr, Fits, lt-ltb}
 use native.Mathlib.Omega.{arith}
@@ -7,7 +7,8 @@ use Rattle.std.proofs.Math.Decide.{dec_lt}
 use Rattle.std.proofs.lemmas.List.{length-replicate, get_or-replicate}
 use Rattle.std.proofs.Math.ListN.{get_or-eq_default}
 use Rattle.std.specs.Int.{w8}
-use Rattle.lists.specs.Lists.{first_or, lists}
+use Rattle.lists.specs.Lists.{select, below, first_or, lists}
+use Rattle.lists.specs.Laws.Below.{select-first}
 use Rattle.lists.specs.Laws.Booleans.{and_both}
 use Rattle.refusals.specs.Outcome.{refused, accepted}
 use Rattle.refusals.specs.Numbers.{opens_outside}
@@ -25,6 +26,7 @@ use Rattle.deck.proofs.Laws.Marks.{map_got, read-marked}
 use Rattle.deck.proofs.Laws.Shape.{counted-R, counted-M, counted-N}
 use Rattle.deck.proofs.Laws.Tables.{SameTests, shape-tests}
 use Rattle.deck.proofs.Laws.TablesRead.{Zeros}
+use Rattle.graph.specs.Graph.{edge, reaches_itself, cyclic}
 use Rattle.graph.specs.FirstCycle.{first_cycle}
 use Rattle.graph.specs.Masks.{Sized}
 use Rattle.graph.proofs.Laws.Targets.{known-targets}
@@ -97,6 +99,15 @@ wrong-place New s n p e = omega (arith, read-place New s n p e)
 
 -- ---- the searches
 
+-- a search that found none below its bound found the bound
+first-whole : (f : ℕ → Bool) (n c : ℕ) → c ≡ first_or n (select f (below n)) → n ≤ c → first_or n (select f (below n)) ≡ n
+unfolding first_or
+first-whole f n c e h = go (select f (below n)) refl e
+  where
+    go : (l : List ℕ) → select f (below n) ≡ l → c ≡ first_or n l → first_or n l ≡ n
+    go [] g e = refl
+    go (x ∷ xs) g e = absurd (omega (arith, h, e, (select-first f n x xs g).1))
+
 module _ (rules parts : List ℕ) (k : Counted.Deck) (w : RulesKnown rules parts k) where
   abbrev d : Deck
   d = shape rules parts k
@@ -116,6 +127,12 @@ module _ (rules parts : List ℕ) (k : Counted.Deck) (w : RulesKnown rules parts
         w.sized.few_rules,
         w.sized.few_parts,
       )
+
+  pub cycle-none : (c : ℕ) → c ≡ first_cycle d → k.channels ≤ c → first_cycle d ≡ k.channels
+  unfolding first_cycle cyclic
+  cycle-none c e h =
+      first-whole (reaches_itself (R d) (edge d)) (R d) c e (omega (arith, h, counted-R rules parts k))
+      ∙ counted-R rules parts k
 
   pub acyclic-tables : first_cycle d ≡ k.channels → AcyclicTables rules parts k
   unfolding first_cycle

@@ -1,6 +1,6 @@
 -- An expression that can be read at an offset of the deck stands there; so do opening values. Assumes nothing.
 use Prim.Native.Nat.{ℕ, zero, suc, ◌+◌, ◌*◌, ◌≤◌, ◌<◌}
-use Rattle.std.specs.Prelude.{◌≡◌, take, ℤ, pos}
+use Rattle.std.specs.Prelude.{◌≡◌, Bool, take, ℤ, pos, Option, Some, None}
 use Rattle.std.proofs.Math.Path.{refl, sym, ap}
 use Rattle.std.proofs.Common.{ap₂, ◌∙◌, add-zero, get_or-drop}
 use mathlib.Core.List.{List, [], ◌∷◌}
@@ -10,7 +10,9 @@ use Rattle.std.proofs.Math.ListN.{length, get_or, drop, length-drop}
 use Rattle.std.proofs.Math.Seq.{drop-drop}
 use Rattle.refusals.specs.Outcome.{refused, accepted}
 use Rattle.refusals.specs.Laws.Outcomes.{refused≢accepted, accepted-inj}
-use Rattle.expression.specs.Reading.{Read, got, nothing, word, signed}
+use Rattle.expression.specs.Syntax.{Truth}
+use Rattle.expression.specs.Reading.{Read, got, nothing, word, signed, whole_truth}
+use Rattle.expression.specs.Answers.{scope, map_read, truth_in, truth_result, whole_truth_value}
 use Rattle.expression.specs.Faults.{Found, sound}
 use Rattle.deck.specs.Reader.{Got, ◌>>=◌, give, fault, number, repeats, value, readers}
 use Rattle.deck.specs.Layout.{Expected, judged, expression}
@@ -128,6 +130,16 @@ pub values-stand : (s : List ℕ) (n at : ℕ) (l : List ℤ) → 1 ≤ n → Re
     × (at + 4 * n ≤ length s)
 values-stand s zero at l some r = absurd (omega arith)
 values-stand s (suc n) at l some r = values-got s (suc n) at _ r.1 (values-inside s n at _ r.1)
+
+pub truth-there : (s : List ℕ) (at : ℕ) (own far : List ℤ) (t : Truth) → Stands (whole_truth (scope (length own) (length far))) s at t
+    → whole_truth_value own far (take (get_or s at 0) (drop (at + 1) s)) ≡ Some (truth_in own far t)
+truth-there s at own far t h = ap (λ r. truth_result (map_read (truth_in own far) r)) h.holds
+
+pub told : (b c : Bool) → Some b ≡ Some c → b ≡ c
+told b c e = cc
+
+pub not_none : {A : Type 0} {b : Bool} {o : Option Bool} → o ≡ None → o ≡ Some b → A
+not_none n e = absurd (cc)
 
 -- four bytes, as the code puts them together
 pub value-is : (s : List ℕ) (at : ℕ) → signed (word (get_or s at 0) (get_or s (at + 1) 0) (get_or s (at + 2) 0) (get_or s (at + 3) 0))
