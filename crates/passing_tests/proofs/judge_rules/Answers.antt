@@ -18,6 +18,10 @@ declined-requires-in-Err c =
 pub returns-in-Ok : goal.returns-in-Ok
 returns-in-Ok c =
     let a = c.args in
-    let none = c.in_default.ensures in
-    (refl, none, sym c.in-Ok.ensures.0, acyclic-tables a.rig.now.rules.now a.rig.now.parts.now a.rig.now.counts c.requires.0 none,
-    c.in-Ok.ensures.1)
+    let none = c.in_default.ensures in (
+      refl,
+      none,
+      sym c.in-Ok.ensures.0,
+      acyclic-tables a.rig.now.rules.now a.rig.now.parts.now a.rig.now.counts c.requires.0 none,
+      c.in-Ok.ensures.1,
+    )

@@ -10,9 +10,11 @@ use Rattle.pool_states.proofs.place_charge.Goals as goal
 pub number_at-p-requires : goal.number_at-p-requires
 number_at-p-requires c =
     let a = c.args in
-    let h = c.requires.2 in
-    (omega (arith, h.long), holds-natural _ a.rig.now.counts.parts
-    (counted-N a.rig.now.rules.now a.rig.now.parts.now a.rig.now.counts) a.place.now h)
+    let h = c.requires.2 in (
+      omega (arith, h.long),
+      holds-natural _ a.rig.now.counts.parts
+          (counted-N a.rig.now.rules.now a.rig.now.parts.now a.rig.now.counts) a.place.now h,
+    )
 
 pub channels_of-mask-requires : goal.channels_of-mask-requires
 channels_of-mask-requires c =
@@ -25,9 +27,11 @@ pub update_charge-requires : goal.update_charge-requires
 update_charge-requires c =
     let a = c.args in
     let h = c.requires.2 in
-    let n = counted-N a.rig.now.rules.now a.rig.now.parts.now a.rig.now.counts in
-    (c.requires.0, holds-part _ a.rig.now.counts.parts n a.place.now h
-    (c.number_at-p.ensures ∙ holds-number _ a.rig.now.counts.parts n a.place.now h))
+    let n = counted-N a.rig.now.rules.now a.rig.now.parts.now a.rig.now.counts in (
+      c.requires.0,
+      holds-part _ a.rig.now.counts.parts n a.place.now h
+          (c.number_at-p.ensures ∙ holds-number _ a.rig.now.counts.parts n a.place.now h),
+    )
 
 pub returns : goal.returns
 returns c =

@@ -27,7 +27,7 @@ number_at-p-requires c =
     c.in_ok-mask.ensures in (
       omega (arith, w.holds.long),
       place-natural a.rig.now.rules.now a.rig.now.parts.now a.rig.now.counts a.pending a.pool.now c.loop-k-test.true c.requires.2
-      c.in_ok-mask.ensures,
+          c.in_ok-mask.ensures,
     )
 
 pub update_charge-c-requires : goal.update_charge-c-requires
@@ -35,7 +35,7 @@ update_charge-c-requires c =
     let a = c.args in (
       record { tables = c.requires.0.tables; memo = c.loop-k.invariant.memo },
       place-part a.rig.now.rules.now a.rig.now.parts.now a.rig.now.counts a.pending a.pool.now c.loop-k-test.true c.requires.2
-      c.in_ok-mask.ensures c.number_at-p.ensures,
+          c.in_ok-mask.ensures c.number_at-p.ensures,
     )
 
 pub find-requires : goal.find-requires
