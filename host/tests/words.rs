@@ -37,12 +37,19 @@ fn named(text: &str, separator: &str) -> Named {
     (number(value), name.to_string())
 }
 
-/// The names of the engine's code.
+/// The names of the engine's code, in the spelling of constants: its enumeration has `DeckEnds` for `DECK_ENDS`.
 fn names() -> Vec<Named> {
     let code = file("crates/refusals/src/lib.rt");
-    // But for comments and what is said of the whole crate, each line is a constant.
-    let lines = code.lines().filter(|line| !line.is_empty() && !line.starts_with(['/', '#']));
-    lines.map(|line| named(stripped(line, "pub const ", ";"), ": u32 = ")).collect()
+    let lines = between(&code, "pub enum Refusal {\n", "\n}").lines();
+    let variants = lines.map(|line| named(stripped(line, "    ", ","), " = "));
+    variants.map(|(number, name)| (number, as_constant(&name))).collect()
+}
+
+/// A name with `_` in front of each capital letter but the first, all in capitals.
+fn as_constant(name: &str) -> String {
+    let capital = |(at, letter): (usize, char)| at > 0 && letter.is_uppercase();
+    let spelled = name.char_indices().map(|here| (if capital(here) { "_" } else { "" }, here.1));
+    spelled.map(|(front, letter)| format!("{front}{}", letter.to_ascii_uppercase())).collect()
 }
 
 /// The words of this crate. It has none for the numbers around those of the refusals.
