@@ -41,7 +41,9 @@ class Table(Case):
 
     def test_names_are_those_of_the_engine(self) -> None:
         source = (ROOT / "crates" / "refusals" / "src" / "lib.rt").read_text()
-        constants = re.findall(r"^pub const (\w+): u32 = (\d+);$", source, re.MULTILINE)
+        enumeration = source.split("pub enum Refusal {\n", 1)[1].split("\n}", 1)[0]
+        variants = re.findall(r"^ +(\w+) = (\d+),$", enumeration, re.MULTILINE)
+        constants = [(re.sub(r"(?<=\w)(?=[A-Z])", "_", name).upper(), number) for name, number in variants]
         self.assertEqual([(name, str(number)) for number, name, _ in REFUSALS], constants)
 
     def test_words_are_those_of_the_rust_crate(self) -> None:
