@@ -2,6 +2,7 @@
 use Rattle.std.specs.Prelude.{ℕ, suc, ◌≤◌, ◌<◌, ◌≡◌, refl, Bool, List, [], ◌∷◌, length, get_or, replicate, Result, Ok, Err}
 use Rattle.std.proofs.Math.Path.{sym}
 use Rattle.std.proofs.Common.{ap, ◌∙◌, subst, inl, inr, Fits, lt-ltb}
+use Rattle.std.proofs.Math.Bool.{not}
 use native.Mathlib.Omega.{arith}
 use Rattle.std.proofs.Math.Decide.{dec_lt}
 use Rattle.std.proofs.lemmas.List.{length-replicate, get_or-replicate}
@@ -38,7 +39,7 @@ use Rattle.charge.specs.Answer.{bound_of}
 use Rattle.charge.proofs.Laws.Bound.{first_above}
 use Rattle.charge.proofs.Laws.Shape.{shape-bound}
 use Rattle.charge.proofs.Laws.Tables.{memo-new, memo-long}
-use Rattle.passing.specs.Check.{outside, passing}
+use Rattle.passing.specs.Check.{within, opening_values, outside, passing}
 use Rattle.passing.specs.Tabled.{layout_of, deck_of, Tabled, PartsKnown}
 use Rattle.deck.specs.Shape.{shape}
 use Rattle.passing.specs.Judged.{RulesKnown, JudgesRules, ZeroRules, ZeroMemo, WholeKnown, Passed, Judges}
@@ -202,8 +203,14 @@ module _ (s rules parts : List ℕ) (k : Counted.Deck) (t : Tabled s k rules par
   bound-same = ap bound_of shape_is ∙ shape-bound t.sets t.ranged
 
   module _ (f : Form) (r : read f s ≡ accepted (layout_of s)) where
-    pub outside-none : first_outside whole ≡ k.parts → first_outside whole ≡ N whole
-    outside-none e = e ∙ t.counts.parts
+    pub outside-none : (p : ℕ) → p ≡ first_outside whole → k.parts ≤ p → first_outside whole ≡ N whole
+    unfolding first_outside outside
+    outside-none p e h =
+        first-whole (λ p. not (within whole p (opening_values whole))) (N whole) p e (omega (arith, h, t.counts.parts))
+
+    -- as it is said by a search that gives the bound where it finds none
+    pub outside-counted : first_outside whole ≡ k.parts → first_outside whole ≡ N whole
+    outside-counted e = e ∙ t.counts.parts
 
     pub outside-refused : (p : ℕ) → p ≡ first_outside whole → p < k.parts → passing f s ≡ refused opens_outside p
     outside-refused p e h = passing-6 f s (layout_of s) r p (sym e) (omega (arith, t.counts.parts))
@@ -212,14 +219,14 @@ module _ (s rules parts : List ℕ) (k : Counted.Deck) (t : Tabled s k rules par
       seven : first_cycle (shape rules parts k) ≡ k.channels → first_cycle whole ≡ R whole
       seven e = sym first-same ∙ e ∙ t.counts.channels
 
-      rules-refused : (d : Declined) → JudgesRules rules parts memo k (Err d) → passing f s ≡ decline_outcome d
+      pub rules-refused : (d : Declined) → JudgesRules rules parts memo k (Err d) → passing f s ≡ decline_outcome d
       rules-refused d (inl x) =
           passing-7 f s (layout_of s) r six d.place (sym first-same ∙ x.1) (omega (arith, x.2, t.counts.channels))
           ∙ ap (λ m. refused m d.place) (sym x.0)
       rules-refused d (inr x) =
           passing-8 f s (layout_of s) r six (seven x.1) d.place (sym bound-same ∙ x.2) ∙ ap (λ m. refused m d.place) (sym x.0)
 
-      rules-passed : Bytes s → (p : Passing) → JudgesRules rules parts memo k (Ok p)
+      pub rules-passed : Bytes s → (p : Passing) → JudgesRules rules parts memo k (Ok p)
           → Passed f s rules parts memo p.counts p.charge
       rules-passed b p x =
           let w = passing-whole f s (layout_of s) r six (seven x.1) p.charge (sym bound-same ∙ x.2) in

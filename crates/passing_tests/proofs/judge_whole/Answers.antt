@@ -2,7 +2,7 @@
 use mathlib.Core.Path.{sym}
 use Rattle.passing.specs.Tabled.{deck_of}
 use Rattle.passing.proofs.Laws.Tabled.{tabled-kept}
-use Rattle.passing.proofs.Laws.Judged.{rules-known, outside-found, outside-none, outside-refused, rules-judged}
+use Rattle.passing.proofs.Laws.Judged.{rules-known, outside-found, outside-counted, outside-refused, rules-judged}
 use Rattle.passing_tests.proofs.judge_whole.Goals as goal
 
 pub returns-in-Some : goal.returns-in-Some
@@ -21,6 +21,6 @@ returns c form read =
     let a = c.args in
     let t = tabled-kept c.note_listeners.ensures.0 c.requires.0.tabled in
     let none = outside-found (deck_of a.deck.now) _ (sym c.in_default.ensures) in
-    let six = outside-none a.deck.now _ a.parts.now a.counts t form read (sym none) in
+    let six = outside-counted a.deck.now _ a.parts.now a.counts t form read (sym none) in
     rules-judged a.deck.now _ a.parts.now a.counts t form read six _ c.requires.0.bytes c.judge_rules.result
     c.judge_rules.ensures
