@@ -39,8 +39,8 @@ fn convert<W: Write, E: Write>(deck: &[u8], out: &mut W, err: &mut E) -> bool
     match convert_into(deck, &mut new) {
         Ok(length) => write_deck(&new[..length as usize], out, err),
         Err(why) => {
-            let refusal = Answer::from(why);
-            let _ = writeln!(err, "{refusal}");
+            let line = Answer::from(why).line();
+            let _ = err.write_all(line.as_str().as_bytes());
             true
         }
     }

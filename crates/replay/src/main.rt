@@ -13,6 +13,6 @@ fn main(rt: HostRuntime) {
         return;
     }
     if let Some(mut deck) = descriptors::open_named(&rt, &name[..named], &mut err) {
-        replay_calls::replay(rt.alloc(), &mut deck, &mut rt.stdin(), rt.stdout(), err);
+        replay_calls::replay(&mut deck, &mut rt.stdin(), rt.stdout(), err);
     }
 }

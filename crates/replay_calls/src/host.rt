@@ -1,34 +1,38 @@
 // The memory that a host holds and lends, and what a line does to it.
+ghost use Rattle.std.specs.Prelude.{◌≡◌, ◌≤◌, length};
+ghost use Rattle.conversion.specs.Fits.{Fits};
 
 use crate::output::Output;
+use arrayvec::ArrayVec;
 use calls::{Answered, CommitAnswer, SettleAnswer};
 use deck::Deck;
 use pool::State;
 use refusals::Declined;
 use replay_text::answers::Answer;
 use replay_text::lines::Command;
-use std::alloc::{AllocError, Global};
 use std::io;
-use std::io::Write;
+use std::io::{Read, Write};
+
+// The longest deck that is read. One byte more than the longest old deck already shows the fault, and there is room for more.
+const LONGEST_DECK: usize = 50_000;
 
 // The longest pool that a line may lend.
-const LONGEST_POOL: u32 = 700_000;
+const LONGEST_POOL: usize = 700_000;
 
 // What every number of a pool is before a start.
 const LENT: i32 = 7;
 
 // The longest buffer that a line may lend.
-const LONGEST_BUFFER: u32 = 50_000;
+const LONGEST_BUFFER: usize = 50_000;
 
 // What every byte of a buffer is before a conversion.
 const LENT_BYTE: u8 = 7;
 
-// What a host holds and lends.
+// What a host holds and lends. Nothing of it is allocated, so that no run is ever out of memory.
 #[derive(Drop)]
 pub struct Host {
-    alloc: Global,
-    deck: Vec<u8>,
-    pool: Vec<i32>,
+    deck: ArrayVec<u8, LONGEST_DECK>,
+    pool: ArrayVec<i32, LONGEST_POOL>,
     state: State,
 }
 
@@ -46,29 +50,46 @@ fn print_numbers<F: Fn(u32, i32) -> Answer, W: Write + Drop, E: Write + Drop>(
     numbers: &[i32],
     entry: &F,
     out: &mut Output<W, E>,
-) -> io::Result<()>
+)
     requires { F.IsAlwaysCallable entry.now }
 {
     for (index, value) in (0u32..).zip(numbers) {
         if *value != 0 {
-            out.print(entry(index, *value))?;
+            out.print(entry(index, *value));
         }
     }
-    Ok(())
+}
+
+fn convert_into(deck: &[u8], buffer: &mut [u8]) -> Result<u32, Declined>
+    ensures { Fits result (length buffer.old) }
+{
+    engine::convert(deck, buffer)
 }
 
 impl Host {
     // Before the first start the state is zeros and the pool has length 0.
-    pub fn new(alloc: Global, deck: Vec<u8>) -> Host {
+    pub fn new() -> Host {
         Host {
-            alloc,
-            deck,
-            pool: Vec::new(alloc),
+            deck: ArrayVec::new(),
+            pool: ArrayVec::new(),
             state: State {
                 values: [0; Deck::VALUES],
                 pending: 0,
             },
         }
+    }
+
+    pub fn read_deck<D: Read>(&mut self, from: &mut D) -> io::Result<()> {
+        let mut bytes = [0u8; LONGEST_DECK];
+        let n = descriptors::read_all(from, &mut bytes)?;
+        self.take_deck(&bytes[..n]);
+        Ok(())
+    }
+
+    // The deck in hand is this one from now on.
+    fn take_deck(&mut self, deck: &[u8]) {
+        self.deck.clear();
+        let _ = self.deck.try_extend_from_slice(deck);
     }
 
     // Keeps the state that a call hands back.
@@ -78,25 +99,36 @@ impl Host {
     }
 
     // Lends a new pool.
-    fn start(&mut self, length: u32) -> Result<Answer, AllocError> {
+    fn start(&mut self, length: u32) -> Answer {
+        let length = length as usize;
         if length > LONGEST_POOL {
-            return Ok(Answer::Unreadable);
+            return Answer::Unreadable;
         }
-        self.pool = vec![in self.alloc; LENT; length as usize]?;
-        let called = engine::start(&self.deck, &mut self.pool);
-        Ok(match self.keep(called) {
+        self.pool.truncate(length);
+        self.pool.as_mut_slice().fill(LENT);
+        for _ in self.pool.len()..length {
+            let _ = self.pool.try_push(LENT);
+        }
+        let called = engine::start(&self.deck, self.pool.as_mut_slice());
+        match self.keep(called) {
             Ok(()) => Answer::Started,
             Err(why) => Answer::from(why),
-        })
+        }
     }
 
     fn input(&mut self, part: u32, numbers: &[i32]) -> Result<Answer, Declined> {
-        let called = engine::input(&self.deck, &mut self.pool, self.state, part, numbers);
+        let called = engine::input(
+            &self.deck,
+            self.pool.as_mut_slice(),
+            self.state,
+            part,
+            numbers,
+        );
         Ok(Answer::Added(self.keep(called)?))
     }
 
     fn commit(&mut self, place: u32) -> Result<Answer, Declined> {
-        let called = engine::commit(&self.deck, &mut self.pool, self.state, place);
+        let called = engine::commit(&self.deck, self.pool.as_mut_slice(), self.state, place);
         Ok(match self.keep(called)? {
             CommitAnswer::Applied(charge) => Answer::Applied(charge),
             CommitAnswer::Discarded(charge) => Answer::Discarded(charge),
@@ -104,7 +136,7 @@ impl Host {
     }
 
     fn settle(&mut self, budget: u32) -> Result<Answer, Declined> {
-        let called = engine::settle(&self.deck, &mut self.pool, self.state, budget);
+        let called = engine::settle(&self.deck, self.pool.as_mut_slice(), self.state, budget);
         Ok(match self.keep(called)? {
             SettleAnswer::Settled(commits) => Answer::Settled(commits),
             SettleAnswer::Spent(commits) => Answer::Spent(commits),
@@ -145,28 +177,23 @@ impl Host {
 
     // Lends the deck and a new buffer; what the converter makes is the deck from then on. Behind the answer comes each byte that
     // should be as it was lent and is not.
-    fn convert<W: Write + Drop, E: Write + Drop>(
-        &mut self,
-        length: u32,
-        out: &mut Output<W, E>,
-    ) -> io::Result<()> {
+    fn convert<W: Write + Drop, E: Write + Drop>(&mut self, length: u32, out: &mut Output<W, E>) {
+        let length = length as usize;
         if length > LONGEST_BUFFER {
             return out.print(Answer::Unreadable);
         }
-        let mut buffer = vec![in self.alloc; LENT_BYTE; length as usize]?;
-        let made = engine::convert(&self.deck, &mut buffer);
-        out.print(made.map_or_else(Answer::from, Answer::Converted))?;
+        let mut buffer = [LENT_BYTE; LONGEST_BUFFER];
+        let made = convert_into(&self.deck, &mut buffer[..length]);
+        out.print(made.map_or_else(Answer::from, Answer::Converted));
         let written = made.unwrap_or(0) as usize;
-        for (index, byte) in (0u32..).zip(&buffer).skip(written) {
+        for (index, byte) in (0u32..).zip(&buffer[..length]).skip(written) {
             if *byte != LENT_BYTE {
-                out.print(Answer::Buffer { index, byte: *byte })?;
+                out.print(Answer::Buffer { index, byte: *byte });
             }
         }
         if made.is_ok() {
-            buffer.truncate(written);
-            self.deck = buffer;
+            self.take_deck(&buffer[..written]);
         }
-        Ok(())
     }
 
     // Does what a line asks for, and prints what it answers.
@@ -174,9 +201,9 @@ impl Host {
         &mut self,
         command: Command,
         out: &mut Output<W, E>,
-    ) -> io::Result<()> {
+    ) {
         let answer = match command {
-            Command::Start(length) => Some(self.start(length)?),
+            Command::Start(length) => Some(self.start(length)),
             Command::Input { part, numbers } => Some(
                 self.input(part, numbers.as_slice())
                     .unwrap_or_else(Answer::from),
@@ -188,30 +215,26 @@ impl Host {
             ),
             Command::Convert(length) => return self.convert(length, out),
             Command::Value { index, value } => set(&mut self.state.values, index, value),
-            Command::Pool { index, value } => set(&mut self.pool, index, value),
+            Command::Pool { index, value } => set(self.pool.as_mut_slice(), index, value),
             Command::Pending(pending) => self.set_pending(pending),
         };
-        match answer {
-            Some(answer) => out.print(answer),
-            None => Ok(()),
+        if let Some(answer) = answer {
+            out.print(answer);
         }
     }
 
     // Prints what is left in memory: what is pending, and each number that is not 0.
-    pub fn print<W: Write + Drop, E: Write + Drop>(
-        &self,
-        out: &mut Output<W, E>,
-    ) -> io::Result<()> {
-        out.print(Answer::Pending(self.state.pending))?;
+    pub fn print<W: Write + Drop, E: Write + Drop>(&self, out: &mut Output<W, E>) {
+        out.print(Answer::Pending(self.state.pending));
         print_numbers(
             &self.state.values,
             &|index, value| Answer::Value { index, value },
             out,
-        )?;
+        );
         print_numbers(
             &self.pool,
             &|index, value| Answer::Pool { index, value },
             out,
-        )
+        );
     }
 }

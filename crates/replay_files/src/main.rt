@@ -5,7 +5,7 @@ use std::io::Write;
 use std::rt::{Env, Files};
 
 // The deck and the text that two arguments name, from the first on.
-fn replay_pair<R: Env + Files + AllocGlobal, W: Write + Drop, E: Write + Drop>(
+fn replay_pair<R: Env + Files, W: Write + Drop, E: Write + Drop>(
     rt: &R,
     first: usize,
     second: usize,
@@ -23,7 +23,7 @@ fn replay_pair<R: Env + Files + AllocGlobal, W: Write + Drop, E: Write + Drop>(
     };
     let _ = out.write_all(&name[..n]);
     let _ = out.write_all(b"\n");
-    replay_calls::replay(rt.alloc(), &mut deck, &mut calls, out, err);
+    replay_calls::replay(&mut deck, &mut calls, out, err);
 }
 
 fn main(rt: HostRuntime) {

@@ -29,6 +29,10 @@ text_of (Of.Pending pending) = codes "pending " ++ decimal pending
 text_of (Of.Value index value) = codes "value " ++ entry index value
 text_of (Of.Pool index value) = codes "pool " ++ entry index value
 
+-- with its newline
+abbrev pub line_of : Answer → List ℕ
+line_of a = text_of a ++ codes "\n"
+
 -- what a call that declines answers
 abbrev pub refusal_of : Declined → Answer
 refusal_of why = Of.Refused (number_of why.refusal) why.place

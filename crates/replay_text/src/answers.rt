@@ -1,9 +1,15 @@
 // The lines that `replay` prints.
 ghost use Rattle.std.specs.Prelude.{◌≡◌, Some};
-ghost use Rattle.replay_text.specs.Answers.{text_of, refusal_of};
+ghost use Rattle.std.specs.Fmt.InlineText.{inline_text};
+ghost use Rattle.std.specs.Fmt.Cut.{IsTextOrCut};
+ghost use Rattle.replay_text.specs.Answers.{text_of, line_of, refusal_of};
 
 use refusals::Declined;
 use std::fmt;
+use std::fmt::InlineText;
+
+// Room for any line: the longest has 30 bytes.
+pub const LINE: usize = 64;
 
 // What one line says.
 #[derive(Clone, Copy, Debug, PartialEq, Eq)]
@@ -44,6 +50,30 @@ impl fmt::Display for Answer {
             Answer::Value { index, value } => write!(f, "value {index} {value}"),
             Answer::Pool { index, value } => write!(f, "pool {index} {value}"),
         }
+    }
+}
+
+// An answer as a line, with its newline.
+#[derive(Clone, Copy)]
+struct Printed {
+    answer: Answer,
+}
+
+impl fmt::Display for Printed {
+    ghost output = { λ p. Some (line_of p.answer) };
+
+    fn fmt<W: fmt::Write>(&self, f: &mut fmt::Formatter<W>) -> fmt::Result {
+        let answer = self.answer;
+        writeln!(f, "{answer}")
+    }
+}
+
+impl Answer {
+    // The line that it is printed as, in one piece and without an allocation: a write that fails loses whole lines.
+    pub fn line(self) -> InlineText<LINE>
+        ensures { IsTextOrCut LINE (line_of self) (inline_text result) }
+    {
+        InlineText::of(Printed { answer: self })
     }
 }
 

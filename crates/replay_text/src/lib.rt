@@ -3,4 +3,5 @@
 
 pub mod answers;
 mod fields;
+pub mod kept;
 pub mod lines;

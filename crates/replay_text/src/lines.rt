@@ -4,7 +4,7 @@ ghost use Rattle.std.specs.Prelude.{◌≡◌, ◌↔◌, Ok, None, IsErr};
 ghost use Rattle.replay_text.specs.Lines.{IsEmpty, IsBroken};
 
 use crate::fields::{Field, Word};
-use arrayvec::ArrayVec;
+use crate::kept::Kept;
 
 // How many numbers behind the first are kept. An input takes 64: of a longer list no call looks at more than that it is longer.
 pub const KEPT: usize = 128;
@@ -17,35 +17,26 @@ const LETTERS: usize = 8;
 pub struct Unreadable;
 
 // What a line asks for.
-#[derive(Drop)]
+#[derive(Clone, Copy)]
 pub enum Command {
     Start(u32),
-    Input {
-        part: u32,
-        numbers: ArrayVec<i32, KEPT>,
-    },
+    Input { part: u32, numbers: Kept<i32, KEPT> },
     Commit(u32),
     Settle(u32),
     Section(u32),
     Convert(u32),
-    Value {
-        index: u32,
-        value: i32,
-    },
-    Pool {
-        index: u32,
-        value: i32,
-    },
+    Value { index: u32, value: i32 },
+    Pool { index: u32, value: i32 },
     Pending(u32),
 }
 
 // The fields of a line as far as they are read.
-#[derive(Drop)]
+#[derive(Clone, Copy)]
 pub struct Fields {
     word: Word,
     // The first field and the kept ones behind it, each once it has ended.
     first: Option<u32>,
-    numbers: ArrayVec<i32, KEPT>,
+    numbers: Kept<i32, KEPT>,
     // The field that goes on.
     field: Field,
 }
@@ -55,7 +46,7 @@ impl Fields {
         Fields {
             word,
             first: None,
-            numbers: ArrayVec::new(),
+            numbers: Kept::new(0),
             field: Field::default(),
         }
     }
@@ -66,7 +57,7 @@ impl Fields {
             self.first = Some(self.field.natural()?);
         } else {
             let number = self.field.signed()?;
-            let _ = self.numbers.try_push(number);
+            self.numbers.push(number);
         }
         self.field = Field::default();
         Ok(())
@@ -120,10 +111,10 @@ fn two_fields(word: Word, index: u32, value: i32) -> Result<Command, Unreadable>
 }
 
 // A line as far as it is read.
-#[derive(Drop)]
+#[derive(Clone, Copy)]
 pub enum Line {
     // The letters in front of the first space.
-    Word(ArrayVec<u8, LETTERS>),
+    Word(Kept<u8, LETTERS>),
     // What stands behind the first space.
     Fields(Fields),
     // No line, whatever follows.
@@ -135,7 +126,7 @@ impl Line {
     pub fn new() -> Line
         ensures { IsEmpty result }
     {
-        Line::Word(ArrayVec::new())
+        Line::Word(Kept::new(0))
     }
 
     // Reads one byte more.
@@ -151,7 +142,7 @@ impl Line {
                         Err(Unreadable) => Line::Unreadable,
                     };
                 } else {
-                    let _ = letters.try_push(b);
+                    letters.push(b);
                 }
             }
             Line::Fields(fields) => {
