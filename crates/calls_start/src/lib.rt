@@ -37,20 +37,20 @@ fn begin(pool: &mut [i32], state: State) -> Answered<()>
     }
 }
 
-// The start with a table of rules and a memo of lengths that are enough for the deck.
-pub fn start_with<const RULES: usize, const MEMO: usize>(
+// The start with a table of rules and a memo that are long enough for the deck.
+pub fn start_with(
     deck: &[u8],
     pool: &mut [i32],
+    rules: &mut [u64],
+    memo: &mut [u32],
 ) -> Answered<()>
-    requires { ZeroRules deck.now (replicate RULES 0) × ZeroMemo deck.now (replicate MEMO 0) × (RULES ≤ 512) × (MEMO ≤ 1024) }
+    requires { ZeroRules deck.now rules.old × ZeroMemo deck.now memo.old }
     ensures { reply_of (start_outcome result.answer) result.state pool.new
         ≡ Calls.start deck.now pool.old }
 {
-    let mut rules = [0u64; RULES];
     let mut parts = [0u64; passing::PART_TABLE];
-    let mut memo = [0u32; MEMO];
     let mut values = [0i32; Deck::VALUES];
-    match passing_tests::judge(deck, &mut rules, &mut parts, &mut memo, Form::New) {
+    match passing_tests::judge(deck, rules, &mut parts, memo, Form::New) {
         Err(why) => start_declined(why),
         Ok(passing) => {
             if !pool::good_length(pool.len()) {
@@ -59,11 +59,25 @@ pub fn start_with<const RULES: usize, const MEMO: usize>(
             let rig = Rig {
                 deck,
                 counts: passing.counts,
-                rules: &rules,
+                rules,
                 parts: &parts,
             };
             passing_tests::open_parts(&rig, &mut values);
             begin(pool, State { values, pending: 0 })
         }
     }
+}
+
+// The start with a table of rules and a memo of lengths that are enough for the deck.
+pub fn start_tabled<const RULES: usize, const MEMO: usize>(
+    deck: &[u8],
+    pool: &mut [i32],
+) -> Answered<()>
+    requires { ZeroRules deck.now (replicate RULES 0) × ZeroMemo deck.now (replicate MEMO 0) × (RULES ≤ 512) × (MEMO ≤ 1024) }
+    ensures { reply_of (start_outcome result.answer) result.state pool.new
+        ≡ Calls.start deck.now pool.old }
+{
+    let mut rules = [0u64; RULES];
+    let mut memo = [0u32; MEMO];
+    start_with(deck, pool, &mut rules, &mut memo)
 }

@@ -44,8 +44,23 @@ fn convert_passed(deck: &[u8], counts: Deck, buffer: &mut [u8]) -> Result<u32, D
     write(deck, counts, &numbers, buffer)
 }
 
+// The conversion with a table of rules and a memo that are long enough for the deck.
+pub fn convert_with(
+    deck: &[u8],
+    buffer: &mut [u8],
+    rules: &mut [u64],
+    memo: &mut [u32],
+) -> Result<u32, Declined>
+    requires { ZeroRules deck.now rules.old × ZeroMemo deck.now memo.old }
+    ensures { reply_of (convert_outcome result) buffer.new ≡ convert deck.now buffer.old }
+{
+    let mut parts = [0u64; passing::PART_TABLE];
+    let passing = passing_tests::judge(deck, rules, &mut parts, memo, Form::Old)?;
+    convert_passed(deck, passing.counts, buffer)
+}
+
 // The conversion with a table of rules and a memo of lengths that are enough for the deck.
-pub fn convert_with<const RULES: usize, const MEMO: usize>(
+pub fn convert_tabled<const RULES: usize, const MEMO: usize>(
     deck: &[u8],
     buffer: &mut [u8],
 ) -> Result<u32, Declined>
@@ -53,8 +68,6 @@ pub fn convert_with<const RULES: usize, const MEMO: usize>(
     ensures { reply_of (convert_outcome result) buffer.new ≡ convert deck.now buffer.old }
 {
     let mut rules = [0u64; RULES];
-    let mut parts = [0u64; passing::PART_TABLE];
     let mut memo = [0u32; MEMO];
-    let passing = passing_tests::judge(deck, &mut rules, &mut parts, &mut memo, Form::Old)?;
-    convert_passed(deck, passing.counts, buffer)
+    convert_with(deck, buffer, &mut rules, &mut memo)
 }

@@ -21,9 +21,9 @@ pub fn check(deck: &[u8]) -> Result<CheckAnswer, Declined>
     ensures { check_outcome result ≡ Calls.check deck.now }
 {
     if deck_reading::few_rules(deck) {
-        calls_check::check_with::<SHORT_RULE_TABLE, SHORT_MEMO>(deck)
+        calls_check::check_tabled::<SHORT_RULE_TABLE, SHORT_MEMO>(deck)
     } else {
-        calls_check::check_with::<RULE_TABLE, MEMO>(deck)
+        calls_check::check_tabled::<RULE_TABLE, MEMO>(deck)
     }
 }
 
@@ -34,9 +34,9 @@ pub fn section<'a>(deck: &'a [u8], number: u32, refusal: &mut u32, place: &mut u
         × LiesAt deck.entry.ref_ptr result.ref_ptr (Calls.section_from deck.now number) }
 {
     if deck_reading::few_rules(deck) {
-        calls_section::section_with::<SHORT_RULE_TABLE, SHORT_MEMO>(deck, number, refusal, place)
+        calls_section::section_tabled::<SHORT_RULE_TABLE, SHORT_MEMO>(deck, number, refusal, place)
     } else {
-        calls_section::section_with::<RULE_TABLE, MEMO>(deck, number, refusal, place)
+        calls_section::section_tabled::<RULE_TABLE, MEMO>(deck, number, refusal, place)
     }
 }
 
@@ -46,9 +46,9 @@ pub fn start(deck: &[u8], pool: &mut [i32]) -> Answered<()>
         ≡ Calls.start deck.now pool.old }
 {
     if deck_reading::few_rules(deck) {
-        calls_start::start_with::<SHORT_RULE_TABLE, SHORT_MEMO>(deck, pool)
+        calls_start::start_tabled::<SHORT_RULE_TABLE, SHORT_MEMO>(deck, pool)
     } else {
-        calls_start::start_with::<RULE_TABLE, MEMO>(deck, pool)
+        calls_start::start_tabled::<RULE_TABLE, MEMO>(deck, pool)
     }
 }
 
@@ -144,8 +144,8 @@ pub fn convert(deck: &[u8], buffer: &mut [u8]) -> Result<u32, Declined>
         ≡ Conversion.convert deck.now buffer.old }
 {
     if deck_reading::few_rules(deck) {
-        conversion_call::convert_with::<SHORT_RULE_TABLE, SHORT_MEMO>(deck, buffer)
+        conversion_call::convert_tabled::<SHORT_RULE_TABLE, SHORT_MEMO>(deck, buffer)
     } else {
-        conversion_call::convert_with::<RULE_TABLE, MEMO>(deck, buffer)
+        conversion_call::convert_tabled::<RULE_TABLE, MEMO>(deck, buffer)
     }
 }

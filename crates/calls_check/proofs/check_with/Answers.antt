@@ -6,12 +6,12 @@ use Rattle.calls_check.specs.Laws.CheckAnswers.{check-refused, check-whole}
 use Rattle.calls_check.proofs.check_with.Goals as goal
 
 pub returns-in_err-passing : goal.returns-in_err-passing
-returns-in_err-passing g c =
+returns-in_err-passing c =
     rw (handed_on c.from_residual.ensures.1) (sym (check-refused _ _ _ c.in_err-passing.ensures))
 
 pub overflow_cast-result : goal.overflow_cast-result
-overflow_cast-result g c = let w = c.in_ok-passing.ensures in
+overflow_cast-result c = let w = c.in_ok-passing.ensures in
     omega (arith, w.tabled.counts.channels, w.tabled.counts.formed.channels)
 
 pub returns : goal.returns
-returns g c = sym (check-whole _ _ _ _ _ _ c.in_ok-passing.ensures)
+returns c = sym (check-whole _ _ _ _ _ _ c.in_ok-passing.ensures)

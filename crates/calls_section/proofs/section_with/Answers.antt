@@ -22,18 +22,18 @@ lent s k r t from places h (e, at) =
     (ap (λ l. section_of l 0 0) e ∙ sym h.is, record { block = at.block; offset = omega (arith, at.offset, h.begins) })
 
 pub returns-in-Err : goal.returns-in-Err
-returns-in-Err g c = empty _ _ _ _ _ _ _ refl (omega arith) c.number.ensures (section-refused _ _ _ _ c.in-Err.ensures)
+returns-in-Err c = empty _ _ _ _ _ _ _ refl (omega arith) c.number.ensures (section-refused _ _ _ _ c.in-Err.ensures)
 
 pub returns-then-number-gt2 : goal.returns-then-number-gt2
-returns-then-number-gt2 g c =
+returns-then-number-gt2 c =
     empty _ _ _ _ _ _ _ refl (omega arith) c.number-then-number-gt2.ensures
     (section-unknown _ _ _ _ _ _ c.in-Ok.ensures _ c.if-number-gt2.true)
 
 pub stretch-requires : goal.stretch-requires
-stretch-requires g c =
+stretch-requires c =
     let o = section-order _ _ _ _ _ _ c.in-Ok.ensures in
     (o.0, o.1, omega (arith, c.if-number-gt2.false))
 
 pub returns-else-number-gt2 : goal.returns-else-number-gt2
-returns-else-number-gt2 g c =
+returns-else-number-gt2 c =
     lent _ _ _ _ _ _ (section-known _ _ _ _ _ _ c.in-Ok.ensures _ (omega (arith, c.if-number-gt2.false))) c.stretch.ensures

@@ -8,12 +8,12 @@ use Rattle.calls_start.specs.Laws.StartAnswers.{reply-is, start-declined, start-
 use Rattle.calls_start.proofs.start_with.Goals as goal
 
 pub returns-in-Err : goal.returns-in-Err
-returns-in-Err g c =
+returns-in-Err c =
     let r = c.start_declined.ensures in
     reply-is (ap start_outcome r.0) r.1 r.2 refl ∙ sym (start-declined _ _ _ _ c.in-Err.ensures)
 
 pub returns-then-not-good_length : goal.returns-then-not-good_length
-returns-then-not-good_length g c =
+returns-then-not-good_length c =
     let w = c.in-Ok.ensures in
     let r = c.start_declined-then-not-good_length.ensures in
     reply-is (ap start_outcome (r.0 ∙ ap Err c.unplaced.ensures)) r.1 r.2 refl
@@ -21,10 +21,10 @@ returns-then-not-good_length g c =
 
 pub open_parts-requires : goal.open_parts-requires
 unfolding zeros
-open_parts-requires g c = let w = c.in-Ok.ensures in (parts-known _ _ _ _ w.tabled, refl)
+open_parts-requires c = let w = c.in-Ok.ensures in (parts-known _ _ _ _ w.tabled, refl)
 
 pub returns-else-not-good_length : goal.returns-else-not-good_length
-returns-else-not-good_length g c =
+returns-else-not-good_length c =
     let w = c.in-Ok.ensures in
     let b = c.begin.ensures in
     reply-is (ap start_outcome b.0) (ap (λ k. k.values) b.1 ∙ c.open_parts.ensures) (ap (λ k. k.pending) b.1) b.2

@@ -6,8 +6,8 @@ use Rattle.conversion_call.specs.Laws.Answers.{passed-old, convert-declined}
 use Rattle.conversion_call.proofs.convert_with.Goals as goal
 
 pub convert_passed-requires : goal.convert_passed-requires
-convert_passed-requires g c = passed-old _ _ _ _ _ _ c.in_ok-passing.ensures
+convert_passed-requires c = passed-old _ _ _ _ _ _ c.in_ok-passing.ensures
 
 pub returns-in_err-passing : goal.returns-in_err-passing
-returns-in_err-passing g c =
+returns-in_err-passing c =
     convert-declined _ _ (ap convert_outcome (handed_on c.from_residual.ensures.1)) c.in_err-passing.ensures

@@ -3,12 +3,12 @@ use native.Mathlib.Omega.{arith}
 use Rattle.passing.proofs.Laws.Tables.{zero-rules, zero-memo}
 use Rattle.engine.proofs.check.Goals as goal
 
-pub check_with-requires : goal.check_with-requires
-check_with-requires c =
+pub check_tabled-requires : goal.check_tabled-requires
+check_tabled-requires c =
     let few = c.few_rules.ensures in
     (zero-rules _ few c.if-few_rules.true, zero-memo _ few c.if-few_rules.true, omega arith, omega arith)
 
-pub check_with-requires-else-few_rules : goal.check_with-requires-else-few_rules
-check_with-requires-else-few_rules c =
+pub check_tabled-requires-else-few_rules : goal.check_tabled-requires-else-few_rules
+check_tabled-requires-else-few_rules c =
     let few = c.few_rules.ensures in
     (zero-rules _ few c.if-few_rules.false, zero-memo _ few c.if-few_rules.false, omega arith, omega arith)

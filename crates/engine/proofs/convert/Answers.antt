@@ -3,12 +3,12 @@ use native.Mathlib.Omega.{arith}
 use Rattle.passing.proofs.Laws.Tables.{zero-rules, zero-memo}
 use Rattle.engine.proofs.convert.Goals as goal
 
-pub convert_with-requires : goal.convert_with-requires
-convert_with-requires c =
+pub convert_tabled-requires : goal.convert_tabled-requires
+convert_tabled-requires c =
     let few = c.few_rules.ensures in
     (zero-rules _ few c.if-few_rules.true, zero-memo _ few c.if-few_rules.true, omega arith, omega arith)
 
-pub convert_with-requires-else-few_rules : goal.convert_with-requires-else-few_rules
-convert_with-requires-else-few_rules c =
+pub convert_tabled-requires-else-few_rules : goal.convert_tabled-requires-else-few_rules
+convert_tabled-requires-else-few_rules c =
     let few = c.few_rules.ensures in
     (zero-rules _ few c.if-few_rules.false, zero-memo _ few c.if-few_rules.false, omega arith, omega arith)

@@ -3,12 +3,12 @@ use native.Mathlib.Omega.{arith}
 use Rattle.passing.proofs.Laws.Tables.{zero-rules, zero-memo}
 use Rattle.engine.proofs.section.Goals as goal
 
-pub section_with-requires : goal.section_with-requires
-section_with-requires c =
+pub section_tabled-requires : goal.section_tabled-requires
+section_tabled-requires c =
     let few = c.few_rules.ensures in
     (zero-rules _ few c.if-few_rules.true, zero-memo _ few c.if-few_rules.true, omega arith, omega arith)
 
-pub section_with-requires-else-few_rules : goal.section_with-requires-else-few_rules
-section_with-requires-else-few_rules c =
+pub section_tabled-requires-else-few_rules : goal.section_tabled-requires-else-few_rules
+section_tabled-requires-else-few_rules c =
     let few = c.few_rules.ensures in
     (zero-rules _ few c.if-few_rules.false, zero-memo _ few c.if-few_rules.false, omega arith, omega arith)
