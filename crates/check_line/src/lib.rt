@@ -1,78 +1,65 @@
 // The line that the program prints for a deck. Document 01, "Calls"; specs/Line.antt of `calls` has its definition.
 #![tactic(auto)]
 
-ghost use Rattle.std.specs.Prelude.{◌≡◌, Some, IsTrue, OnOk};
-ghost use Rattle.std.specs.Fmt.{WritesOnOk};
+ghost use Rattle.std.specs.Prelude.{◌≡◌, take, IsTrue, OnOk};
 ghost use Rattle.std.specs.Io.KnownBytes.{Appends};
-ghost use Rattle.refusals.specs.Outcome.{refused, accepted};
+ghost use Rattle.descriptors.specs.Counts.{IsPrefixLen};
 ghost use Rattle.calls.specs.Line.{line as Line·line};
-ghost use Rattle.calls.specs.Calls.{check, passed};
+ghost use Rattle.calls.specs.Calls.{check};
 ghost use Rattle.calls.specs.Answers.{check_outcome};
 ghost use Rattle.check_line.specs.Reports.{Reports};
 
 use calls::CheckAnswer;
 use deck::Deck;
 use refusals::Declined;
+use std::io;
 use std::io::{Read, Write};
-use std::{fmt, io};
 
-// What check answers. It is printed as a line, with its newline.
-#[derive(Clone, Copy, Debug, PartialEq, Eq)]
-pub struct CheckLine {
-    pub answer: Result<CheckAnswer, Declined>,
-}
-
-// The line of a deck that passes, and of a refusal.
-fn write_passed<W: fmt::Write>(
-    f: &mut fmt::Formatter<W>,
-    channels: u32,
-    rules: u32,
-    parts: u32,
-    charge: u32,
-) -> fmt::Result
-    ensures { WritesOnOk W.write_str_gives f.old result (Line·line (accepted (passed channels rules parts charge))) f.new }
+// Puts the line of an answer at the start of a buffer, and answers its length.
+fn put_line(answer: Result<CheckAnswer, Declined>, out: &mut [u8; 64]) -> usize
+    ensures prefix_len { IsPrefixLen result out.new }
+    ensures out_after { take result out.new ≡ Line·line (check_outcome answer) }
 {
-    write!(f, "passed {channels} {rules} {parts} {charge}\n")
-}
-
-fn write_refused<W: fmt::Write>(f: &mut fmt::Formatter<W>, number: u32, place: u32) -> fmt::Result
-    ensures { WritesOnOk W.write_str_gives f.old result (Line·line (refused number place)) f.new }
-{
-    write!(f, "refused {number} {place}\n")
-}
-
-impl fmt::Display for CheckLine {
-    ghost output = { λ l. Some (Line·line (check_outcome l.answer)) };
-
-    fn fmt<W: fmt::Write>(&self, f: &mut fmt::Formatter<W>) -> fmt::Result {
-        match self.answer {
-            Ok(passed) => write_passed(
-                f,
-                passed.channels,
-                passed.rules,
-                passed.parts,
-                passed.charge,
-            ),
-            Err(why) => write_refused(f, why.refusal.number(), why.place),
+    match answer {
+        Ok(
+            CheckAnswer {
+                channels,
+                rules,
+                parts,
+                charge,
+            },
+        ) => {
+            let a = decimal::put_text(out, 0, b"passed");
+            let b = decimal::put_number(out, a, channels);
+            let c = decimal::put_number(out, b, rules);
+            let d = decimal::put_number(out, c, parts);
+            let e = decimal::put_number(out, d, charge);
+            decimal::put_byte(out, e, b'\n')
+        }
+        Err(why) => {
+            let a = decimal::put_text(out, 0, b"refused");
+            let b = decimal::put_number(out, a, why.refusal.number());
+            let c = decimal::put_number(out, b, why.place);
+            decimal::put_byte(out, c, b'\n')
         }
     }
 }
 
-// Checks a deck: the line of the answer.
-pub fn check_line(deck: &[u8]) -> CheckLine
-    ensures { Line·line (check_outcome result.answer) ≡ Line·line (check deck.now) }
+// Checks a deck, puts the line of the answer at the start of a buffer, and answers its length.
+pub fn check_line(deck: &[u8], out: &mut [u8; 64]) -> usize
+    ensures prefix_len { IsPrefixLen result out.new }
+    ensures out_after { take result out.new ≡ Line·line (check deck.now) }
 {
-    CheckLine {
-        answer: engine::check(deck),
-    }
+    put_line(engine::check(deck), out)
 }
 
 // Prints the line of a deck.
 fn print<W: Write>(deck: &[u8], out: &mut W) -> io::Result<()>
     ensures { OnOk result (Appends (W.contents out.old) (W.contents out.new) (Line·line (check deck.now))) }
 {
-    let line = check_line(deck);
-    write!(out, "{line}")
+    let mut text = [0u8; 64];
+    let n = check_line(deck, &mut text);
+    out.write_all(&text[..n])
 }
 
 // Reads a deck and prints the line of its check, and answers whether it did. One byte more than the longest deck that can pass already

@@ -1,6 +1,5 @@
 // Puts text into a buffer: a byte, bytes, a number in decimal. Each function takes the place to start at and answers the place
-// behind what it put. No program needs the buffer: what they print is `Display`, proved by the same `digits`; the laws of `check_line` on
-// what is put and the edit of a digit speak of these functions.
+// behind what it put.
 #![tactic(auto)]
 
 ghost use Rattle.std.specs.Prelude.{[], ◌∷◌, ◌+◌, ◌≤◌, ◌<◌, length};

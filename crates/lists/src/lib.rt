@@ -7,14 +7,14 @@ ghost use Rattle.lists.specs.Bits.{NextIn, RestOf};
 ghost use Rattle.lists.specs.Iterating.{MemberGiven, lowest_of};
 
 // The lowest number of a set, or 64 where there is none.
-fn lowest(set: u64) -> usize
+pub fn lowest(set: u64) -> usize
     ensures { NextIn set 0 result }
 {
     set.trailing_zeros() as usize
 }
 
 // A set without its lowest number.
-fn rest(set: u64) -> u64
+pub fn rest(set: u64) -> u64
     ensures { RestOf set result }
 {
     if set == 0 {
