@@ -67,13 +67,15 @@ fn lowest_cycle(edges: &[u64], channels: usize) -> Option<usize>
     ensures { FoundBelow channels
         (first_or channels (select (reaches_itself channels (edge_at edges.now)) (below channels))) result }
 {
-    for start in 0..channels {
+    let mut found = None;
+    'search: for start in 0..channels {
         let mut seen: u64 = 0;
         let mut fresh: u64 = 1u64 << start;
         for _ in 0..channels {
             let next = spread(edges, channels, fresh, seen);
             if (next >> start) % 2 == 1 {
-                return Some(start);
+                found = Some(start);
+                break 'search;
             }
             if next == seen {
                 break;
@@ -82,7 +84,7 @@ fn lowest_cycle(edges: &[u64], channels: usize) -> Option<usize>
             seen = next;
         }
     }
-    None
+    found
 }
 
 // The lowest channel of the tables that can reach itself, if one can.

@@ -11,31 +11,35 @@ use Rattle.graph.proofs.lowest_cycle.Goals as goal
 use Rattle.graph.proofs.lowest_cycle.Goals.{else-loop-test, then-loop-test+else-next-start-eq1+then-next-seen}
 
 pub loop-init : goal.loop-init
-loop-init c = searching-none _ _ _ _ (bit_shifted 64 c.loop-start.start (omega arith))
+loop-init c = (c.search.invariant.0, searching-none _ _ _ _ (bit_shifted 64 c.search.start (omega arith)))
 
 pub loop-preserved : goal.loop-preserved
 loop-preserved c =
-    searching-more c.loop.invariant c.loop-start-test.true c.spread-next.ensures (bit-no _ _ c.if-next-start-eq1.false)
+    let made = c.loop.invariant in
+    (made.0, searching-more made.1 c.search-test.true c.spread-next.ensures (bit-no _ _ c.if-next-start-eq1.false))
 
-pub loop-start-preserved : goal.loop-start-preserved
-loop-start-preserved c =
+pub search-preserved : goal.search-preserved
+search-preserved c =
     let h = c.loop.invariant in
-    let l = c.loop-start-test.true in
-    below_more _ _ c.loop-start.invariant
-    (elim c.loop-test.branch [
-      | else-loop-test w ↦ searching-miss h l (omega arith)
-      | then-loop-test+else-next-start-eq1+then-next-seen w ↦ searching-closed h l w.spread-next.ensures w.if-next-seen.true
-    ])
+    let l = c.search-test.true in (
+      h.0,
+      below_more _ _ c.search.invariant.1
+          (elim c.loop-test.branch [
+            | else-loop-test w ↦ searching-miss h.1 l (omega arith)
+            | then-loop-test+else-next-start-eq1+then-next-seen w ↦ searching-closed h.1 l w.spread-next.ensures w.if-next-seen.true
+          ]),
+    )
 
 pub returns-then-next-start-eq1 : goal.returns-then-next-start-eq1
 returns-then-next-start-eq1 c =
-    let l = c.loop-start-test.true in (
+    let l = c.search-test.true in (
       sym (first-is _ _ _ (omega arith)
-          (λ m. searching-hit c.loop.invariant m c.spread-next.ensures (bit-yes _ _ c.if-next-start-eq1.true))
-          c.loop-start.invariant),
+          (λ m. searching-hit c.loop.invariant.1 m c.spread-next.ensures (bit-yes _ _ c.if-next-start-eq1.true))
+          c.search.invariant.1),
       l,
     )
 
-pub returns : goal.returns
-returns c =
-    sym (first-is _ _ c.args.channels (omega arith) (λ l. absurd (omega arith)) (λ k l. c.loop-start.invariant k (omega arith)))
+pub returns-after-search : goal.returns-after-search
+returns-after-search c =
+    rw c.search.invariant.0
+    (sym (first-is _ _ c.args.channels (omega arith) (λ l. absurd (omega arith)) (λ k l. c.search.invariant.1 k (omega arith))))

@@ -2,6 +2,7 @@
 -- have not led back to it. Assumes nothing.
 use mathlib.Core.Path.{◌≡◌}
 use mathlib.Core.Bool.{false}
+use Rattle.std.specs.Prelude.{None}
 use Prim.Native.Nat.{ℕ, ◌<◌}
 use Rattle.graph.specs.Graph.{reaches_itself}
 use Rattle.graph.specs.Masks.{edge_at}
@@ -9,7 +10,7 @@ use Rattle.graph.proofs.Searching.{Searching}
 use Rattle.graph.proofs.lowest_cycle.Given as goal
 
 abbrev pub invariant-loop : goal.invariant-loop
-invariant-loop l = Searching l.channels l.edges l.start l.seen l.fresh l.counter
+invariant-loop l = (l.found ≡ None) × Searching l.channels l.edges l.start l.seen l.fresh l.counter
 
-abbrev pub invariant-loop-start : goal.invariant-loop-start
-invariant-loop-start l = (k : ℕ) → k < l.start → reaches_itself l.channels (edge_at l.edges) k ≡ false
+abbrev pub invariant-search : goal.invariant-search
+invariant-search l = (l.found ≡ None) × ((k : ℕ) → k < l.start → reaches_itself l.channels (edge_at l.edges) k ≡ false)
