@@ -60,6 +60,19 @@ fn print_numbers<F: Fn(u32, i32) -> Answer, W: Write + Drop, E: Write + Drop>(
     }
 }
 
+// Prints each byte from a place on that is not as it was lent.
+fn print_changed<W: Write + Drop, E: Write + Drop>(
+    buffer: &[u8],
+    from: usize,
+    out: &mut Output<W, E>,
+) {
+    for (index, byte) in (0u32..).zip(buffer).skip(from) {
+        if *byte != LENT_BYTE {
+            out.print(Answer::Buffer { index, byte: *byte });
+        }
+    }
+}
+
 fn convert_into(deck: &[u8], buffer: &mut [u8]) -> Result<u32, Declined>
     ensures { Fits result (length buffer.old) }
 {
@@ -186,11 +199,7 @@ impl Host {
         let made = convert_into(&self.deck, &mut buffer[..length]);
         out.print(made.map_or_else(Answer::from, Answer::Converted));
         let written = made.unwrap_or(0) as usize;
-        for (index, byte) in (0u32..).zip(&buffer[..length]).skip(written) {
-            if *byte != LENT_BYTE {
-                out.print(Answer::Buffer { index, byte: *byte });
-            }
-        }
+        print_changed(&buffer[..length], written, out);
         if made.is_ok() {
             self.take_deck(&buffer[..written]);
         }

@@ -1,18 +1,37 @@
 // Output that waits until there is no room for more of it.
+ghost use Rattle.std.specs.Prelude.{◌≡◌, ◌++◌};
 
 use arrayvec::ArrayVec;
 use replay_text::answers::Answer;
+use std::fmt;
 use std::io::{Error, Write};
 
 // Bytes of output that may wait.
 const ROOM: usize = 65_536;
+
+// What waits. A text that does not fit is left out.
+#[derive(Drop)]
+struct Waiting {
+    bytes: ArrayVec<u8, ROOM>,
+}
+
+impl fmt::Write for Waiting {
+    ghost write_str_gives = { λ before text after. after.bytes.items ≡ before.bytes.items ++ text };
+
+    fn write_str(&mut self, text: &str) -> fmt::Result {
+        match self.bytes.try_extend_from_slice(text.as_bytes()) {
+            Ok(()) => Ok(()),
+            Err(_) => Err(fmt::Error),
+        }
+    }
+}
 
 // What waits goes to `to`; where that fails, `err` is told, and the bytes are lost. Nothing is allocated.
 #[derive(Drop)]
 pub struct Output<W: Write + Drop, E: Write + Drop> {
     to: W,
     err: E,
-    waiting: ArrayVec<u8, ROOM>,
+    waiting: Waiting,
 }
 
 impl<W: Write + Drop, E: Write + Drop> Output<W, E> {
@@ -20,17 +39,19 @@ impl<W: Write + Drop, E: Write + Drop> Output<W, E> {
         Output {
             to,
             err,
-            waiting: ArrayVec::new(),
+            waiting: Waiting {
+                bytes: ArrayVec::new(),
+            },
         }
     }
 
     // Prints a line. It is written in one piece, so that a write that fails loses whole lines.
     pub fn print(&mut self, answer: Answer) {
-        let line = answer.line();
-        let bytes = line.as_str().as_bytes();
-        if self.waiting.try_extend_from_slice(bytes).is_err() {
+        let whole = self.waiting.bytes.len();
+        if fmt::Write::writeln(&mut self.waiting, answer).is_err() {
+            self.waiting.bytes.truncate(whole);
             self.flush();
-            let _ = self.waiting.try_extend_from_slice(bytes);
+            let _ = fmt::Write::writeln(&mut self.waiting, answer);
         }
     }
 
@@ -41,9 +62,9 @@ impl<W: Write + Drop, E: Write + Drop> Output<W, E> {
 
     // Writes what waits.
     pub fn flush(&mut self) {
-        if let Err(why) = self.to.write_all(self.waiting.as_slice()) {
+        if let Err(why) = self.to.write_all(self.waiting.bytes.as_slice()) {
             self.tell(b"cannot write the answers", &why);
         }
-        self.waiting.clear();
+        self.waiting.bytes.clear();
     }
 }
