@@ -1,5 +1,5 @@
 // The memory that a host holds and lends, and what a line does to it.
-ghost use Rattle.std.specs.Prelude.{◌≡◌, ◌≤◌, length};
+ghost use Rattle.std.specs.Prelude.{◌≤◌, length};
 ghost use Rattle.conversion.specs.Fits.{Fits};
 
 use crate::output::Output;
@@ -60,15 +60,20 @@ fn print_numbers<F: Fn(u32, i32) -> Answer, W: Write + Drop, E: Write + Drop>(
     }
 }
 
-// Prints each byte from a place on that is not as it was lent.
+// Prints each byte from one place up to another that is not as it was lent.
 fn print_changed<W: Write + Drop, E: Write + Drop>(
-    buffer: &[u8],
+    buffer: &[u8; LONGEST_BUFFER],
     from: usize,
+    end: usize,
     out: &mut Output<W, E>,
-) {
-    for (index, byte) in (0u32..).zip(buffer).skip(from) {
-        if *byte != LENT_BYTE {
-            out.print(Answer::Buffer { index, byte: *byte });
+)
+    requires { end ≤ LONGEST_BUFFER }
+{
+    for index in from..end {
+        let byte = buffer[index];
+        if byte != LENT_BYTE {
+            let index = index as u32;
+            out.print(Answer::Buffer { index, byte });
         }
     }
 }
@@ -111,17 +116,23 @@ impl Host {
         called.answer
     }
 
-    // Lends a new pool.
-    fn start(&mut self, length: u32) -> Answer {
-        let length = length as usize;
-        if length > LONGEST_POOL {
-            return Answer::Unreadable;
-        }
+    // A new pool of so many numbers.
+    fn lend_pool(&mut self, length: usize)
+        requires { length ≤ LONGEST_POOL }
+    {
         self.pool.truncate(length);
         self.pool.as_mut_slice().fill(LENT);
         for _ in self.pool.len()..length {
             let _ = self.pool.try_push(LENT);
         }
+    }
+
+    fn start(&mut self, length: u32) -> Answer {
+        let length = length as usize;
+        if length > LONGEST_POOL {
+            return Answer::Unreadable;
+        }
+        self.lend_pool(length);
         let called = engine::start(&self.deck, self.pool.as_mut_slice());
         match self.keep(called) {
             Ok(()) => Answer::Started,
@@ -199,7 +210,7 @@ impl Host {
         let made = convert_into(&self.deck, &mut buffer[..length]);
         out.print(made.map_or_else(Answer::from, Answer::Converted));
         let written = made.unwrap_or(0) as usize;
-        print_changed(&buffer[..length], written, out);
+        print_changed(&buffer, written, length, out);
         if made.is_ok() {
             self.take_deck(&buffer[..written]);
         }
