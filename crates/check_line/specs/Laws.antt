@@ -10,7 +10,8 @@ use Rattle.calls.specs.Calls.{passed}
 use Rattle.calls.specs.Line.{ascii, words, line}
 
 -- a line that was put is counted
-pub put-counts : {before text after : List ℕ} {end : ℕ} → Put before 0 text after end → end ≤ length after → IsPrefixLen end after
+pub put-counts : {before text after : List ℕ} {end : ℕ}
+    → Put before 0 text after end → end ≤ length after → IsPrefixLen end after
 put-counts p h = (h, sym (length-take-le _ _ h))
 
 -- the line of a deck that passes, and of a refusal, as it is put
