@@ -3,7 +3,6 @@ ghost use Rattle.std.specs.Prelude.{◌≤◌, length};
 ghost use Rattle.conversion.specs.Fits.{Fits};
 
 use crate::output::Output;
-use arrayvec::ArrayVec;
 use calls::{Answered, CommitAnswer, SettleAnswer};
 use deck::Deck;
 use pool::State;
@@ -14,10 +13,10 @@ use std::io;
 use std::io::{Read, Write};
 
 // The longest deck that is read. One byte more than the longest old deck already shows the fault, and there is room for more.
-const LONGEST_DECK: usize = 50_000;
+pub const LONGEST_DECK: usize = 50_000;
 
 // The longest pool that a line may lend.
-const LONGEST_POOL: usize = 700_000;
+pub const LONGEST_POOL: usize = 700_000;
 
 // What every number of a pool is before a start.
 const LENT: i32 = 7;
@@ -28,11 +27,25 @@ const LONGEST_BUFFER: usize = 50_000;
 // What every byte of a buffer is before a conversion.
 const LENT_BYTE: u8 = 7;
 
-// What a host holds and lends. Nothing of it is allocated, so that no run is ever out of memory.
+// How many bytes the deck has, and how many numbers the pool: never more than there is room for.
+#[derive(Drop)]
+struct DeckLen {
+    count: usize,
+    ghost fits: { count ≤ 50000 },
+}
+
+#[derive(Drop)]
+struct PoolLen {
+    count: usize,
+    ghost fits: { count ≤ 700000 },
+}
+
+// What a host holds besides the bytes and numbers that it lends: these stand in two arrays, of which the first are the deck and the pool.
+// Nothing of it is allocated, so that no run is ever out of memory.
 #[derive(Drop)]
 pub struct Host {
-    deck: ArrayVec<u8, LONGEST_DECK>,
-    pool: ArrayVec<i32, LONGEST_POOL>,
+    deck_len: DeckLen,
+    pool_len: PoolLen,
     state: State,
 }
 
@@ -78,6 +91,33 @@ fn print_changed<W: Write + Drop, E: Write + Drop>(
     }
 }
 
+// How many bytes a section has, or the answer that there is none. The two lent numbers are the published call's.
+fn section_len(deck: &[u8], number: u32) -> Result<u32, Answer> {
+    let (mut refusal, mut place) = (0, 0);
+    let section = engine::section(deck, number, &mut refusal, &mut place);
+    if refusal != 0 {
+        return Err(Answer::Refused {
+            number: refusal,
+            place,
+        });
+    }
+    // A deck has fewer than 2^32 bytes.
+    Ok(u32::try_from(section.len()).unwrap_or(u32::MAX))
+}
+
+// The sections follow each other from the deck's first byte on, so one begins where those in front of it end.
+fn section(deck: &[u8], number: u32) -> Result<Answer, Answer> {
+    let length = section_len(deck, number)?;
+    let mut from = 0u32;
+    for earlier in 0..number {
+        from = from.saturating_add(section_len(deck, earlier)?);
+    }
+    Ok(Answer::Section {
+        from,
+        to: from.saturating_add(length),
+    })
+}
+
 fn convert_into(deck: &[u8], buffer: &mut [u8]) -> Result<u32, Declined>
     ensures { Fits result (length buffer.old) }
 {
@@ -88,8 +128,8 @@ impl Host {
     // Before the first start the state is zeros and the pool has length 0.
     pub fn new() -> Host {
         Host {
-            deck: ArrayVec::new(),
-            pool: ArrayVec::new(),
+            deck_len: DeckLen { count: 0 },
+            pool_len: PoolLen { count: 0 },
             state: State {
                 values: [0; Deck::VALUES],
                 pending: 0,
@@ -97,17 +137,14 @@ impl Host {
         }
     }
 
-    pub fn read_deck<D: Read>(&mut self, from: &mut D) -> io::Result<()> {
-        let mut bytes = [0u8; LONGEST_DECK];
-        let n = descriptors::read_all(from, &mut bytes)?;
-        self.take_deck(&bytes[..n]);
+    pub fn read_deck<D: Read>(
+        &mut self,
+        deck: &mut [u8; LONGEST_DECK],
+        from: &mut D,
+    ) -> io::Result<()> {
+        let count = descriptors::read_all(from, deck)?;
+        self.deck_len = DeckLen { count };
         Ok(())
-    }
-
-    // The deck in hand is this one from now on.
-    fn take_deck(&mut self, deck: &[u8]) {
-        self.deck.clear();
-        let _ = self.deck.try_extend_from_slice(deck);
     }
 
     // Keeps the state that a call hands back.
@@ -116,81 +153,46 @@ impl Host {
         called.answer
     }
 
-    // A new pool of so many numbers.
-    fn lend_pool(&mut self, length: usize)
-        requires { length ≤ LONGEST_POOL }
-    {
-        self.pool.truncate(length);
-        self.pool.as_mut_slice().fill(LENT);
-        for _ in self.pool.len()..length {
-            let _ = self.pool.try_push(LENT);
-        }
-    }
-
-    fn start(&mut self, length: u32) -> Answer {
-        let length = length as usize;
-        if length > LONGEST_POOL {
+    // Lends a new pool.
+    fn start(&mut self, deck: &[u8], pool: &mut [i32; LONGEST_POOL], length: u32) -> Answer {
+        let count = length as usize;
+        if count > LONGEST_POOL {
             return Answer::Unreadable;
         }
-        self.lend_pool(length);
-        let called = engine::start(&self.deck, self.pool.as_mut_slice());
+        self.pool_len = PoolLen { count };
+        let lent = &mut pool[..count];
+        lent.fill(LENT);
+        let called = engine::start(deck, lent);
         match self.keep(called) {
             Ok(()) => Answer::Started,
             Err(why) => Answer::from(why),
         }
     }
 
-    fn input(&mut self, part: u32, numbers: &[i32]) -> Result<Answer, Declined> {
-        let called = engine::input(
-            &self.deck,
-            self.pool.as_mut_slice(),
-            self.state,
-            part,
-            numbers,
-        );
+    fn input(
+        &mut self,
+        deck: &[u8],
+        pool: &mut [i32],
+        part: u32,
+        numbers: &[i32],
+    ) -> Result<Answer, Declined> {
+        let called = engine::input(deck, pool, self.state, part, numbers);
         Ok(Answer::Added(self.keep(called)?))
     }
 
-    fn commit(&mut self, place: u32) -> Result<Answer, Declined> {
-        let called = engine::commit(&self.deck, self.pool.as_mut_slice(), self.state, place);
+    fn commit(&mut self, deck: &[u8], pool: &mut [i32], place: u32) -> Result<Answer, Declined> {
+        let called = engine::commit(deck, pool, self.state, place);
         Ok(match self.keep(called)? {
             CommitAnswer::Applied(charge) => Answer::Applied(charge),
             CommitAnswer::Discarded(charge) => Answer::Discarded(charge),
         })
     }
 
-    fn settle(&mut self, budget: u32) -> Result<Answer, Declined> {
-        let called = engine::settle(&self.deck, self.pool.as_mut_slice(), self.state, budget);
+    fn settle(&mut self, deck: &[u8], pool: &mut [i32], budget: u32) -> Result<Answer, Declined> {
+        let called = engine::settle(deck, pool, self.state, budget);
         Ok(match self.keep(called)? {
             SettleAnswer::Settled(commits) => Answer::Settled(commits),
             SettleAnswer::Spent(commits) => Answer::Spent(commits),
-        })
-    }
-
-    // How many bytes a section has, or the answer that there is none. The two lent numbers are the published call's.
-    fn section_len(&self, number: u32) -> Result<u32, Answer> {
-        let (mut refusal, mut place) = (0, 0);
-        let section = engine::section(&self.deck, number, &mut refusal, &mut place);
-        if refusal != 0 {
-            return Err(Answer::Refused {
-                number: refusal,
-                place,
-            });
-        }
-        // A deck has fewer than 2^32 bytes.
-        Ok(u32::try_from(section.len()).unwrap_or(u32::MAX))
-    }
-
-    // The sections follow each other from the deck's first byte on, so one begins where those in front of it end.
-    fn section(&self, number: u32) -> Result<Answer, Answer> {
-        let length = self.section_len(number)?;
-        let mut from = 0u32;
-        for earlier in 0..number {
-            from = from.saturating_add(self.section_len(earlier)?);
-        }
-        Ok(Answer::Section {
-            from,
-            to: from.saturating_add(length),
         })
     }
 
@@ -201,50 +203,81 @@ impl Host {
 
     // Lends the deck and a new buffer; what the converter makes is the deck from then on. Behind the answer comes each byte that
     // should be as it was lent and is not.
-    fn convert<W: Write + Drop, E: Write + Drop>(&mut self, length: u32, out: &mut Output<W, E>) {
+    fn convert<W: Write + Drop, E: Write + Drop>(
+        &mut self,
+        deck: &mut [u8; LONGEST_DECK],
+        length: u32,
+        out: &mut Output<W, E>,
+    ) {
         let length = length as usize;
         if length > LONGEST_BUFFER {
             return out.print(Answer::Unreadable);
         }
         let mut buffer = [LENT_BYTE; LONGEST_BUFFER];
-        let made = convert_into(&self.deck, &mut buffer[..length]);
+        let made = convert_into(&deck[..self.deck_len.count], &mut buffer[..length]);
         out.print(made.map_or_else(Answer::from, Answer::Converted));
         let written = made.unwrap_or(0) as usize;
         print_changed(&buffer, written, length, out);
         if made.is_ok() {
-            self.take_deck(&buffer[..written]);
+            deck[..written].copy_from_slice(&buffer[..written]);
+            self.deck_len = DeckLen { count: written };
+        }
+    }
+
+    // Does what a line asks for that leaves the deck as it is. What it answers, where it answers.
+    fn called(
+        &mut self,
+        deck: &[u8],
+        pool: &mut [i32; LONGEST_POOL],
+        command: Command,
+    ) -> Option<Answer> {
+        if let Command::Start(length) = command {
+            return Some(self.start(deck, pool, length));
+        }
+        let lent = &mut pool[..self.pool_len.count];
+        match command {
+            Command::Input { part, numbers } => Some(
+                self.input(deck, lent, part, numbers.as_slice())
+                    .unwrap_or_else(Answer::from),
+            ),
+            Command::Commit(place) => Some(
+                self.commit(deck, lent, place).unwrap_or_else(Answer::from),
+            ),
+            Command::Settle(budget) => Some(
+                self.settle(deck, lent, budget).unwrap_or_else(Answer::from),
+            ),
+            Command::Section(number) => Some(section(deck, number).unwrap_or_else(
+                |refused| refused,
+            )),
+            Command::Value { index, value } => set(&mut self.state.values, index, value),
+            Command::Pool { index, value } => set(lent, index, value),
+            Command::Pending(pending) => self.set_pending(pending),
+            Command::Start(_) | Command::Convert(_) => None,
         }
     }
 
     // Does what a line asks for, and prints what it answers.
     pub fn perform<W: Write + Drop, E: Write + Drop>(
         &mut self,
+        deck: &mut [u8; LONGEST_DECK],
+        pool: &mut [i32; LONGEST_POOL],
         command: Command,
         out: &mut Output<W, E>,
     ) {
-        let answer = match command {
-            Command::Start(length) => Some(self.start(length)),
-            Command::Input { part, numbers } => Some(
-                self.input(part, numbers.as_slice())
-                    .unwrap_or_else(Answer::from),
-            ),
-            Command::Commit(place) => Some(self.commit(place).unwrap_or_else(Answer::from)),
-            Command::Settle(budget) => Some(self.settle(budget).unwrap_or_else(Answer::from)),
-            Command::Section(number) => Some(
-                self.section(number).unwrap_or_else(|refused| refused),
-            ),
-            Command::Convert(length) => return self.convert(length, out),
-            Command::Value { index, value } => set(&mut self.state.values, index, value),
-            Command::Pool { index, value } => set(self.pool.as_mut_slice(), index, value),
-            Command::Pending(pending) => self.set_pending(pending),
-        };
-        if let Some(answer) = answer {
+        if let Command::Convert(length) = command {
+            return self.convert(deck, length, out);
+        }
+        if let Some(answer) = self.called(&deck[..self.deck_len.count], pool, command) {
             out.print(answer);
         }
     }
 
     // Prints what is left in memory: what is pending, and each number that is not 0.
-    pub fn print<W: Write + Drop, E: Write + Drop>(&self, out: &mut Output<W, E>) {
+    pub fn print<W: Write + Drop, E: Write + Drop>(
+        &self,
+        pool: &[i32; LONGEST_POOL],
+        out: &mut Output<W, E>,
+    ) {
         out.print(Answer::Pending(self.state.pending));
         print_numbers(
             &self.state.values,
@@ -252,7 +285,7 @@ impl Host {
             out,
         );
         print_numbers(
-            &self.pool,
+            &pool[..self.pool_len.count],
             &|index, value| Answer::Pool { index, value },
             out,
         );
