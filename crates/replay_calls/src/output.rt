@@ -18,8 +18,20 @@ struct Waiting {
 impl fmt::Write for Waiting {
     ghost write_str_gives = { λ before text after. after.bytes.items ≡ before.bytes.items ++ text };
 
+    #[inline]
     fn write_str(&mut self, text: &str) -> fmt::Result {
         match self.bytes.try_extend_from_slice(text.as_bytes()) {
+            Ok(()) => Ok(()),
+            Err(_) => Err(fmt::Error),
+        }
+    }
+}
+
+impl Waiting {
+    // Puts a line behind what waits, or as much of it as fits.
+    fn put(&mut self, answer: Answer) -> fmt::Result {
+        fmt::Write::write_fmt(self, answer)?;
+        match self.bytes.try_push(b'\n') {
             Ok(()) => Ok(()),
             Err(_) => Err(fmt::Error),
         }
@@ -48,10 +60,10 @@ impl<W: Write + Drop, E: Write + Drop> Output<W, E> {
     // Prints a line. It is written in one piece, so that a write that fails loses whole lines.
     pub fn print(&mut self, answer: Answer) {
         let whole = self.waiting.bytes.len();
-        if fmt::Write::writeln(&mut self.waiting, answer).is_err() {
+        if self.waiting.put(answer).is_err() {
             self.waiting.bytes.truncate(whole);
             self.flush();
-            let _ = fmt::Write::writeln(&mut self.waiting, answer);
+            let _ = self.waiting.put(answer);
         }
     }
 
