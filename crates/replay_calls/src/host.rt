@@ -1,5 +1,5 @@
 // The memory that a host holds and lends, and what a line does to it.
-ghost use Rattle.std.specs.Prelude.{◌≤◌, length};
+ghost use Rattle.std.specs.Prelude.{◌≡◌, ◌≤◌, length};
 ghost use Rattle.conversion.specs.Fits.{Fits};
 
 use crate::output::Output;
@@ -148,7 +148,9 @@ impl Host {
     }
 
     // Keeps the state that a call hands back.
-    fn keep<T: Drop>(&mut self, called: Answered<T>) -> Result<T, Declined> {
+    fn keep<T: Drop>(&mut self, called: Answered<T>) -> Result<T, Declined>
+        ensures { self.new.pool_len ≡ self.old.pool_len }
+    {
         self.state = called.state;
         called.answer
     }
@@ -175,12 +177,16 @@ impl Host {
         pool: &mut [i32],
         part: u32,
         numbers: &[i32],
-    ) -> Result<Answer, Declined> {
+    ) -> Result<Answer, Declined>
+        ensures { self.new.pool_len ≡ self.old.pool_len }
+    {
         let called = engine::input(deck, pool, self.state, part, numbers);
         Ok(Answer::Added(self.keep(called)?))
     }
 
-    fn commit(&mut self, deck: &[u8], pool: &mut [i32], place: u32) -> Result<Answer, Declined> {
+    fn commit(&mut self, deck: &[u8], pool: &mut [i32], place: u32) -> Result<Answer, Declined>
+        ensures { self.new.pool_len ≡ self.old.pool_len }
+    {
         let called = engine::commit(deck, pool, self.state, place);
         Ok(match self.keep(called)? {
             CommitAnswer::Applied(charge) => Answer::Applied(charge),
@@ -188,7 +194,9 @@ impl Host {
         })
     }
 
-    fn settle(&mut self, deck: &[u8], pool: &mut [i32], budget: u32) -> Result<Answer, Declined> {
+    fn settle(&mut self, deck: &[u8], pool: &mut [i32], budget: u32) -> Result<Answer, Declined>
+        ensures { self.new.pool_len ≡ self.old.pool_len }
+    {
         let called = engine::settle(deck, pool, self.state, budget);
         Ok(match self.keep(called)? {
             SettleAnswer::Settled(commits) => Answer::Settled(commits),

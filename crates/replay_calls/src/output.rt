@@ -1,5 +1,5 @@
 // Output that waits until there is no room for more of it.
-ghost use Rattle.std.specs.Prelude.{◌≡◌, ◌++◌};
+ghost use Rattle.std.specs.Prelude.{◌≡◌, [], ◌++◌};
 
 use arrayvec::ArrayVec;
 use replay_text::answers::Answer;
@@ -47,7 +47,10 @@ pub struct Output<W: Write + Drop, E: Write + Drop> {
 }
 
 impl<W: Write + Drop, E: Write + Drop> Output<W, E> {
-    pub fn new(to: W, err: E) -> Output<W, E> {
+    // Nothing waits.
+    pub fn new(to: W, err: E) -> Output<W, E>
+        ensures { result.waiting.bytes.items ≡ [] }
+    {
         Output {
             to,
             err,
@@ -73,7 +76,9 @@ impl<W: Write + Drop, E: Write + Drop> Output<W, E> {
     }
 
     // Writes what waits.
-    pub fn flush(&mut self) {
+    pub fn flush(&mut self)
+        ensures { self.new.waiting.bytes.items ≡ [] }
+    {
         if let Err(why) = self.to.write_all(self.waiting.bytes.as_slice()) {
             self.tell(b"cannot write the answers", &why);
         }
