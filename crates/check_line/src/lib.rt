@@ -1,7 +1,7 @@
 // The line that the program prints for a deck. Document 01, "Calls"; specs/Line.antt of `calls` has its definition.
 #![tactic(auto)]
 
-ghost use Rattle.std.specs.Prelude.{◌≡◌, take, IsTrue, OnOk};
+ghost use Rattle.std.specs.Prelude.{◌≡◌, take, Some, IsTrue, OnOk};
 ghost use Rattle.std.specs.Io.KnownBytes.{Appends};
 ghost use Rattle.descriptors.specs.Counts.{IsPrefixLen};
 ghost use Rattle.calls.specs.Line.{line as Line·line};
@@ -12,8 +12,11 @@ ghost use Rattle.check_line.specs.Reports.{Reports};
 use calls::CheckAnswer;
 use deck::Deck;
 use refusals::Declined;
-use std::io;
 use std::io::{Read, Write};
+use std::{fmt, io};
+
+#[cfg(test)]
+mod tests;
 
 // Puts the line of an answer at the start of a buffer, and answers its length.
 fn put_line(answer: Result<CheckAnswer, Declined>, out: &mut [u8; 64]) -> usize
@@ -41,6 +44,26 @@ fn put_line(answer: Result<CheckAnswer, Declined>, out: &mut [u8; 64]) -> usize
             let b = decimal::put_number(out, a, why.refusal.number());
             let c = decimal::put_number(out, b, why.place);
             decimal::put_byte(out, c, b'\n')
+        }
+    }
+}
+
+// What check answers. It is printed as a line, with its newline.
+#[derive(Clone, Copy, Debug, PartialEq, Eq)]
+pub struct CheckLine {
+    pub answer: Result<CheckAnswer, Declined>,
+}
+
+impl fmt::Display for CheckLine {
+    ghost output = { λ l. Some (Line·line (check_outcome l.answer)) };
+
+    fn fmt<W: fmt::Write>(&self, f: &mut fmt::Formatter<W>) -> fmt::Result {
+        let mut text = [0u8; 64];
+        let n = put_line(self.answer, &mut text);
+        match str::from_utf8(&text[..n]) {
+            Ok(line) => f.write_str(line),
+            // A line is plain text.
+            Err(_) => unreachable!(),
         }
     }
 }

@@ -1,3 +1,5 @@
 -- What is promised of the lines that are read and printed.
 pub mod Answers
+pub mod Kept
+pub mod Laws
 pub mod Lines

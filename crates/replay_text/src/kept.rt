@@ -1,5 +1,6 @@
 // A few items in the value itself.
-ghost use Rattle.std.specs.Prelude.{◌≡◌, ◌<◌, ◌≤◌, ◌+◌, ◌↔◌, IsTrue, min, length};
+ghost use Rattle.std.specs.Prelude.{◌≡◌, ◌<◌, ◌≤◌, ◌+◌, ◌++◌, ◌∷◌, [], ◌↔◌, IsTrue, min, length};
+ghost use Rattle.replay_text.specs.Kept.{kept_items};
 
 // At most N items, in the order in which they came; what comes later is not kept. A plain value, so that what holds it is one as well.
 #[derive(Clone, Copy)]
@@ -27,6 +28,7 @@ impl<T: Copy, const N: usize> Kept<T, N> {
 
     pub fn push(&mut self, item: T)
         ensures room { self.old.count < N → self.new.count ≡ self.old.count + 1 }
+        ensures items { self.old.count < N → kept_items self.new ≡ kept_items self.old ++ item ∷ [] }
         ensures full { N ≤ self.old.count → self.new ≡ self.old }
     {
         if self.count < N {
@@ -36,7 +38,8 @@ impl<T: Copy, const N: usize> Kept<T, N> {
     }
 
     pub fn as_slice(&self) -> &[T]
-        ensures { length result.now ≡ min self.now.count N }
+        ensures len { length result.now ≡ min self.now.count N }
+        ensures items { result.now ≡ kept_items self.now }
     {
         &self.items[..self.count.min(N)]
     }

@@ -5,3 +5,5 @@ pub mod answers;
 mod fields;
 pub mod kept;
 pub mod lines;
+#[cfg(test)]
+mod tests;
