@@ -51,7 +51,8 @@ pub printed-passed : (r m n c : ℕ) → r < 2 ^ 64 → m < 2 ^ 64 → n < 2 ^ 6
 unfolding ascii
 printed-passed r m n c fr fm fn fc =
     rw (digits-decimal r fr) (rw (digits-decimal m fm) (rw (digits-decimal n fn) (rw (digits-decimal c fc)
-    (five (ascii "passed") (32 ∷ digits r r) (32 ∷ digits m m) (32 ∷ digits n n) (32 ∷ digits c c) (10 ∷ []) ∙ line-passed r m n c))))
+    (five (ascii "passed") (32 ∷ digits r r) (32 ∷ digits m m) (32 ∷ digits n n) (32 ∷ digits c c) (10 ∷ [])
+    ∙ line-passed r m n c))))
   where
     five : (s a b c d t : List ℕ) → s ++ (a ++ (b ++ (c ++ (d ++ t)))) ≡ s ++ a ++ b ++ c ++ d ++ t
     five s a b c d t = simp append_assoc refl

@@ -37,7 +37,8 @@ words-plain s ns h =
 pub line-plain : (a : Outcome Answer) → IsAscii (line a)
 unfolding ascii line
 line-plain (refused n p) = words-plain "refused" (n ∷ p ∷ []) (IsAscii-from_all (ascii "refused") (search rules))
-line-plain (accepted (passed r m n c)) = words-plain "passed" (r ∷ m ∷ n ∷ c ∷ []) (IsAscii-from_all (ascii "passed") (search rules))
+line-plain (accepted (passed r m n c)) =
+    words-plain "passed" (r ∷ m ∷ n ∷ c ∷ []) (IsAscii-from_all (ascii "passed") (search rules))
 line-plain (accepted started) = IsAscii-nil
 line-plain (accepted (added c)) = IsAscii-nil
 line-plain (accepted (applied c)) = IsAscii-nil
